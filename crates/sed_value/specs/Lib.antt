@@ -1,0 +1,5 @@
+pub mod Characters
+pub mod Names
+pub mod Decimal
+pub mod InPlace
+pub mod Wrap

@@ -1,0 +1,65 @@
+//! Names of kits, in place.
+ghost use Rattle.std.specs.Prelude.{◌≡◌, if◌then◌else◌, Some, None, IsTrue};
+ghost use Rattle.sed_value.specs.Characters.{is_letter, is_letter_or_digit};
+ghost use Rattle.sed_value.specs.Names.{is_kit_name, is_first_then};
+
+use crate::characters::{are_letters_or_digits, is_letter};
+use crate::in_place::InPlace;
+use std::marker::Model;
+
+/// How many characters a kit's name has at most.
+pub const LONGEST_KIT_NAME: usize = 24;
+
+/// A kit's name, of 1 to 24 characters: a letter, then letters or digits.
+///
+/// Contracts see it as its bytes, and it compares by them.
+#[derive(Clone, Copy, PartialEq, Eq, PartialOrd, Ord)]
+pub struct KitName {
+    text: InPlace<LONGEST_KIT_NAME>,
+}
+
+impl Model for KitName {
+    ghost use Rattle.std.specs.Prelude.{ℕ, List, IsTrue};
+
+    ghost Value = { List ℕ };
+
+    ghost use Rattle.sed_value.specs.Names.{is_kit_name};
+
+    ghost view = { λ name. name.text };
+
+    ghost invariant = { λ name. IsTrue (is_kit_name name.text) };
+
+    ghost inverse = { λ bytes. record { text = bytes } };
+}
+
+impl KitName {
+    /// The kit's name with these characters: none exactly where they are not of its form.
+    pub fn read(bytes: &[u8]) -> Option<KitName>
+        ensures { result ≡ (if is_kit_name bytes.now then Some bytes.now else None) }
+    {
+        if bytes.len() > LONGEST_KIT_NAME || !has_form(bytes) {
+            return None;
+        }
+        Some(KitName {
+            text: InPlace::new(bytes),
+        })
+    }
+
+    /// Its characters.
+    pub fn as_bytes(&self) -> &[u8]
+        ensures same { result.now ≡ self.now }
+        ensures form { IsTrue (is_kit_name self.now) }
+    {
+        self.text.as_bytes()
+    }
+}
+
+// Whether they are a kit name's characters, however many.
+fn has_form(bytes: &[u8]) -> bool
+    ensures { result ≡ is_first_then is_letter is_letter_or_digit bytes.now }
+{
+    let Some((first, later)) = bytes.split_first() else {
+        return false;
+    };
+    is_letter(*first) && are_letters_or_digits(later)
+}
