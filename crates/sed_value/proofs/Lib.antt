@@ -1,2 +1,4 @@
+pub mod ArithmeticLemmas
 pub mod DecimalLemmas
 pub mod InPlaceLemmas
+pub mod WrapLemmas

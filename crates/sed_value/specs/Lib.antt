@@ -1,3 +1,4 @@
+pub mod Arithmetic
 pub mod Characters
 pub mod Names
 pub mod Decimal

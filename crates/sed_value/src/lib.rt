@@ -13,11 +13,16 @@ mod kit;
 mod memory;
 mod name;
 mod word;
+mod wrap;
 
-pub use arithmetic::add_int;
+pub use arithmetic::{
+    add_int, add_long, div_int, div_long, mul_int, mul_long, rem_int, rem_long, shl_int, shl_long,
+    shr_int, shr_long, sub_int, sub_long,
+};
 pub use characters::{is_digit, is_letter, is_word_byte};
 pub use decimal::read_decimal;
 pub use kit::{KitName, LONGEST_KIT_NAME};
 pub use memory::Memory;
 pub use name::{LONGEST_NAME, Name};
 pub use word::{LONGEST_WORD, Word};
+pub use wrap::wrap_is_exact;
