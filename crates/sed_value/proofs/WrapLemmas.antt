@@ -53,6 +53,10 @@ low_bits-below : (width : Width) (number : ℤ) → low_bits width number < 2 ^ 
 low_bits-below width (pos n) = mod-lt n (pow_pos (bits width))
 low_bits-below width (negsuc n) = omega (arith, pow_pos (bits width))
 
+pub cast_signed-low_bits : (width : Width) (number : ℤ) → cast_signed width (low_bits width number) ≡ int_wrap width number
+unfolding int_wrap
+cast_signed-low_bits width number = refl
+
 pub wrap-equal : (width : Width) (number : ℤ) → IsEqualModulo width (int_wrap width number) number
 unfolding int_wrap
 wrap-equal width number =

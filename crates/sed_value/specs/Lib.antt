@@ -1,6 +1,9 @@
 pub mod Arithmetic
 pub mod Characters
-pub mod Names
 pub mod Decimal
 pub mod InPlace
+pub mod Names
+pub mod Refusal
+pub mod SlotType
+pub mod Value
 pub mod Wrap

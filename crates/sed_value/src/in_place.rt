@@ -5,6 +5,7 @@ ghost use Rattle.std.specs.Cmp.{partial_equiv_from_equiv};
 ghost use Rattle.std.specs.Cmp.Lexicographic.{pointwise, slice_cmp, nat_list_eq_equiv, nat_list_cmp_total, texts_ties, texts_po};
 
 use std::cmp::Ordering;
+use std::fmt;
 use std::marker::Model;
 
 /// At most `N` bytes in the value itself. Contracts see them as a list.
@@ -34,7 +35,7 @@ impl<const N: usize> Model for InPlace<N> {
 
 impl<const N: usize> InPlace<N> {
     /// These bytes, of which there are at most `N`.
-    pub(crate) fn new(text: &[u8]) -> Self
+    pub fn new(text: &[u8]) -> Self
         requires { length text.now ≤ N }
         ensures { result ≡ text.now }
     {
@@ -90,5 +91,11 @@ impl<const N: usize> Ord for InPlace<N> {
 
     fn cmp(&self, other: &Self) -> Ordering {
         self.as_bytes().cmp(other.as_bytes())
+    }
+}
+
+impl<const N: usize> fmt::Debug for InPlace<N> {
+    fn fmt<W: fmt::Write>(&self, f: &mut fmt::Formatter<W>) -> fmt::Result {
+        self.as_bytes().fmt(f)
     }
 }

@@ -1,4 +1,4 @@
-//! Names of kits, in place.
+//! Names of kits, in place, and references to kits.
 ghost use Rattle.std.specs.Prelude.{◌≡◌, if◌then◌else◌, Some, None, IsTrue};
 ghost use Rattle.sed_value.specs.Characters.{is_letter, is_letter_or_digit};
 ghost use Rattle.sed_value.specs.Names.{is_kit_name, is_first_then};
@@ -13,7 +13,7 @@ pub const LONGEST_KIT_NAME: usize = 24;
 /// A kit's name, of 1 to 24 characters: a letter, then letters or digits.
 ///
 /// Contracts see it as its bytes, and it compares by them.
-#[derive(Clone, Copy, PartialEq, Eq, PartialOrd, Ord)]
+#[derive(Clone, Copy, Debug, PartialEq, Eq, PartialOrd, Ord)]
 pub struct KitName {
     text: InPlace<LONGEST_KIT_NAME>,
 }
@@ -52,6 +52,13 @@ impl KitName {
     {
         self.text.as_bytes()
     }
+}
+
+/// A kit as a schema names it: its name and the checksum of its canonical text.
+#[derive(Clone, Copy, Debug, PartialEq, Eq)]
+pub struct KitRef {
+    pub name: KitName,
+    pub checksum: i32,
 }
 
 // Whether they are a kit name's characters, however many.

@@ -5,24 +5,38 @@
 //! exactly the names of its form. Every other crate of the repository stands on this one.
 #![tactic(auto)]
 
-mod arithmetic;
 mod characters;
+mod conversion;
 mod decimal;
+mod id;
 mod in_place;
+mod int;
 mod kit;
+mod long;
 mod memory;
 mod name;
+mod refusal;
+mod slot_buf;
+mod slot_type;
+#[cfg(test)]
+mod tests;
+mod value;
 mod word;
 mod wrap;
 
-pub use arithmetic::{
-    add_int, add_long, div_int, div_long, mul_int, mul_long, rem_int, rem_long, shl_int, shl_long,
-    shr_int, shr_long, sub_int, sub_long,
-};
 pub use characters::{is_digit, is_letter, is_word_byte};
+pub use conversion::{int_to_byte, int_to_long, int_to_short, long_to_int, low_byte, low_short};
 pub use decimal::read_decimal;
-pub use kit::{KitName, LONGEST_KIT_NAME};
+pub use id::Id;
+pub use in_place::InPlace;
+pub use int::{add_int, div_int, mul_int, rem_int, shl_int, shr_int, sub_int};
+pub use kit::{KitName, KitRef, LONGEST_KIT_NAME};
+pub use long::{add_long, div_long, mul_long, rem_long, shl_long, shr_long, sub_long};
 pub use memory::Memory;
 pub use name::{LONGEST_NAME, Name};
+pub use refusal::{Refusal, refusals_are_numbered};
+pub use slot_buf::SlotBuf;
+pub use slot_type::{Primitive as Prim, SlotType};
+pub use value::{Bytes, LONGEST_BUFFER, Value};
 pub use word::{LONGEST_WORD, Word};
 pub use wrap::wrap_is_exact;

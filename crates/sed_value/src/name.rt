@@ -13,7 +13,7 @@ pub const LONGEST_NAME: usize = 7;
 /// A component's name, of 1 to 7 characters: a letter, then letters, digits or `_`.
 ///
 /// Contracts see it as its bytes, and it compares by them.
-#[derive(Clone, Copy, PartialEq, Eq, PartialOrd, Ord)]
+#[derive(Clone, Copy, Debug, PartialEq, Eq, PartialOrd, Ord)]
 pub struct Name {
     text: InPlace<LONGEST_NAME>,
 }

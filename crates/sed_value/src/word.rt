@@ -12,7 +12,7 @@ pub const LONGEST_WORD: usize = 31;
 /// An identifier of 1 to 31 characters: a letter or `_`, then letters, digits or `_`.
 ///
 /// Contracts see it as its bytes, and it compares by them.
-#[derive(Clone, Copy, PartialEq, Eq, PartialOrd, Ord)]
+#[derive(Clone, Copy, Debug, PartialEq, Eq, PartialOrd, Ord)]
 pub struct Word {
     text: InPlace<LONGEST_WORD>,
 }
