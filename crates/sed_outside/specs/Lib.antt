@@ -1,0 +1,4 @@
+pub mod Cause
+pub mod Files
+pub mod Sink
+pub mod Named

@@ -1,0 +1,118 @@
+//! Files in memory.
+ghost use Rattle.std.specs.Prelude.{◌≡◌, List, ℕ, Some, IsErr, IsTrue, Contains, OnErr, OnOk, ⊤, ◌↔◌};
+ghost use Rattle.sed_outside.specs.Files.{IsUnreadable, KeepsCounts, ReadsFile, KeepsOthers, WritesFile};
+ghost use Rattle.sed_outside.specs.Cause.{HasCause};
+ghost use Rattle.sed_outside.specs.Named.{contents_of, count_of};
+
+use crate::files::{FileFault, Files, LARGEST_FILE};
+use crate::named;
+use sed_value::Memory;
+
+/// Files in memory, with calls that fail by number. They tell what they hold, and count for each name apart.
+#[derive(Drop)]
+pub struct MemFiles {
+    files: Vec<(String, Vec<u8>)>,
+    fails: Vec<usize>,
+    calls: usize,
+    failed_reads: Vec<(String, u64)>,
+    failed_writes: Vec<(String, u64)>,
+}
+
+impl MemFiles {
+    /// Files of these names and contents; of two of one name the first counts. `fails` has the numbers, from 0, of the
+    /// calls that fail, reads and writes numbered together. It takes no memory.
+    pub fn new(files: Vec<(String, Vec<u8>)>, fails: Vec<usize>) -> MemFiles
+        ensures files { ⟦<MemFiles as Files>⟧.known result ≡ Some (contents_of files.items) }
+        ensures reads { (name : List ℕ) → ⟦<MemFiles as Files>⟧.failed_reads result name ≡ 0 }
+        ensures writes { (name : List ℕ) → ⟦<MemFiles as Files>⟧.failed_writes result name ≡ 0 }
+    {
+        let alloc = *files.allocator();
+        MemFiles {
+            files,
+            fails,
+            calls: 0,
+            failed_reads: Vec::new(alloc),
+            failed_writes: Vec::new(alloc),
+        }
+    }
+}
+
+// Whether the next call is one that fails. It counts the call.
+fn fails_now(calls: &mut usize, fails: &[usize]) -> bool
+    ensures { IsTrue result ↔ Contains fails.now calls.old }
+{
+    let call = *calls;
+    *calls = call.saturating_add(1);
+    fails.contains(&call)
+}
+
+// Counts a call on that name that failed, and gives its fault. Without memory for the count it stays, and memory is
+// what is wanted.
+fn counted(counts: &mut Vec<(String, u64)>, name: &str) -> FileFault
+    ensures cause { HasCause (count_of counts.old.items name.now) (count_of counts.new.items name.now) (result ≡ FileFault.Failed) }
+    ensures counts { KeepsCounts ⊤ (count_of counts.old.items) (count_of counts.new.items) name.now (result ≡ FileFault.Failed) }
+{
+    let count = match named::find(counts, name) {
+        Some(count) => *count,
+        None => 0,
+    };
+    match named::put(counts, name, count.saturating_add(1)) {
+        Ok(()) => FileFault::Failed,
+        Err(Memory) => FileFault::Memory,
+    }
+}
+
+// Puts the file of that name behind the bytes of `into`.
+fn read_file(files: &[(String, Vec<u8>)], name: &str, into: &mut Vec<u8>) -> Result<(), FileFault>
+    ensures ok { OnOk result (ReadsFile (Some (contents_of files.now)) name.now into.old.items into.new.items) }
+    ensures unreadable { IsUnreadable (contents_of files.now name.now) → IsErr result }
+    ensures err { OnErr result (into.new.items ≡ into.old.items) }
+{
+    match named::find(files, name) {
+        Some(bytes) if bytes.len() <= LARGEST_FILE => match into.extend_from_slice(bytes) {
+            Ok(()) => Ok(()),
+            Err(_) => Err(FileFault::Memory),
+        },
+        _ => Err(FileFault::Failed),
+    }
+}
+
+// Makes the file of that name hold these bytes.
+fn write_file(files: &mut Vec<(String, Vec<u8>)>, name: &str, bytes: &[u8]) -> Result<(), Memory>
+    ensures ok { OnOk result (contents_of files.new.items name.now ≡ Some bytes.now) }
+    ensures others { KeepsOthers (Some (contents_of files.old.items)) (Some (contents_of files.new.items)) name.now }
+{
+    let alloc = *files.allocator();
+    match Vec::from_slice(alloc, bytes) {
+        Ok(content) => named::put(files, name, content),
+        Err(_) => Err(Memory),
+    }
+}
+
+impl Files for MemFiles {
+    ghost known = { λ m. Some (contents_of m.files.items) };
+
+    ghost failed_reads = { λ m. count_of m.failed_reads.items };
+
+    ghost failed_writes = { λ m. count_of m.failed_writes.items };
+
+    fn read(&mut self, name: &str, into: &mut Vec<u8>) -> Result<(), FileFault> {
+        if fails_now(&mut self.calls, &self.fails) {
+            return Err(counted(&mut self.failed_reads, name));
+        }
+        match read_file(&self.files, name, into) {
+            Err(FileFault::Failed) => Err(counted(&mut self.failed_reads, name)),
+            done => done,
+        }
+    }
+
+    fn write(&mut self, name: &str, bytes: &[u8]) -> Result<(), FileFault> {
+        if fails_now(&mut self.calls, &self.fails) {
+            return Err(counted(&mut self.failed_writes, name));
+        }
+        match write_file(&mut self.files, name, bytes) {
+            Ok(()) => Ok(()),
+            Err(Memory) => Err(FileFault::Memory),
+        }
+    }
+}
