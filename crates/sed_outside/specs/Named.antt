@@ -1,5 +1,5 @@
 -- What stands under a name in a list of names with values.
-use Rattle.std.specs.Prelude.{ℕ, List, Option, Some, None, find, unwrap_or, string_bytes, String, Vec}
+use Rattle.std.specs.Prelude.{ℕ, List, Option, find, unwrap_or, string_bytes, String, Vec}
 use Rattle.std.specs.Option.{option_map}
 use Rattle.std.specs.Str.{bytes_eq}
 use Rattle.std.specs.declared.alloc.Global.{Global}

@@ -7,6 +7,7 @@
 //! the system's files and a writer. Every crate that reads, writes or prints stands on these traits.
 #![tactic(auto)]
 
+mod failing_calls;
 mod files;
 mod mem_files;
 mod mem_sink;
@@ -15,6 +16,7 @@ mod out_sink;
 mod real_files;
 mod sink;
 
+pub use failing_calls::FailingCalls;
 pub use files::{FileFault, Files, LARGEST_FILE};
 pub use mem_files::MemFiles;
 pub use mem_sink::MemSink;

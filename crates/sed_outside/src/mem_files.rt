@@ -1,9 +1,10 @@
 //! Files in memory.
-ghost use Rattle.std.specs.Prelude.{◌≡◌, List, ℕ, Some, IsErr, IsTrue, Contains, OnErr, OnOk, ⊤, ◌↔◌};
+ghost use Rattle.std.specs.Prelude.{◌≡◌, List, ℕ, Some, IsErr, OnErr, OnOk, ⊤};
 ghost use Rattle.sed_outside.specs.Files.{IsUnreadable, KeepsCounts, ReadsFile, KeepsOthers, WritesFile};
 ghost use Rattle.sed_outside.specs.Cause.{HasCause};
 ghost use Rattle.sed_outside.specs.Named.{contents_of, count_of};
 
+use crate::failing_calls::FailingCalls;
 use crate::files::{FileFault, Files, LARGEST_FILE};
 use crate::named;
 use sed_value::Memory;
@@ -12,8 +13,7 @@ use sed_value::Memory;
 #[derive(Drop)]
 pub struct MemFiles {
     files: Vec<(String, Vec<u8>)>,
-    fails: Vec<usize>,
-    calls: usize,
+    calls: FailingCalls,
     failed_reads: Vec<(String, u64)>,
     failed_writes: Vec<(String, u64)>,
 }
@@ -29,21 +29,11 @@ impl MemFiles {
         let alloc = *files.allocator();
         MemFiles {
             files,
-            fails,
-            calls: 0,
+            calls: FailingCalls::new(fails),
             failed_reads: Vec::new(alloc),
             failed_writes: Vec::new(alloc),
         }
     }
-}
-
-// Whether the next call is one that fails. It counts the call.
-fn fails_now(calls: &mut usize, fails: &[usize]) -> bool
-    ensures { IsTrue result ↔ Contains fails.now calls.old }
-{
-    let call = *calls;
-    *calls = call.saturating_add(1);
-    fails.contains(&call)
 }
 
 // Counts a call on that name that failed, and gives its fault. Without memory for the count it stays, and memory is
@@ -97,7 +87,7 @@ impl Files for MemFiles {
     ghost failed_writes = { λ m. count_of m.failed_writes.items };
 
     fn read(&mut self, name: &str, into: &mut Vec<u8>) -> Result<(), FileFault> {
-        if fails_now(&mut self.calls, &self.fails) {
+        if self.calls.fails_now() {
             return Err(counted(&mut self.failed_reads, name));
         }
         match read_file(&self.files, name, into) {
@@ -107,7 +97,7 @@ impl Files for MemFiles {
     }
 
     fn write(&mut self, name: &str, bytes: &[u8]) -> Result<(), FileFault> {
-        if fails_now(&mut self.calls, &self.fails) {
+        if self.calls.fails_now() {
             return Err(counted(&mut self.failed_writes, name));
         }
         match write_file(&mut self.files, name, bytes) {

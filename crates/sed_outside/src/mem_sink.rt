@@ -1,6 +1,7 @@
 //! A sink in memory.
 ghost use Rattle.std.specs.Prelude.{◌≡◌, Some, [], IfOk};
 
+use crate::failing_calls::FailingCalls;
 use crate::sink::{Sink, SinkFault};
 use sed_value::Memory;
 use std::alloc::Global;
@@ -10,8 +11,7 @@ use std::alloc::Global;
 pub struct MemSink {
     text: Vec<u8>,
     room: usize,
-    fails: Vec<usize>,
-    calls: usize,
+    calls: FailingCalls,
     faults: u64,
 }
 
@@ -26,8 +26,7 @@ impl MemSink {
             Ok(text) => Ok(MemSink {
                 text,
                 room,
-                fails,
-                calls: 0,
+                calls: FailingCalls::new(fails),
                 faults: 0,
             }),
             Err(_) => Err(Memory),
@@ -48,10 +47,8 @@ impl Sink for MemSink {
     ghost faults = { λ m. m.faults };
 
     fn put(&mut self, bytes: &[u8]) -> Result<(), SinkFault> {
-        let call = self.calls;
-        self.calls = call.saturating_add(1);
+        let fails = self.calls.fails_now();
         let left = self.room.saturating_sub(self.text.len());
-        let fails = self.fails.contains(&call);
         let front = if fails { 0 } else { left.min(bytes.len()) };
         let taken = self.text.extend_from_slice(&bytes[..front]).is_ok();
         if taken && !fails && front == bytes.len() {

@@ -1,5 +1,6 @@
 //! The edge over a writer, which tells nothing of what was put.
-ghost use Rattle.std.specs.Prelude.{◌≡◌, None};
+ghost use Rattle.std.specs.Prelude.{◌≡◌, None, OnOk};
+ghost use Rattle.std.specs.Io.KnownBytes.{Appends};
 
 use crate::sink::{Sink, SinkFault};
 use std::io::{self, Write};
@@ -21,7 +22,9 @@ impl<W: Write> OutSink<W> {
 }
 
 // Writes the whole piece and sends it on. A writer that takes nothing of a piece that isn't empty fails.
-fn write_through<W: Write>(out: &mut W, bytes: &[u8]) -> io::Result<()> {
+fn write_through<W: Write>(out: &mut W, bytes: &[u8]) -> io::Result<()>
+    ensures { OnOk result (Appends (W.contents out.old) (W.contents out.new) bytes.now) }
+{
     out.write_all(bytes)?;
     out.flush()
 }

@@ -1,4 +1,4 @@
-use Rattle.std.proofs.Common.{◌≡◌, Some, None, not, List, [], ◌∷◌, ◌++◌, true, sym, ap, ◌∙◌}
+use Rattle.std.proofs.Common.{◌≡◌, Some, None, not, [], ◌∷◌, ◌++◌, true, sym, ap, ◌∙◌}
 use Rattle.std.specs.Prelude.{is_ok, position}
 use Rattle.sed_outside.specs.Named.{value_of}
 use Rattle.sed_outside.proofs.Entries.{has_name, value_of-set_same, value_of-set_other, value_of-push_same, value_of-push_other}
