@@ -1,0 +1,5 @@
+pub mod FrontLemmas
+pub mod AmongLemmas
+pub mod KindLemmas
+pub mod CutLemmas
+pub mod OrderLemmas
