@@ -43,13 +43,13 @@ cast_signed-equal width n below = elim (cases_lt n (2 ^ hbits width)) [
 ]
 
 -- a number is equal to the natural number that its low bits are
-low_bits-equal : (width : Width) (number : ℤ) → IsEqualModulo width (pos (low_bits width number)) number
+pub low_bits-equal : (width : Width) (number : ℤ) → IsEqualModulo width (pos (low_bits width number)) number
 low_bits-equal width (pos n) =
     (n / 2 ^ bits width, 0, omega (arith, ints, div-add-mod' n (2 ^ bits width)))
 low_bits-equal width (negsuc n) =
     (0, n / 2 ^ bits width + 1, omega (arith, ints, div-add-mod' n (2 ^ bits width), add-mul (n / 2 ^ bits width) 1 (2 ^ bits width), mod-lt n (pow_pos (bits width))))
 
-low_bits-below : (width : Width) (number : ℤ) → low_bits width number < 2 ^ bits width
+pub low_bits-below : (width : Width) (number : ℤ) → low_bits width number < 2 ^ bits width
 low_bits-below width (pos n) = mod-lt n (pow_pos (bits width))
 low_bits-below width (negsuc n) = omega (arith, pow_pos (bits width))
 

@@ -39,4 +39,4 @@ pub use slot_buf::SlotBuf;
 pub use slot_type::{Primitive as Prim, SlotType};
 pub use value::{Bytes, LONGEST_BUFFER, Value};
 pub use word::{LONGEST_WORD, Word};
-pub use wrap::wrap_is_exact;
+pub use wrap::{low_bits_are_exact, wrap_is_exact};

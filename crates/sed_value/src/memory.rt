@@ -1,5 +1,19 @@
 //! Want of memory.
 
+use std::alloc::{AllocError, AllocFailed};
+
 /// The answer of a call that was refused the memory it asked for. Every crate uses this one.
 #[derive(Clone, Copy, Debug, PartialEq, Eq)]
 pub struct Memory;
+
+impl From<AllocError> for Memory {
+    fn from(_refused: AllocError) -> Memory {
+        Memory
+    }
+}
+
+impl<T: Drop> From<AllocFailed<T>> for Memory {
+    fn from(_refused: AllocFailed<T>) -> Memory {
+        Memory
+    }
+}
