@@ -1,0 +1,5 @@
+pub mod Rest
+pub mod Loops
+pub mod Steps
+pub mod Parts
+pub mod Grammar
