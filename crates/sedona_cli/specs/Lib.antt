@@ -1,0 +1,11 @@
+pub use Rattle.sed_outside.specs.Cause
+pub use Rattle.sed_outside.specs.Files
+pub use Rattle.sed_outside.specs.Sink
+pub use Rattle.sed_lexer.specs.Lexes
+pub use Rattle.sed_parser.specs.FirstForm
+pub mod Command
+pub mod Cycles
+pub mod Text
+pub mod Program
+pub mod Slots
+pub mod Status
