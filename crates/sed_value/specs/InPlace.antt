@@ -8,11 +8,13 @@ pub record IsPadded (most len : ℕ) (bytes : List ℕ) : Type 0 where
   pub fits : len ≤ most
   pub blank : drop len bytes ≡ replicate (most - len) 0
 
-pub length_in_use : (most len : ℕ) (bytes : List ℕ) → IsPadded most len bytes → length (take len bytes) ≡ len
+pub length_in_use : (most len : ℕ) (bytes : List ℕ) → IsPadded most len bytes
+    → length (take len bytes) ≡ len
 length_in_use most len bytes padded = length-take-le len bytes (omega (arith, padded.whole, padded.fits))
 
 -- so the array is known from the bytes in use
-pub padded_again : (most len : ℕ) (bytes : List ℕ) → IsPadded most len bytes → take len bytes ++ replicate (most - length (take len bytes)) 0 ≡ bytes
+pub padded_again : (most len : ℕ) (bytes : List ℕ) → IsPadded most len bytes
+    → take len bytes ++ replicate (most - length (take len bytes)) 0 ≡ bytes
 padded_again most len bytes padded =
     ap (λ (n : ℕ). take len bytes ++ replicate (most - n) 0) (length_in_use most len bytes padded)
     ∙ ap (λ (rest : List ℕ). take len bytes ++ rest) (sym padded.blank)

@@ -25,4 +25,5 @@ is_name bytes = is_first_then is_letter is_word_byte bytes && nat_le (length byt
 
 -- a kit's name: a letter, then letters or digits
 abbrev pub is_kit_name : List ℕ → Bool
-is_kit_name bytes = is_first_then is_letter is_letter_or_digit bytes && nat_le (length bytes) LONGEST_KIT_NAME
+is_kit_name bytes =
+    is_first_then is_letter is_letter_or_digit bytes && nat_le (length bytes) LONGEST_KIT_NAME

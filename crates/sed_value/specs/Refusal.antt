@@ -3,9 +3,15 @@ use Rattle.std.specs.Prelude.{ℕ, List, [], ◌∷◌, codes}
 use Rattle.sed_value.specs.declared.refusal.Refusal.{Refusal}
 use Rattle.sed_value.specs.declared.refusal.Refusal.TheVariants.{Malformed, UnknownCommand, NoComponent, NoType, AbstractType, BadName, NameTaken, TooManyChildren, TooDeep, ComponentLimit, DataFull, NoSlot, WrongKindOfSlot, BadValue, BufferTooLong, LinkTypesDiffer, TargetLinked, LinksAtComponent, LinkLimit, NoLink, NotTheChildren, AppItself, Faulted, SaveDevice, StoreFull, OutOfMemory}
 
+-- every refusal, in the order of the numbers
 abbrev pub refusals : List Refusal
 refusals =
-    Malformed ∷ UnknownCommand ∷ NoComponent ∷ NoType ∷ AbstractType ∷ BadName ∷ NameTaken ∷ TooManyChildren ∷ TooDeep ∷ ComponentLimit ∷ DataFull ∷ NoSlot ∷ WrongKindOfSlot ∷ BadValue ∷ BufferTooLong ∷ LinkTypesDiffer ∷ TargetLinked ∷ LinksAtComponent ∷ LinkLimit ∷ NoLink ∷ NotTheChildren ∷ AppItself ∷ Faulted ∷ SaveDevice ∷ StoreFull ∷ OutOfMemory ∷ []
+    Malformed ∷ UnknownCommand ∷ NoComponent ∷ NoType ∷ AbstractType
+    ∷ BadName ∷ NameTaken ∷ TooManyChildren ∷ TooDeep ∷ ComponentLimit
+    ∷ DataFull ∷ NoSlot ∷ WrongKindOfSlot ∷ BadValue ∷ BufferTooLong
+    ∷ LinkTypesDiffer ∷ TargetLinked ∷ LinksAtComponent ∷ LinkLimit ∷ NoLink
+    ∷ NotTheChildren ∷ AppItself ∷ Faulted ∷ SaveDevice ∷ StoreFull
+    ∷ OutOfMemory ∷ []
 
 abbrev pub number_of_refusal : Refusal → ℕ
 number_of_refusal Malformed = 1
@@ -65,4 +71,6 @@ text_of_refusal StoreFull = codes "store full"
 text_of_refusal OutOfMemory = codes "out of memory"
 
 abbrev pub one_to_twenty_six : List ℕ
-one_to_twenty_six = 1 ∷ 2 ∷ 3 ∷ 4 ∷ 5 ∷ 6 ∷ 7 ∷ 8 ∷ 9 ∷ 10 ∷ 11 ∷ 12 ∷ 13 ∷ 14 ∷ 15 ∷ 16 ∷ 17 ∷ 18 ∷ 19 ∷ 20 ∷ 21 ∷ 22 ∷ 23 ∷ 24 ∷ 25 ∷ 26 ∷ []
+one_to_twenty_six =
+    1 ∷ 2 ∷ 3 ∷ 4 ∷ 5 ∷ 6 ∷ 7 ∷ 8 ∷ 9 ∷ 10 ∷ 11 ∷ 12 ∷ 13
+    ∷ 14 ∷ 15 ∷ 16 ∷ 17 ∷ 18 ∷ 19 ∷ 20 ∷ 21 ∷ 22 ∷ 23 ∷ 24 ∷ 25 ∷ 26 ∷ []

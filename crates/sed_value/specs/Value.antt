@@ -44,7 +44,9 @@ stored slot value = kept slot (widened value)
 -- a value that an expression reads as an int
 abbrev pub reads_as_int : Value → Bool
 reads_as_int value =
-    is_of_type (PrimSlot ByteType) value || is_of_type (PrimSlot ShortType) value || is_of_type (PrimSlot IntType) value
+    is_of_type (PrimSlot ByteType) value
+    || is_of_type (PrimSlot ShortType) value
+    || is_of_type (PrimSlot IntType) value
 
 -- a value that may be stored in a slot of the type
 abbrev pub goes_to : SlotType → Value → Bool

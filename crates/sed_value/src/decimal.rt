@@ -28,7 +28,7 @@ pub fn read_decimal(bytes: &[u8], most: u64) -> Option<u64>
 // The number with one more digit at its end, if that is at most `most`.
 fn with_digit(number: u64, digit: u8, most: u64) -> Option<u64>
     requires { IsTrue (characters.is_digit digit) }
-    ensures { result ≡ (if nat_le (decimal.with_digit number digit) most then Some (decimal.with_digit number digit) else None) }
+    ensures { let next = decimal.with_digit number digit in result ≡ (if nat_le next most then Some next else None) }
 {
     let value = u64::from(digit - b'0');
     if value > most || number > (most - value) / 10 {

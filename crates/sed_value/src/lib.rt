@@ -36,6 +36,7 @@ pub use memory::Memory;
 pub use name::{LONGEST_NAME, Name};
 pub use refusal::{Refusal, refusals_are_numbered};
 pub use slot_buf::SlotBuf;
+// The prover has a module `Prim` of its own, so specifications know the type as `Primitive`.
 pub use slot_type::{Primitive as Prim, SlotType};
 pub use value::{Bytes, LONGEST_BUFFER, Value};
 pub use word::{LONGEST_WORD, Word};

@@ -9,7 +9,8 @@ ghost use mir.Val.{bits};
 pub fn wrap_is_exact()
     ensures fits { (width : Width) (number : ℤ) → FitsSigned width (wrap width number) }
     ensures equal { (width : Width) (number : ℤ) → IsEqualModulo width (wrap width number) number }
-    ensures only { (width : Width) (number : ℤ) (other : ℤ) → FitsSigned width other → IsEqualModulo width other number → other ≡ wrap width number }
+    ensures only { (width : Width) (number : ℤ) (other : ℤ) → FitsSigned width other
+        → IsEqualModulo width other number → other ≡ wrap width number }
 {}
 
 /// A law for provers: at each width, the low bits of a whole number are below 2 to the width's bits, and equal
