@@ -3,7 +3,7 @@ use Rattle.std.proofs.Common.{◌≡◌, ℕ, Bool, true, List, [], ◌∷◌, s
 use Rattle.std.specs.List.{list_all}
 use Rattle.std.specs.Str.{bytes_eq}
 use Rattle.std.proofs.lemmas.Slice.Eq.{bytes_eq-Decides}
-use Rattle.sed_lexer.specs.Pieces.{is_among}
+use Rattle.sed_lexer.specs.Words.{is_among}
 use Rattle.sed_lexer.proofs.FrontLemmas.{and_left, and_right, or_cases}
 
 -- what is in the table passes a test that each word of it passes

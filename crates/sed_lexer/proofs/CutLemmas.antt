@@ -8,22 +8,13 @@ use Rattle.sed_lexer.specs.declared.tokens.Span.{Span}
 use Rattle.sed_lexer.specs.declared.lexing.LexRefusal.{LexRefusal}
 use Rattle.sed_lexer.specs.declared.lexing.LexRefusal.TheVariants.{Fault, Memory}
 use Rattle.sed_lexer.specs.Token.{Token}
-use Rattle.sed_lexer.specs.Pieces.{Segment, IsPiece, can_end, has_line_end}
+use Rattle.sed_lexer.specs.Gaps.{has_line_end}
+use Rattle.sed_lexer.specs.Pieces.{Segment, IsPiece, can_end}
 use Rattle.sed_lexer.specs.Lexes.{CanStand, Cuts, tokens_of, first_after, tokens_from, Lexes, NothingStands, FaultsAt}
 use Rattle.sed_lexer.specs.Spans.{token_of, Lies}
 use Rattle.sed_lexer.specs.Cutting.{IsLongestPiece, NoPiece, Stands, IsCut}
+use Rattle.sed_lexer.proofs.FrontLemmas.{same_fronts}
 use Rattle.sed_lexer.proofs.KindLemmas.{piece_not_empty, one_kind}
-
-same_fronts : (a b x y : List ℕ) → a ++ x ≡ b ++ y → length a ≡ length b → (a ≡ b) × (x ≡ y)
-same_fronts [] [] x y e n = (refl, e)
-same_fronts [] (b ∷ bs) x y e n = absurd (omega arith)
-same_fronts (a ∷ as') [] x y e n = absurd (omega arith)
-same_fronts (a ∷ as') (b ∷ bs) x y e n =
-    let head : a ≡ b = cc in
-    let tail : as' ++ x ≡ bs ++ y = cc in
-    let size : length as' ≡ length bs = omega arith in
-    let rest = same_fronts as' bs x y tail size in
-    (let tails : as' ≡ bs = rest.0 in cc, rest.1)
 
 abbrev segment : Option TokenKind → List ℕ → Segment
 segment kind bytes = record { kind = kind; bytes = bytes }
@@ -75,7 +66,7 @@ no_fault text tokens at (ss, cuts, are) (ts, q, cuts', place, some, nothing) =
     some (sym (one_cut ss ts text [] q cuts cuts' nothing_in_nothing nothing).1)
 
 -- the longest piece can stand where it can end
-pub can_stand : (text : List ℕ) (piece : Piece) → IsLongestPiece text piece → can_end piece.kind (drop piece.len text) ≡ true → Stands text piece
+pub can_stand : (text : List ℕ) (piece : Piece) → IsLongestPiece text piece → can_end piece.kind (take piece.len text) (drop piece.len text) ≡ true → Stands text piece
 can_stand text piece longest ends = record {
   within = longest.within;
   stands = record {
@@ -87,7 +78,7 @@ can_stand text piece longest ends = record {
 }
 
 -- where the longest piece can't end, nothing stands
-pub cannot_stand : (text : List ℕ) (piece : Piece) → IsLongestPiece text piece → can_end piece.kind (drop piece.len text) ≡ false → NothingStands text
+pub cannot_stand : (text : List ℕ) (piece : Piece) → IsLongestPiece text piece → can_end piece.kind (take piece.len text) (drop piece.len text) ≡ false → NothingStands text
 cannot_stand text piece longest no_end s rest stands =
     let begins : take piece.len text ++ drop piece.len text ≡ s.bytes ++ rest = take-append-drop piece.len text ∙ stands.begins in
     let no_longer : length s.bytes ≤ length (take piece.len text) = longest.longest s rest stands.begins stands.is_piece in
@@ -96,8 +87,9 @@ cannot_stand text piece longest no_end s rest stands =
     let same = same_fronts (take piece.len text) s.bytes (drop piece.len text) rest begins (omega arith) in
     let kind : piece.kind ≡ s.kind = one_kind piece.kind s.kind s.bytes (subst (IsPiece piece.kind) same.0 longest.is_piece) stands.is_piece in
     let after : drop piece.len text ≡ rest = same.1 in
-    let ends : can_end s.kind rest ≡ true = stands.ends in
-    let not_ended : can_end piece.kind (drop piece.len text) ≡ false = no_end in
+    let bytes : take piece.len text ≡ s.bytes = same.0 in
+    let ends : can_end s.kind s.bytes rest ≡ true = stands.ends in
+    let not_ended : can_end piece.kind (take piece.len text) (drop piece.len text) ≡ false = no_end in
     cc
 
 -- nothing stands where no piece begins

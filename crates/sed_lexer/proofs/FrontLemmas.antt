@@ -1,14 +1,13 @@
 -- The longest front of a text whose elements pass a test.
-use Rattle.std.proofs.Common.{◌≡◌, ℕ, suc, ◌+◌, ◌<◌, ◌≤◌, Bool, true, false, ◌||◌, ◌&&◌, ◌==◌, cond, IsTrue, List, [], ◌∷◌, ◌++◌, length, take, take_while, nat_lt, ◌⊎◌, inl, inr, refl, sym, ap, ◌∙◌, arith}
-use Rattle.std.specs.List.{list_all, prefix_len}
-use Rattle.std.proofs.lemmas.List.{length-take-le}
-use Rattle.std.proofs.lemmas.Bool.Decides.{nat_tests}
-use Rattle.std.proofs.lemmas.List.Folds.{length-prefix_len}
+use Rattle.std.proofs.Common.{◌≡◌, ℕ, suc, ◌+◌, ◌≤◌, Bool, true, false, ◌||◌, ◌&&◌, ◌==◌, nat_eq, cond, IsTrue, List, [], ◌∷◌, ◌++◌, length, take, drop, take_while, ◌⊎◌, inl, inr, refl, sym, ap, ◌∙◌, arith}
+use Rattle.std.specs.List.{list_all, prefix_len, starts_with}
+use Rattle.std.proofs.lemmas.Bool.Decides.{Decides-eqb}
+use Rattle.std.proofs.lemmas.List.Folds.{length-prefix_len, list_all-append}
 use Rattle.std.proofs.lemmas.List.Sums.{prefix_len-le-length}
-use Rattle.sed_value.specs.Characters.{is_letter, is_digit, is_word_byte}
-use Rattle.sed_value.specs.Names.{is_identifier}
-use Rattle.sed_value.specs.Decimal.{is_decimal}
-use Rattle.sed_lexer.specs.Fronts.{NoFront, IsLongestFront}
+use Rattle.std.proofs.lemmas.Slice.Eq.{starts_is}
+use Rattle.sed_value.specs.Characters.{is_letter}
+use Rattle.sed_value.specs.Names.{is_first_then, is_identifier}
+use Rattle.sed_lexer.specs.Fronts.{IsLongestFront}
 
 pub and_left : (a b : Bool) → (a && b) ≡ true → a ≡ true
 and_left true b h = refl
@@ -45,75 +44,74 @@ most_passes p (b ∷ bs) after all =
     let rest : length bs ≤ prefix_len p (bs ++ after) = most_passes p bs after (and_right (p b) (list_all p bs) all) in
     rw here (omega (arith, rest))
 
--- a letter or `_`
-abbrev pub is_word_lead : ℕ → Bool
-is_word_lead b = is_letter b || (b == 95)
+-- the fronts of one list, of one length, are one
+pub same_fronts : (a b x y : List ℕ) → a ++ x ≡ b ++ y → length a ≡ length b → (a ≡ b) × (x ≡ y)
+same_fronts [] [] x y e n = (refl, e)
+same_fronts [] (b ∷ bs) x y e n = absurd (omega arith)
+same_fronts (a ∷ as') [] x y e n = absurd (omega arith)
+same_fronts (a ∷ as') (b ∷ bs) x y e n =
+    let head : a ≡ b = cc in
+    let tail : as' ++ x ≡ bs ++ y = cc in
+    let size : length as' ≡ length bs = omega arith in
+    let rest = same_fronts as' bs x y tail size in
+    (let tails : as' ≡ bs = rest.0 in cc, rest.1)
 
-abbrev pub IsWord : List ℕ → Type 0
-IsWord bytes = IsTrue (is_identifier bytes)
+-- of two fronts of one list the longer begins with the shorter
+pub front_in_front : (a b x y : List ℕ) → a ++ x ≡ b ++ y → length a ≤ length b → (mid : List ℕ) × (b ≡ a ++ mid)
+front_in_front [] b x y e le = (b, refl)
+front_in_front (a ∷ as') [] x y e le = absurd (omega arith)
+front_in_front (a ∷ as') (b ∷ bs) x y e le =
+    let head : a ≡ b = cc in
+    let tail : as' ++ x ≡ bs ++ y = cc in
+    let size : length as' ≤ length bs = omega arith in
+    let rest = front_in_front as' bs x y tail size in
+    (rest.0, let more : bs ≡ as' ++ rest.0 = rest.1 in cc)
 
-abbrev pub IsDecimal : List ℕ → Type 0
-IsDecimal bytes = IsTrue (is_decimal bytes)
+-- bytes that begin a text begin it there
+pub starts_text : (text bytes : List ℕ) → starts_with nat_eq text bytes ≡ true → text ≡ bytes ++ drop (length bytes) text
+starts_text text bytes is = (starts_is Decides-eqb text bytes (starts_with nat_eq text bytes) refl).0 is
 
--- the word that begins with this byte
-pub word_found : (b : ℕ) (bs : List ℕ) (n : ℕ) → is_word_lead b ≡ true → n ≡ length (take_while is_word_byte bs)
-    → IsLongestFront IsWord (b ∷ bs) (1 + n)
-word_found b bs n lead size = rw s (record {
-  within = omega (arith, prefix_len-le-length is_word_byte bs, same);
-  has = and_both (is_word_lead b) (list_all is_word_byte (take n bs)) lead (rw same (passes is_word_byte bs));
+pub text_starts : (text bytes rest : List ℕ) → text ≡ bytes ++ rest → starts_with nat_eq text bytes ≡ true
+text_starts text bytes rest e = (starts_is Decides-eqb text bytes (starts_with nat_eq text bytes) refl).1 rest e
+
+pub not_both : (b : Bool) → b ≡ false → b ≡ true → ⊥
+not_both b is_false is_true = cc
+
+abbrev pub IsRun : (ℕ → Bool) → (ℕ → Bool) → List ℕ → Type 0
+IsRun p q bytes = IsTrue (is_first_then p q bytes)
+
+-- the run that begins with this byte
+pub run_found : (p q : ℕ → Bool) (b : ℕ) (bs : List ℕ) (n : ℕ) → p b ≡ true → n ≡ length (take_while q bs) → IsLongestFront (IsRun p q) (b ∷ bs) (1 + n)
+run_found p q b bs n lead size = rw s (record {
+  within = omega (arith, prefix_len-le-length q bs, same);
+  has = and_both (p b) (list_all q (take n bs)) lead (rw same (passes q bs));
   most = most;
 })
   where
     s : 1 + n ≡ suc n
     s = omega arith
 
-    same : n ≡ prefix_len is_word_byte bs
-    same = size ∙ length-prefix_len is_word_byte bs
+    same : n ≡ prefix_len q bs
+    same = size ∙ length-prefix_len q bs
 
-    most : (bytes after : List ℕ) → b ∷ bs ≡ bytes ++ after → IsWord bytes → length bytes ≤ suc n
+    most : (bytes after : List ℕ) → b ∷ bs ≡ bytes ++ after → IsRun p q bytes → length bytes ≤ suc n
     most [] after e is = omega arith
     most (c ∷ cs) after e is =
         let tail : bs ≡ cs ++ after = cc in
-        let k : length cs ≤ prefix_len is_word_byte (cs ++ after) = most_passes is_word_byte cs after (and_right (is_word_lead c) (list_all is_word_byte cs) is) in
-        omega (arith, k, same, ap (prefix_len is_word_byte) tail)
+        let k : length cs ≤ prefix_len q (cs ++ after) = most_passes q cs after (and_right (p c) (list_all q cs) is) in
+        omega (arith, k, same, ap (prefix_len q) tail)
 
-pub no_word : (b : ℕ) (bs : List ℕ) → is_word_lead b ≡ false → NoFront IsWord (b ∷ bs)
-no_word b bs lead [] after e is = cc
-no_word b bs lead (c ∷ cs) after e is =
-    let here : is_word_lead c ≡ true = and_left (is_word_lead c) (list_all is_word_byte cs) is in
-    let same : b ≡ c = cc in
-    let other : is_word_lead c ≡ false = ap is_word_lead (sym same) ∙ lead in
-    cc
+-- what follows a run within a longer one passes
+pub run_goes_on : (p q : ℕ → Bool) (digits : List ℕ) (s : ℕ) (mid : List ℕ) → IsRun p q digits → IsRun p q ((digits ++ s ∷ []) ++ mid) → q s ≡ true
+run_goes_on p q [] s mid run more = cc
+run_goes_on p q (d ∷ ds) s mid run more =
+    let all : list_all q ((ds ++ s ∷ []) ++ mid) ≡ true = and_right (p d) (list_all q ((ds ++ s ∷ []) ++ mid)) more in
+    let front = and_left (list_all q (ds ++ s ∷ [])) (list_all q mid) (sym (list_all-append q (ds ++ s ∷ []) mid) ∙ all) in
+    and_left (q s) true (and_right (list_all q ds) (q s && true) (sym (list_all-append q ds (s ∷ [])) ∙ front))
 
-pub no_word_in_nothing : NoFront IsWord []
-no_word_in_nothing [] after e is = cc
-no_word_in_nothing (c ∷ cs) after e is = cc
+-- a letter or `_`
+abbrev pub is_word_lead : ℕ → Bool
+is_word_lead b = is_letter b || (b == 95)
 
-some_passes : (n : ℕ) → 0 < n → nat_lt 0 n ≡ true
-some_passes n some = grind (arith, nat_tests)
-
--- the decimal that a text begins with
-pub decimal_found : (text : List ℕ) (n : ℕ) → n ≡ length (take_while is_digit text) → 0 < n → IsLongestFront IsDecimal text n
-decimal_found text n size some = record {
-  within = within;
-  has = and_both (nat_lt 0 (length (take n text))) (list_all is_digit (take n text))
-      (some_passes (length (take n text)) (omega (arith, length-take-le n text within, some))) (rw same (passes is_digit text));
-  most = most;
-}
-  where
-    same : n ≡ prefix_len is_digit text
-    same = size ∙ length-prefix_len is_digit text
-
-    within : n ≤ length text
-    within = omega (arith, prefix_len-le-length is_digit text, same)
-
-    most : (bytes after : List ℕ) → text ≡ bytes ++ after → IsDecimal bytes → length bytes ≤ n
-    most bytes after e is =
-        let k : length bytes ≤ prefix_len is_digit (bytes ++ after) = most_passes is_digit bytes after (and_right (nat_lt 0 (length bytes)) (list_all is_digit bytes) is) in
-        omega (arith, k, same, ap (prefix_len is_digit) e)
-
-pub no_decimal : (text : List ℕ) → length (take_while is_digit text) ≡ 0 → NoFront IsDecimal text
-no_decimal text none [] after e is = cc
-no_decimal text none (c ∷ cs) after e is =
-    let k : length (c ∷ cs) ≤ prefix_len is_digit ((c ∷ cs) ++ after) = most_passes is_digit (c ∷ cs) after (and_right (nat_lt 0 (length (c ∷ cs))) (list_all is_digit (c ∷ cs)) is) in
-    absurd (omega (arith, k, length-prefix_len is_digit text, ap (prefix_len is_digit) e, none))
+abbrev pub IsWord : List ℕ → Type 0
+IsWord bytes = IsTrue (is_identifier bytes)

@@ -1,19 +1,25 @@
 -- Which kinds a piece can have, by its first byte.
-use Rattle.std.proofs.Common.{◌≡◌, ℕ, ◌≤◌, Bool, true, false, ◌||◌, ◌==◌, nat_lt, cond, IsTrue, List, [], ◌∷◌, ◌++◌, length, map, take, drop, Option, Some, None, inl, inr, refl, sym, ap, subst, ◌∙◌, arith}
+use Rattle.std.proofs.Common.{◌≡◌, ℕ, ◌≤◌, nat_le, Bool, true, false, ◌||◌, ◌==◌, not, cond, IsTrue, List, [], ◌∷◌, ◌++◌, length, map, take, drop, Option, Some, None, inl, inr, refl, sym, ap, subst, ◌∙◌, arith}
 use Rattle.std.specs.List.{list_all}
-use Rattle.std.proofs.lemmas.Bool.Decides.{nat_tests, Decides-eqb}
+use Rattle.std.proofs.lemmas.Bool.Decides.{nat_tests}
 use Rattle.std.proofs.lemmas.List.{length-take-le, take-append-drop}
 use Rattle.sed_value.specs.Characters.{is_digit, is_word_byte}
 use Rattle.sed_value.specs.Names.{is_identifier}
 use Rattle.sed_lexer.specs.declared.kind.TokenKind.{TokenKind}
 use Rattle.sed_lexer.specs.declared.kind.TokenKind.TheVariants.{Id, Key, Integer, Character, Text, Mark}
-use Rattle.sed_lexer.specs.declared.TheConstants.{KEY_WORDS, MARKS}
-use Rattle.sed_lexer.specs.Pieces.{IsPiece, IsGap, is_blank, is_key_word, is_mark}
+use Rattle.sed_lexer.specs.declared.words.TheConstants.{KEY_WORDS, MARKS}
+use Rattle.sed_lexer.specs.Gaps.{is_blank, IsGap}
+use Rattle.sed_lexer.specs.Words.{is_key_word, is_mark}
+use Rattle.sed_lexer.specs.Integers.{IsInteger}
+use Rattle.sed_lexer.specs.Spellings.{IsCharacter, IsText}
+use Rattle.sed_lexer.specs.Pieces.{IsPiece}
 use Rattle.sed_lexer.specs.Fronts.{NoFront, IsLongestFront}
 use Rattle.sed_lexer.specs.Lexes.{IsLongest}
 use Rattle.sed_lexer.specs.Cutting.{NoPiece}
-use Rattle.sed_lexer.proofs.FrontLemmas.{and_left, and_right, or_cases, is_word_lead, IsWord, IsDecimal}
+use Rattle.sed_lexer.proofs.FrontLemmas.{and_left, is_word_lead, IsWord}
 use Rattle.sed_lexer.proofs.AmongLemmas.{among_passes}
+use Rattle.sed_lexer.proofs.GapLemmas.{blank_passes}
+use Rattle.sed_lexer.proofs.NumeralLemmas.{IsDigits}
 
 -- what a byte can begin
 pub data Lead : Type 0 where
@@ -54,14 +60,31 @@ key_is_word bytes is = among_passes is_identifier (map (λ word. word.now) KEY_W
 pub mark_begins : (bytes : List ℕ) → is_mark bytes ≡ true → begins_other bytes ≡ true
 mark_begins bytes is = among_passes begins_other (map (λ mark. mark.now) MARKS) bytes refl is
 
+gap_not_empty : IsGap [] → ⊥
+gap_not_empty (inl (b, e, is)) = cc
+gap_not_empty (inr (inl (words, inl sort, clean))) = cc
+gap_not_empty (inr (inl (words, inr sort, clean))) = cc
+gap_not_empty (inr (inr (rest, words, e, ends))) = cc
+
+digits_not_empty : (digits suffix : List ℕ) → [] ≡ digits ++ suffix → IsDigits is_digit digits → ⊥
+digits_not_empty [] suffix e run = cc
+digits_not_empty (d ∷ ds) suffix e run = cc
+
+integer_not_empty : IsInteger [] → ⊥
+integer_not_empty (inl (digits, suffix, e, run, is)) = digits_not_empty digits suffix e run
+integer_not_empty (inr (numeral, e, is)) = cc
+
 pub piece_not_empty : (kind : Option TokenKind) → IsPiece kind [] → ⊥
-piece_not_empty None is = is
+piece_not_empty None is = gap_not_empty is
 piece_not_empty (Some Id) is = cc
 piece_not_empty (Some Key) is = cc
-piece_not_empty (Some Integer) is = cc
-piece_not_empty (Some Character) is = is
-piece_not_empty (Some Text) is = is
+piece_not_empty (Some Integer) is = integer_not_empty is
+piece_not_empty (Some Character) (c, (spelling, e, spells)) = cc
+piece_not_empty (Some Text) (cs, (spelling, e, spells)) = cc
 piece_not_empty (Some Mark) is = cc
+
+head_is : (a b : ℕ) (x y : List ℕ) → a ∷ x ≡ b ∷ y → a ≡ b
+head_is a b x y e = cc
 
 word_lead_of : (b : ℕ) (bs : List ℕ) → IsWord (b ∷ bs) → lead_of b ≡ WordLead
 word_lead_of b bs is = rw (and_left (is_word_lead b) (list_all is_word_byte bs) is) refl
@@ -69,45 +92,53 @@ word_lead_of b bs is = rw (and_left (is_word_lead b) (list_all is_word_byte bs) 
 digit_no_word : (b : ℕ) → is_digit b ≡ true → is_word_lead b ≡ false
 digit_no_word b is = grind (arith, nat_tests)
 
--- a blank is one of four bytes
-blank_passes : (P : ℕ → Type 0) (b : ℕ) → is_blank b ≡ true → P 9 → P 13 → P 32 → P 10 → P b
-blank_passes P b is tab return' space line =
-    elim (or_cases ((b == 9) || (b == 13) || (b == 32)) (b == 10) is) [
-      | inl most ↦ elim (or_cases ((b == 9) || (b == 13)) (b == 32) most) [
-        | inl first ↦ elim (or_cases (b == 9) (b == 13) first) [ inl h ↦ at 9 h tab | inr h ↦ at 13 h return' ]
-        | inr h ↦ at 32 h space
-      ]
-      | inr h ↦ at 10 h line
-    ]
-  where
-    at : (n : ℕ) → (b == n) ≡ true → P n → P b
-    at n h p = subst P (sym ((Decides-eqb b n).0 h)) p
+digit_lead : (b : ℕ) (bs digits suffix : List ℕ) → b ∷ bs ≡ digits ++ suffix → IsDigits is_digit digits → lead_of b ≡ DigitLead
+digit_lead b bs [] suffix e run = cc
+digit_lead b bs (d ∷ ds) suffix e run =
+    let digit : is_digit d ≡ true = and_left (is_digit d) (list_all (λ x. is_digit x || (x == 95)) ds) run in
+    ap lead_of (head_is b d bs (ds ++ suffix) e) ∙ rw (digit_no_word d digit) (rw digit refl)
 
-blank_lead : (b : ℕ) → is_blank b ≡ true → lead_of b ≡ OtherLead
-blank_lead b is = blank_passes (λ (x : ℕ). lead_of x ≡ OtherLead) b is refl refl refl refl
+-- blanks, `/` and `*` begin no word, integer, character or text
+gap_lead : (b : ℕ) (bs : List ℕ) → IsGap (b ∷ bs) → lead_of b ≡ OtherLead
+gap_lead b bs (inl (d, e, is)) =
+    ap lead_of (head_is b d bs [] e) ∙ blank_passes (λ (x : ℕ). lead_of x ≡ OtherLead) d is refl refl refl refl
+gap_lead b bs (inr (inl (words, inl sort, clean))) = ap lead_of (head_is b 47 bs (47 ∷ words) sort)
+gap_lead b bs (inr (inl (words, inr sort, clean))) = ap lead_of (head_is b 42 bs (42 ∷ words) sort)
+gap_lead b bs (inr (inr (rest, words, e, ends))) = ap lead_of (head_is b 47 bs (42 ∷ rest) e)
+
+integer_lead : (b : ℕ) (bs : List ℕ) → IsInteger (b ∷ bs) → lead_of b ≡ DigitLead
+integer_lead b bs (inl (digits, suffix, e, run, is)) = digit_lead b bs digits suffix e run
+integer_lead b bs (inr (numeral, e, is)) = ap lead_of (head_is b 48 bs (120 ∷ numeral) e)
+
+character_lead : (b : ℕ) (bs : List ℕ) → IsCharacter (b ∷ bs) → lead_of b ≡ QuoteLead
+character_lead b bs (c, (spelling, e, spells)) = ap lead_of (head_is b 39 bs (spelling ++ 39 ∷ []) e)
+
+text_lead : (b : ℕ) (bs : List ℕ) → IsText (b ∷ bs) → lead_of b ≡ DoubleQuoteLead
+text_lead b bs (cs, (spelling, e, spells)) = ap lead_of (head_is b 34 bs (spelling ++ 34 ∷ []) e)
 
 -- the first byte of a piece tells of its kind
 pub lead_is : (kind : Option TokenKind) (b : ℕ) (bs : List ℕ) → IsPiece kind (b ∷ bs) → lead_of b ≡ lead_of_kind kind
-lead_is None b [] is = blank_lead b is
-lead_is None b (c ∷ cs) is = absurd is
+lead_is None b bs is = gap_lead b bs is
 lead_is (Some Id) b bs is = word_lead_of b bs is.0
 lead_is (Some Key) b bs is = word_lead_of b bs (key_is_word (b ∷ bs) is)
-lead_is (Some Integer) b bs is =
-    let digit : is_digit b ≡ true = and_left (is_digit b) (list_all is_digit bs) (and_right (nat_lt 0 (length (b ∷ bs))) (list_all is_digit (b ∷ bs)) is) in
-    rw (digit_no_word b digit) (rw digit refl)
-lead_is (Some Character) b bs is = absurd is
-lead_is (Some Text) b bs is = absurd is
+lead_is (Some Integer) b bs is = integer_lead b bs is
+lead_is (Some Character) b bs is = character_lead b bs is
+lead_is (Some Text) b bs is = text_lead b bs is
 lead_is (Some Mark) b bs is = other_lead (lead_of b) (mark_begins (b ∷ bs) is)
+
+no_mark : (bytes others : List ℕ) → bytes ≡ others → is_mark others ≡ false → is_mark bytes ≡ true → ⊥
+no_mark bytes others e none is = let same : is_mark bytes ≡ false = ap is_mark e ∙ none in cc
 
 blank_no_mark : (b : ℕ) (bs : List ℕ) → is_blank b ≡ true → is_mark (b ∷ bs) ≡ true → ⊥
 blank_no_mark b bs blank is =
     blank_passes (λ (x : ℕ). is_mark (x ∷ bs) ≡ true → ⊥) b blank (λ h. cc) (λ h. cc) (λ h. cc) (λ h. cc) is
 
--- no piece begins as a gap and as a mark
+-- no gap is a mark
 gap_no_mark : (bytes : List ℕ) → IsGap bytes → is_mark bytes ≡ true → ⊥
-gap_no_mark [] gap is = gap
-gap_no_mark (b ∷ []) gap is = blank_no_mark b [] gap is
-gap_no_mark (b ∷ c ∷ bs) gap is = gap
+gap_no_mark bytes (inl (b, e, blank)) is = blank_no_mark b [] blank (ap is_mark (sym e) ∙ is)
+gap_no_mark bytes (inr (inl (words, inl sort, clean))) is = no_mark bytes (47 ∷ 47 ∷ words) sort refl is
+gap_no_mark bytes (inr (inl (words, inr sort, clean))) is = no_mark bytes (42 ∷ 42 ∷ words) sort refl is
+gap_no_mark bytes (inr (inr (rest, words, e, ends))) is = no_mark bytes (47 ∷ 42 ∷ rest) e refl is
 
 kind_by_lead : (kind other : Option TokenKind) (bytes : List ℕ) → lead_of_kind kind ≡ lead_of_kind other → IsPiece kind bytes → IsPiece other bytes → kind ≡ other
 kind_by_lead None None bytes e is also = refl
@@ -152,18 +183,51 @@ of_word (Some Id) bytes lead is = is.0
 of_word (Some Key) bytes lead is = key_is_word bytes is
 of_word kind bytes lead is = cc
 
-pub of_digit : (kind : Option TokenKind) (bytes : List ℕ) → lead_of_kind kind ≡ DigitLead → IsPiece kind bytes → IsDecimal bytes
+pub of_digit : (kind : Option TokenKind) (bytes : List ℕ) → lead_of_kind kind ≡ DigitLead → IsPiece kind bytes → IsInteger bytes
 of_digit (Some Integer) bytes lead is = is
 of_digit kind bytes lead is = cc
 
+pub of_quote : (kind : Option TokenKind) (bytes : List ℕ) → lead_of_kind kind ≡ QuoteLead → IsPiece kind bytes → IsCharacter bytes
+of_quote (Some Character) bytes lead is = is
+of_quote kind bytes lead is = cc
+
+pub of_double_quote : (kind : Option TokenKind) (bytes : List ℕ) → lead_of_kind kind ≡ DoubleQuoteLead → IsPiece kind bytes → IsText bytes
+of_double_quote (Some Text) bytes lead is = is
+of_double_quote kind bytes lead is = cc
+
+-- a mark that begins as a comment does is short
+abbrev short_as_comment : List ℕ → Bool
+short_as_comment [] = true
+short_as_comment (b ∷ bs) = not ((b == 47) || (b == 42)) || nat_le (length bs) 1
+
+at_most_two : (b : ℕ) (bs : List ℕ) → ((b == 47) || (b == 42)) ≡ true → is_mark (b ∷ bs) ≡ true → length bs ≤ 1
+at_most_two b bs lead is =
+    let short : (not ((b == 47) || (b == 42)) || nat_le (length bs) 1) ≡ true = among_passes short_as_comment (map (λ mark. mark.now) MARKS) (b ∷ bs) refl is in
+    grind (arith, nat_tests)
+
+mark_in_comment : (b : ℕ) (bs mark rest after : List ℕ) → (b ∷ bs) ++ rest ≡ mark ++ after → ((b == 47) || (b == 42)) ≡ true → 1 ≤ length bs → is_mark mark ≡ true → length mark ≤ length (b ∷ bs)
+mark_in_comment b bs [] rest after e lead long is = omega arith
+mark_in_comment b bs (c ∷ cs) rest after e lead long is =
+    let same : b ≡ c = head_is b c (bs ++ rest) (cs ++ after) e in
+    omega (arith, at_most_two c cs (subst (λ (x : ℕ). ((x == 47) || (x == 42)) ≡ true) same lead) is, long)
+
+mark_behind : (gap mark rest after : List ℕ) (b : ℕ) (bs : List ℕ) → gap ++ rest ≡ mark ++ after → gap ≡ b ∷ bs → ((b == 47) || (b == 42)) ≡ true → 1 ≤ length bs → is_mark mark ≡ true
+    → length mark ≤ length gap
+mark_behind gap mark rest after b bs e front lead long is =
+    omega (arith, ap length front, mark_in_comment b bs mark rest after (ap (λ (x : List ℕ). x ++ rest) (sym front) ∙ e) lead long is)
+
+blank_before_mark : (b : ℕ) (gap mark rest after : List ℕ) → gap ++ rest ≡ mark ++ after → gap ≡ b ∷ [] → is_blank b ≡ true → is_mark mark ≡ true → length mark ≤ length gap
+blank_before_mark b gap [] rest after e front blank is = omega arith
+blank_before_mark b gap (c ∷ cs) rest after e front blank is =
+    let same : b ≡ c = head_is b c rest (cs ++ after) (ap (λ (x : List ℕ). x ++ rest) (sym front) ∙ e) in
+    absurd (blank_no_mark b cs blank (subst (λ (x : ℕ). is_mark (x ∷ cs) ≡ true) (sym same) is))
+
 -- A mark that begins a text which begins with a gap is no longer than the gap.
 pub mark_in_gap : (gap mark rest after : List ℕ) → gap ++ rest ≡ mark ++ after → IsGap gap → is_mark mark ≡ true → length mark ≤ length gap
-mark_in_gap [] mark rest after e gap is = absurd gap
-mark_in_gap (b ∷ bs) [] rest after e gap is = omega arith
-mark_in_gap (b ∷ []) (c ∷ cs) rest after e gap is =
-    let same : b ≡ c = cc in
-    absurd (blank_no_mark b cs gap (subst (λ (x : ℕ). is_mark (x ∷ cs) ≡ true) (sym same) is))
-mark_in_gap (b ∷ d ∷ bs) (c ∷ cs) rest after e gap is = absurd gap
+mark_in_gap gap mark rest after e (inl (b, front, blank)) is = blank_before_mark b gap mark rest after e front blank is
+mark_in_gap gap mark rest after e (inr (inl (words, inl sort, clean))) is = mark_behind gap mark rest after 47 (47 ∷ words) e sort refl (omega arith) is
+mark_in_gap gap mark rest after e (inr (inl (words, inr sort, clean))) is = mark_behind gap mark rest after 42 (42 ∷ words) e sort refl (omega arith) is
+mark_in_gap gap mark rest after e (inr (inr (inner, words, front, ends))) is = mark_behind gap mark rest after 47 (42 ∷ inner) e front refl (omega arith) is
 
 -- A gap that is the longest is the longest piece.
 pub longest_gap : (text : List ℕ) (n : ℕ) → IsLongestFront IsGap text n → IsLongest (take n text) text
@@ -191,16 +255,17 @@ longest_mark text n no_gap found other after e also =
     with_kind kind bytes e size lead is = cc
 
 -- no piece begins the text where none of any lead does
-pub no_piece : (text : List ℕ) → NoFront IsGap text → NoFront IsWord text → NoFront IsDecimal text → NoFront (λ bytes. IsTrue (is_mark bytes)) text → NoPiece text
-no_piece text gap word decimal mark segment rest e is = with_kind segment.kind segment.bytes e is
+pub no_piece : (text : List ℕ) → NoFront IsGap text → NoFront IsWord text → NoFront IsInteger text → NoFront IsCharacter text → NoFront IsText text
+    → NoFront (λ bytes. IsTrue (is_mark bytes)) text → NoPiece text
+no_piece text gap word integer character string mark segment rest e is = with_kind segment.kind segment.bytes e is
   where
     with_kind : (kind : Option TokenKind) (bytes : List ℕ) → text ≡ bytes ++ rest → IsPiece kind bytes → ⊥
     with_kind None bytes e is = gap bytes rest e is
     with_kind (Some Id) bytes e is = word bytes rest e is.0
     with_kind (Some Key) bytes e is = word bytes rest e (key_is_word bytes is)
-    with_kind (Some Integer) bytes e is = decimal bytes rest e is
-    with_kind (Some Character) bytes e is = is
-    with_kind (Some Text) bytes e is = is
+    with_kind (Some Integer) bytes e is = integer bytes rest e is
+    with_kind (Some Character) bytes e is = character bytes rest e is
+    with_kind (Some Text) bytes e is = string bytes rest e is
     with_kind (Some Mark) bytes e is = mark bytes rest e is
 
 pub word_piece : (kind : TokenKind) (bytes : List ℕ) → kind ≡ cond (is_key_word bytes) Key Id → IsWord bytes → IsPiece (Some kind) bytes

@@ -2,7 +2,8 @@
 use Rattle.std.specs.Prelude.{◌≡◌, ◌≢◌, ◌≤◌, ℕ, ◌+◌, Bool, true, false, ◌||◌, IsTrue, List, [], ◌∷◌, ◌++◌, length, Option, Some, None}
 use Rattle.sed_lexer.specs.declared.kind.TokenKind.{TokenKind}
 use Rattle.sed_lexer.specs.Token.{Token}
-use Rattle.sed_lexer.specs.Pieces.{Segment, IsPiece, can_end, has_line_end}
+use Rattle.sed_lexer.specs.Gaps.{has_line_end}
+use Rattle.sed_lexer.specs.Pieces.{Segment, IsPiece, can_end}
 
 -- no piece that begins the text is longer than these bytes
 abbrev pub IsLongest : List ℕ → List ℕ → Type 0
@@ -14,7 +15,7 @@ pub record CanStand (segment : Segment) (text rest : List ℕ) : Type 0 where
   pub begins : text ≡ segment.bytes ++ rest
   pub is_piece : IsPiece segment.kind segment.bytes
   pub longest : IsLongest segment.bytes text
-  pub ends : IsTrue (can_end segment.kind rest)
+  pub ends : IsTrue (can_end segment.kind segment.bytes rest)
 
 -- these segments, one after another, lead from the text to the rest
 abbrev pub Cuts : List Segment → List ℕ → List ℕ → Type 0

@@ -1,7 +1,12 @@
 pub mod Token
+pub mod Gaps
+pub mod Words
+pub mod Integers
+pub mod Spellings
 pub mod Pieces
 pub mod Lexes
 pub mod Order
 pub mod Fronts
+pub mod Spelled
 pub mod Spans
 pub mod Cutting

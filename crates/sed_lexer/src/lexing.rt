@@ -1,12 +1,13 @@
 //! Cutting a text into tokens.
 ghost use Rattle.std.specs.Prelude.{◌≡◌, ◌<◌, ◌⊎◌, ◌||◌, ℕ, List, length, IfOk, IsErrOf};
 ghost use Rattle.sed_lexer.specs.Token.{Token};
-ghost use Rattle.sed_lexer.specs.Pieces as pieces;
+ghost use Rattle.sed_lexer.specs.Gaps as gaps;
 ghost use Rattle.sed_lexer.specs.Lexes.{Lexes, FaultsAt};
 ghost use Rattle.sed_lexer.specs.Cutting.{IsCut};
 
 use crate::Tokens;
-use crate::fronts::{front_of, has_line_end, rest_of};
+use crate::fronts::{front_of, rest_of};
+use crate::gaps::has_line_end;
 use crate::piece::{Piece, scan};
 use crate::tokens::Span;
 use std::alloc::{AllocError, AllocFailed, Global};
@@ -54,7 +55,7 @@ struct Place {
 
 // Whether a token that follows this gap is first on its line, where one in its place would be so or not.
 fn is_first_after(first: bool, gap: &[u8]) -> bool
-    ensures { result ≡ (first || pieces.has_line_end gap.now) }
+    ensures { result ≡ (first || gaps.has_line_end gap.now) }
 {
     first || has_line_end(gap)
 }

@@ -5,58 +5,19 @@
 #![tactic(auto)]
 
 mod fronts;
+mod gaps;
+mod integers;
 mod kind;
 mod laws;
 mod lexing;
 mod piece;
+mod spellings;
 #[cfg(test)]
 mod tests;
 mod tokens;
+mod words;
 
 pub use kind::TokenKind;
 pub use laws::{fault_is_one, tokens_are_in_order, tokens_are_one, tokens_or_fault};
 pub use lexing::{LexRefusal, lex};
 pub use tokens::Tokens;
-
-// Words that are no identifiers.
-const KEY_WORDS: [&str; 37] = [
-    "abstract",
-    "action",
-    "bool",
-    "break",
-    "byte",
-    "case",
-    "class",
-    "continue",
-    "default",
-    "define",
-    "do",
-    "else",
-    "extends",
-    "false",
-    "final",
-    "for",
-    "if",
-    "inline",
-    "int",
-    "internal",
-    "long",
-    "null",
-    "override",
-    "private",
-    "property",
-    "protected",
-    "public",
-    "return",
-    "short",
-    "static",
-    "super",
-    "switch",
-    "this",
-    "true",
-    "virtual",
-    "void",
-    "while",
-];
-
-const MARKS: [&str; 8] = ["{", "}", "(", ")", ";", "=", "+", "@"];

@@ -1,12 +1,13 @@
-//! What no clause says: that a text is lexed with ample memory, and that the definition means what the language does.
-use crate::{LexRefusal, TokenKind, lex};
+//! What no clause says: that a text is lexed with ample memory, and that the definitions mean what the language does.
+use crate::{LexRefusal, TokenKind, Tokens, lex};
+use std::process::Abort;
 use std::test::Fail;
 
 const CLASS: &str =
     "class Ramp {\n  @config property int step = 10\n\n  void execute() { out = out+step; }\n}\n";
 
 // kind, first place, place after it, bytes, first on its line
-const TOKENS: [(TokenKind, usize, usize, &str, bool); 23] = [
+const CLASS_TOKENS: [(TokenKind, usize, usize, &str, bool); 23] = [
     (TokenKind::Key, 0, 5, "class", true),
     (TokenKind::Id, 6, 10, "Ramp", false),
     (TokenKind::Mark, 11, 12, "{", false),
@@ -32,11 +33,180 @@ const TOKENS: [(TokenKind, usize, usize, &str, bool); 23] = [
     (TokenKind::Mark, 84, 85, "}", true),
 ];
 
+// A text, and its tokens: a letter for the kind of each, and their bytes.
+const TEXTS: [(&str, &str, &[&str]); 32] = [
+    (
+        "a<<=b<<c<=d<e",
+        "IMIMIMIMI",
+        &["a", "<<=", "b", "<<", "c", "<=", "d", "<", "e"],
+    ),
+    (
+        "a>>=b>>c>=d>e",
+        "IMIMIMIMI",
+        &["a", ">>=", "b", ">>", "c", ">=", "d", ">", "e"],
+    ),
+    ("a<<<=b", "IMMI", &["a", "<<", "<=", "b"]),
+    (
+        "a+++b---c",
+        "IMMIMMI",
+        &["a", "++", "+", "b", "--", "-", "c"],
+    ),
+    (
+        "a+=b-=c*=d/=e%=f",
+        "IMIMIMIMIMI",
+        &["a", "+=", "b", "-=", "c", "*=", "d", "/=", "e", "%=", "f"],
+    ),
+    (
+        "a&=b|=c^=d&&e||f",
+        "IMIMIMIMIMI",
+        &["a", "&=", "b", "|=", "c", "^=", "d", "&&", "e", "||", "f"],
+    ),
+    (
+        "a&b|c^d&&&e|||f",
+        "IMIMIMIMMIMMI",
+        &[
+            "a", "&", "b", "|", "c", "^", "d", "&&", "&", "e", "||", "|", "f",
+        ],
+    ),
+    (
+        "a===b!==c=!d!e",
+        "IMMIMMIMMIMI",
+        &["a", "==", "=", "b", "!=", "=", "c", "=", "!", "d", "!", "e"],
+    ),
+    (
+        "a:::b::c:d",
+        "IMMIMIMI",
+        &["a", "::", ":", "b", "::", "c", ":", "d"],
+    ),
+    (
+        "{}()[];,.?@~%",
+        "MMMMMMMMMMMMM",
+        &[
+            "{", "}", "(", ")", "[", "]", ";", ",", ".", "?", "@", "~", "%",
+        ],
+    ),
+    ("a*b**c*=d", "IMI", &["a", "*", "b"]),
+    ("a*=*=**b", "IMM", &["a", "*=", "*="]),
+    ("a/b//c\nd", "IMII", &["a", "/", "b", "d"]),
+    ("a/ /b/=c", "IMMIMI", &["a", "/", "/", "b", "/=", "c"]),
+    ("a/**/b/*c*/d", "III", &["a", "b", "d"]),
+    ("a/*/b*/c/***/d", "III", &["a", "c", "d"]),
+    ("a/* // ** /* */b*/c", "IIMMI", &["a", "b", "*", "/", "c"]),
+    ("+**=\n-", "MM", &["+", "-"]),
+    (
+        "abstract action bool break byte case",
+        "KKKKKK",
+        &["abstract", "action", "bool", "break", "byte", "case"],
+    ),
+    (
+        "class continue default define do else",
+        "KKKKKK",
+        &["class", "continue", "default", "define", "do", "else"],
+    ),
+    (
+        "extends false final for if inline int",
+        "KKKKKKK",
+        &["extends", "false", "final", "for", "if", "inline", "int"],
+    ),
+    (
+        "internal long null override private",
+        "KKKKK",
+        &["internal", "long", "null", "override", "private"],
+    ),
+    (
+        "property protected public return short",
+        "KKKKK",
+        &["property", "protected", "public", "return", "short"],
+    ),
+    (
+        "static super switch this true virtual",
+        "KKKKKK",
+        &["static", "super", "switch", "this", "true", "virtual"],
+    ),
+    ("void while", "KK", &["void", "while"]),
+    (
+        "classes int_ do1 _if Class",
+        "IIIII",
+        &["classes", "int_", "do1", "_if", "Class"],
+    ),
+    (
+        "1_000 0xFFL 10ms 0 007 1_ 2L_ 0xa_",
+        "NNNNNNNIN",
+        &[
+            "1_000", "0xFFL", "10ms", "0", "007", "1_", "2L", "_", "0xa_",
+        ],
+    ),
+    (
+        "1ns 2sec 3min 4hr 5days 6_ms 1.5",
+        "NNNNNNNMN",
+        &["1ns", "2sec", "3min", "4hr", "5days", "6_ms", "1", ".", "5"],
+    ),
+    (
+        "'a' '\\'' '\\\\' '\\0' '\"' ' '",
+        "CCCCCC",
+        &["'a'", "'\\''", "'\\\\'", "'\\0'", "'\"'", "' '"],
+    ),
+    (
+        "\"\" \"\\$\" \"a'b\" \"\\\"\" \"**//\"",
+        "TTTTT",
+        &["\"\"", "\"\\$\"", "\"a'b\"", "\"\\\"\"", "\"**//\""],
+    ),
+    ("a // \u{e9}\n/* \u{e9} */ b", "II", &["a", "b"]),
+    ("\t\r \n", "", &[]),
+];
+
+// A text that has no tokens, and the place where nothing begins.
+const FAULTS: [(&str, usize); 20] = [
+    ("10msx", 0),
+    ("a 12ab", 2),
+    ("1_a", 0),
+    ("5L5", 0),
+    ("0x", 0),
+    ("0xg", 0),
+    ("5hrs", 0),
+    ("class A { /*", 10),
+    ("/*/", 0),
+    ("a /* b * /", 2),
+    ("'ab'", 0),
+    ("'''", 0),
+    ("a '\\a'", 2),
+    ("\"abc", 0),
+    ("\"a\\0b\"", 0),
+    ("\"a\nb\"", 0),
+    ("\"\\q\"", 0),
+    ("a \u{e9}", 2),
+    ("\"\u{e9}\"", 0),
+    ("a # b", 2),
+];
+
+fn letter(kind: TokenKind) -> u8 {
+    match kind {
+        TokenKind::Id => b'I',
+        TokenKind::Key => b'K',
+        TokenKind::Integer => b'N',
+        TokenKind::Character => b'C',
+        TokenKind::Text => b'T',
+        TokenKind::Mark => b'M',
+    }
+}
+
+fn compare(rt: &impl Abort, text: &str, tokens: &Tokens, kinds: &str, pieces: &[&str]) {
+    assert_eq!(rt; tokens.len(), pieces.len(), "in {text}");
+    for (i, piece) in pieces.iter().enumerate() {
+        assert_eq!(rt; tokens.bytes(i), piece.as_bytes(), "bytes of {i} in {text}");
+        assert_eq!(rt;
+            Some(letter(tokens.kind(i))),
+            kinds.as_bytes().get(i).copied(),
+            "kind of {i} in {text}"
+        );
+    }
+}
+
 #[test]
 fn tokens_of_a_class(rt: HostRuntime) -> Result<(), Fail> {
     let tokens = lex(rt.alloc(), CLASS.as_bytes())?;
-    assert_eq!(rt; tokens.len(), TOKENS.len());
-    for (i, (kind, start, end, bytes, first)) in TOKENS.iter().enumerate() {
+    assert_eq!(rt; tokens.len(), CLASS_TOKENS.len());
+    for (i, (kind, start, end, bytes, first)) in CLASS_TOKENS.iter().enumerate() {
         assert_eq!(rt; tokens.kind(i), *kind, "kind of {i}");
         assert_eq!(rt; tokens.start(i), *start, "start of {i}");
         assert_eq!(rt; tokens.end(i), *end, "end of {i}");
@@ -47,8 +217,29 @@ fn tokens_of_a_class(rt: HostRuntime) -> Result<(), Fail> {
 }
 
 #[test]
+fn tokens_of_texts(rt: HostRuntime) -> Result<(), Fail> {
+    for (text, kinds, pieces) in TEXTS {
+        let tokens = lex(rt.alloc(), text.as_bytes())?;
+        compare(&rt, text, &tokens, kinds, pieces);
+    }
+    Ok(())
+}
+
+#[test]
+fn first_tokens_of_lines(rt: HostRuntime) -> Result<(), Fail> {
+    let text = "a b\n\n \nc /* \n */ d /* */ e // f\ng";
+    let firsts = [true, false, true, true, false, true];
+    let tokens = lex(rt.alloc(), text.as_bytes())?;
+    assert_eq!(rt; tokens.len(), firsts.len());
+    for (i, first) in firsts.iter().enumerate() {
+        assert_eq!(rt; tokens.first(i), *first, "line of {i}");
+    }
+    Ok(())
+}
+
+#[test]
 fn places_of_faults(rt: HostRuntime) {
-    for (text, at) in [("#", 0), ("a = 1 # 2", 6), ("x\n 12ab", 3), ("\"a\"", 0)] {
+    for (text, at) in FAULTS {
         let found = lex(rt.alloc(), text.as_bytes()).err();
         assert_eq!(rt; found, Some(LexRefusal::Fault { at }), "in {text}");
     }

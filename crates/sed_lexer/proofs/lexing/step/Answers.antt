@@ -1,6 +1,6 @@
 use Rattle.std.proofs.Common.{sym, ap, subst, refl, ◌∙◌, ◌≡◌, ℕ, List, ◌+◌, ◌||◌, false, take}
 use Rattle.sed_lexer.specs.declared.tokens.Span.{Span}
-use Rattle.sed_lexer.specs.Pieces.{has_line_end}
+use Rattle.sed_lexer.specs.Gaps.{has_line_end}
 use Rattle.sed_lexer.specs.Lexes.{NothingStands, FaultsAt}
 use Rattle.sed_lexer.specs.Cutting.{Stands, IsCut}
 use Rattle.sed_lexer.proofs.CutLemmas.{cut_gap, cut_token, cut_fault}

@@ -1,7 +1,0 @@
-use Rattle.std.proofs.Common.{take, map, IsTrue}
-use Rattle.sed_lexer.specs.Pieces as pieces
-use Rattle.sed_lexer.specs.Fronts.{FindsLongest}
-use Rattle.sed_lexer.proofs.fronts.longest_among.Given as goal
-
-abbrev pub invariant-loop-word : goal.invariant-loop-word
-invariant-loop-word l = FindsLongest (λ bytes. IsTrue (pieces.is_among (map (λ word. word.now) (take l.word-index l.words)) bytes)) l.text l.longest
