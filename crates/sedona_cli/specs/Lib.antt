@@ -7,5 +7,6 @@ pub mod Command
 pub mod Cycles
 pub mod Text
 pub mod Program
+pub mod Refused
 pub mod Slots
 pub mod Status

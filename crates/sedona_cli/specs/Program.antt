@@ -1,7 +1,8 @@
 -- What the program answers.
 use Rattle.std.specs.Prelude.{◌≡◌, ◌⊎◌, ℕ, List, [], ◌∷◌, ◌++◌, Option, Some, IfSome, IsSomeAnd, codes}
+use Rattle.std.specs.Fmt.{decimal}
 use Rattle.sed_lexer.specs.Token.{Token}
-use Rattle.sed_lexer.specs.Lexes.{Lexes}
+use Rattle.sed_lexer.specs.Lexes.{Lexes, FaultsAt}
 use Rattle.sed_parser.specs.FirstForm.{IsFirst}
 use Rattle.sed_parser.specs.declared.form.First.{First}
 use Rattle.sed_outside.specs.Cause.{Rose}
@@ -16,6 +17,16 @@ IsClass text f = (tokens : List Token) × Lexes text tokens × IsFirst f tokens
 
 abbrev pub IsOfFirstForm : List ℕ → Type 0
 IsOfFirstForm text = (f : First) × IsClass text f
+
+-- Why a text is refused, as it is printed: `AT lex` where no token begins at a place, and `0 form` where it has tokens and
+-- they spell no class of the first form.
+abbrev pub IsWhy : List ℕ → List ℕ → Type 0
+IsWhy text why = ((at : ℕ) × FaultsAt text at × (why ≡ decimal at ++ codes " lex"))
+    ⊎ ((tokens : List Token) × Lexes text tokens × (IsOfFirstForm text → ⊥) × (why ≡ codes "0 form"))
+
+-- The text is refused, and of why it is this holds.
+abbrev pub RefusedFor : List ℕ → (List ℕ → Type 0) → Type 0
+RefusedFor text P = (why : List ℕ) × IsWhy text why × P why
 
 -- Where the words ask for cycles of a file, this holds of the file and of their number.
 abbrev pub OnCycles : List (List ℕ) → (List ℕ → ℕ → Type 0) → Type 0
@@ -41,8 +52,8 @@ pub record Puts (before after : Option (List ℕ)) (faults_before faults_after :
 abbrev pub usage_line : List ℕ
 usage_line = codes "usage" ++ line_end
 
-abbrev pub refused_line : List ℕ → List ℕ
-refused_line file = codes "refused " ++ (file ++ (codes " 0 form" ++ line_end))
+abbrev pub refused_line : List ℕ → List ℕ → List ℕ
+refused_line file why = codes "refused " ++ (file ++ (codes " " ++ (why ++ line_end)))
 
 abbrev pub file_fault_line : List ℕ → List ℕ
 file_fault_line file = codes "file fault " ++ (file ++ line_end)

@@ -10,6 +10,7 @@ mod component;
 mod laws;
 mod printing;
 mod program;
+mod refusal;
 mod status;
 
 pub use laws::class_of_text_is_one;

@@ -1,16 +1,18 @@
 //! The top call.
-ghost use Rattle.std.specs.Prelude.{◌≡◌, ◌≢◌, ◌⊎◌, ◌↔◌, ◌++◌, ℕ, List, Some, None, [], ◌∷◌, IfOk, IsErrOf, true};
+ghost use Rattle.std.specs.Prelude.{◌≡◌, ◌≢◌, ◌⊎◌, ◌↔◌, ◌++◌, ℕ, List, Some, None, [], ◌∷◌, IfOk, IfErr, true};
 ghost use Rattle.std.specs.List.{list_all};
 ghost use Rattle.sed_parser.specs.Naming.{is_known_assignment};
 ghost use Rattle.sed_outside.specs.Cause.{Rose};
 ghost use Rattle.sed_outside.specs.Sink.{with_text, PutsFront};
+ghost use Rattle.sedona_cli.specs.Refused.{IsRefusal, words_of};
 ghost use Rattle.sedona_cli.specs.Command.{texts, command_of};
 ghost use Rattle.sedona_cli.specs.Text.{text_after, line_end};
-ghost use Rattle.sedona_cli.specs.Program.{IsOneOf, IsClass, IsOfFirstForm, OnCycles, IsTold, GaveSome, PrintsSome, Puts, usage_line, refused_line, file_fault_line, memory_line};
+ghost use Rattle.sedona_cli.specs.Program.{IsOneOf, IsClass, IsOfFirstForm, OnCycles, RefusedFor, IsTold, GaveSome, PrintsSome, Puts, usage_line, refused_line, file_fault_line, memory_line};
 
 use crate::command::read_words;
 use crate::component::{Component, run};
 use crate::printing::{component_text, line_with_file};
+use crate::refusal::{TextRefusal, Why};
 use crate::status::Status;
 use sed_lexer::{LexRefusal, lex};
 use sed_outside::{FileFault, Files, Sink};
@@ -18,15 +20,19 @@ use sed_parser::{First, FirstRefusal, first};
 use std::alloc::{AllocError, Global};
 
 // The class of a text of the first form.
-fn class_of(alloc: Global, text: &[u8]) -> Result<First, FirstRefusal>
+fn class_of(alloc: Global, text: &[u8]) -> Result<First, TextRefusal>
     ensures found { IfOk result (λ f. IsClass text.now f) }
     ensures known { IfOk result (λ f. list_all (is_known_assignment f.props) f.body ≡ true) }
-    ensures not_first { IsErrOf result FirstRefusal.NotFirst → IsOfFirstForm text.now → ⊥ }
+    ensures refused { IfErr result (IsRefusal text.now) }
 {
     match lex(alloc, text) {
-        Ok(tokens) => first(alloc, &tokens),
-        Err(LexRefusal::Fault { at: _ }) => Err(FirstRefusal::NotFirst),
-        Err(LexRefusal::Memory) => Err(FirstRefusal::Memory),
+        Ok(tokens) => match first(alloc, &tokens) {
+            Ok(class) => Ok(class),
+            Err(FirstRefusal::NotFirst) => Err(TextRefusal::Refused(Why::Form)),
+            Err(FirstRefusal::Memory) => Err(TextRefusal::Memory),
+        },
+        Err(LexRefusal::Fault { at }) => Err(TextRefusal::Refused(Why::Lex(at))),
+        Err(LexRefusal::Memory) => Err(TextRefusal::Memory),
     }
 }
 
@@ -41,14 +47,17 @@ fn text_after_cycles(alloc: Global, class: &First, count: u64) -> Result<Vec<u8>
 }
 
 // The text that the cycles of a text's class print.
-fn cycles(alloc: Global, text: &[u8], count: u64) -> Result<Vec<u8>, FirstRefusal>
+fn cycles(alloc: Global, text: &[u8], count: u64) -> Result<Vec<u8>, TextRefusal>
     ensures done { IfOk result (λ out. PrintsSome text.now count (λ printed. out.items ≡ printed)) }
-    ensures not_first { IsErrOf result FirstRefusal.NotFirst → IsOfFirstForm text.now → ⊥ }
+    ensures refused { IfErr result (IsRefusal text.now) }
 {
-    let class = class_of(alloc, text)?;
+    let class = match class_of(alloc, text) {
+        Ok(class) => class,
+        Err(refusal) => return Err(refusal),
+    };
     match text_after_cycles(alloc, &class, count) {
         Ok(out) => Ok(out),
-        Err(_) => Err(FirstRefusal::Memory),
+        Err(_) => Err(TextRefusal::Memory),
     }
 }
 
@@ -90,14 +99,28 @@ fn refuse_file<O: Sink>(
     }
 }
 
+// Puts the line that says why a text is refused, or that memory was wanted for it.
+fn refuse_text<O: Sink>(alloc: Global, out: &mut O, file: &str, why: Why) -> Status
+    ensures statuses { (result ≡ Status.Refused) ⊎ (result ≡ Status.NoMemory) }
+    ensures line { result ≡ Status.Refused → Puts (O.text out.old) (O.text out.new) (O.faults out.old) (O.faults out.new) (refused_line file.now (words_of why)) }
+    ensures memory { result ≡ Status.NoMemory → Puts (O.text out.old) (O.text out.new) (O.faults out.old) (O.faults out.new) memory_line }
+{
+    match why.line(alloc, file) {
+        Ok(line) => {
+            put_line(out, line.as_bytes());
+            Status::Refused
+        }
+        Err(_) => out_of_memory(out),
+    }
+}
+
 // Puts the text that the cycles of a read file print, or the line of a refusal.
 fn print_cycles<O: Sink>(alloc: Global, file: &str, text: &[u8], count: u64, out: &mut O) -> Status
     ensures statuses { (result ≢ Status.Usage) × (result ≢ Status.FileFault) }
     ensures done { result ≡ Status.Done → PrintsSome text.now count (λ printed. O.text out.new ≡ with_text (O.text out.old) printed) }
     ensures done_comes { IsOfFirstForm text.now → (Rose (O.faults out.old) (O.faults out.new) → ⊥) → (result ≡ Status.Done) ⊎ (result ≡ Status.NoMemory) }
-    ensures refused { result ≡ Status.Refused → IsOfFirstForm text.now → ⊥ }
+    ensures refused { result ≡ Status.Refused → RefusedFor text.now (λ why. Puts (O.text out.old) (O.text out.new) (O.faults out.old) (O.faults out.new) (refused_line file.now why)) }
     ensures refused_comes { (IsOfFirstForm text.now → ⊥) → (result ≡ Status.Refused) ⊎ (result ≡ Status.NoMemory) }
-    ensures refused_line { result ≡ Status.Refused → Puts (O.text out.old) (O.text out.new) (O.faults out.old) (O.faults out.new) (refused_line file.now) }
     ensures sink_fault { result ≡ Status.SinkFault → Rose (O.faults out.old) (O.faults out.new) }
     ensures sink_fault_comes { IsOfFirstForm text.now → O.faults out.new ≢ O.faults out.old → (result ≡ Status.SinkFault) ⊎ (result ≡ Status.NoMemory) }
     ensures sink_fault_text { result ≡ Status.SinkFault → PrintsSome text.now count (λ printed. PutsFront (O.text out.old) (O.text out.new) printed) }
@@ -108,15 +131,8 @@ fn print_cycles<O: Sink>(alloc: Global, file: &str, text: &[u8], count: u64, out
             Ok(()) => Status::Done,
             Err(_) => Status::SinkFault,
         },
-        Err(FirstRefusal::NotFirst) => refuse_file(
-            alloc,
-            out,
-            "refused ",
-            file,
-            " 0 form",
-            Status::Refused,
-        ),
-        Err(FirstRefusal::Memory) => out_of_memory(out),
+        Err(TextRefusal::Refused(why)) => refuse_text(alloc, out, file, why),
+        Err(TextRefusal::Memory) => out_of_memory(out),
     }
 }
 
@@ -132,10 +148,9 @@ fn cycles_of<F: Files, O: Sink>(
     ensures done { result ≡ Status.Done → GaveSome (F.known files.old) file.now (λ bytes. PrintsSome bytes count (λ printed. O.text out.new ≡ with_text (O.text out.old) printed)) }
     ensures done_comes { (bytes : List ℕ) → IsTold (F.known files.old) file.now bytes → IsOfFirstForm bytes
         → (Rose (F.failed_reads files.old file.now) (F.failed_reads files.new file.now) → ⊥) → (Rose (O.faults out.old) (O.faults out.new) → ⊥) → (result ≡ Status.Done) ⊎ (result ≡ Status.NoMemory) }
-    ensures refused { result ≡ Status.Refused → GaveSome (F.known files.old) file.now (λ bytes. IsOfFirstForm bytes → ⊥) }
+    ensures refused { result ≡ Status.Refused → GaveSome (F.known files.old) file.now (λ bytes. RefusedFor bytes (λ why. Puts (O.text out.old) (O.text out.new) (O.faults out.old) (O.faults out.new) (refused_line file.now why))) }
     ensures refused_comes { (bytes : List ℕ) → IsTold (F.known files.old) file.now bytes → (IsOfFirstForm bytes → ⊥)
         → (Rose (F.failed_reads files.old file.now) (F.failed_reads files.new file.now) → ⊥) → (result ≡ Status.Refused) ⊎ (result ≡ Status.NoMemory) }
-    ensures refused_line { result ≡ Status.Refused → Puts (O.text out.old) (O.text out.new) (O.faults out.old) (O.faults out.new) (refused_line file.now) }
     ensures file_fault { result ≡ Status.FileFault → Rose (F.failed_reads files.old file.now) (F.failed_reads files.new file.now) }
     ensures file_fault_comes { F.failed_reads files.new file.now ≢ F.failed_reads files.old file.now → (result ≡ Status.FileFault) ⊎ (result ≡ Status.NoMemory) }
     ensures file_fault_line { result ≡ Status.FileFault → Puts (O.text out.old) (O.text out.new) (O.faults out.old) (O.faults out.new) (file_fault_line file.now) }
@@ -188,11 +203,11 @@ pub fn sedona<F: Files, O: Sink>(alloc: Global, words: &[String], files: &mut F,
     ensures usage { (result ≡ 1) ↔ (command_of (texts words.now) ≡ None) }
     ensures usage_line { result ≡ 1 → Puts (O.text out.old) (O.text out.new) (O.faults out.old) (O.faults out.new) usage_line }
 
-    // 2: exactly where the file is not of the first form.
-    ensures refused { result ≡ 2 → OnCycles (texts words.now) (λ file count. GaveSome (F.known files.old) file (λ bytes. IsOfFirstForm bytes → ⊥)) }
+    // 2: exactly where the file is not of the first form. The line says why.
+    ensures refused { result ≡ 2 → OnCycles (texts words.now) (λ file count. GaveSome (F.known files.old) file (λ bytes.
+        RefusedFor bytes (λ why. Puts (O.text out.old) (O.text out.new) (O.faults out.old) (O.faults out.new) (refused_line file why)))) }
     ensures refused_comes { OnCycles (texts words.now) (λ file count. (bytes : List ℕ) → IsTold (F.known files.old) file bytes → (IsOfFirstForm bytes → ⊥)
         → (Rose (F.failed_reads files.old file) (F.failed_reads files.new file) → ⊥) → (result ≡ 2) ⊎ (result ≡ 7)) }
-    ensures refused_line { result ≡ 2 → OnCycles (texts words.now) (λ file count. Puts (O.text out.old) (O.text out.new) (O.faults out.old) (O.faults out.new) (refused_line file)) }
 
     // 3: only where the count of failed reads of the file rose, and wherever it did.
     ensures file_fault { result ≡ 3 → OnCycles (texts words.now) (λ file count. Rose (F.failed_reads files.old file) (F.failed_reads files.new file)) }

@@ -17,7 +17,7 @@ const SECOND_LINE: &str =
     "class A extends Component { property int x; override void execute() { x = 1\n + 2 } }";
 
 // The file that the words name, the words, the status and the text.
-const ROWS: [(&str, &str, u8, &str); 14] = [
+const ROWS: [(&str, &str, u8, &str); 17] = [
     (RAMP, "cycles f 0", 0, "meta=0\nstep=1\nout=0\nfault=0\n"),
     (RAMP, "cycles f 3", 0, "meta=0\nstep=1\nout=3\nfault=0\n"),
     (
@@ -46,6 +46,9 @@ const ROWS: [(&str, &str, u8, &str); 14] = [
     (RAMP, "check f 3", 1, "usage\n"),
     (UNKNOWN_NAME, "cycles f 1", 2, "refused f 0 form\n"),
     (SECOND_LINE, "cycles f 1", 2, "refused f 0 form\n"),
+    ("class A { /*", "cycles f 1", 2, "refused f 10 lex\n"),
+    ("0x", "cycles f 1", 2, "refused f 0 lex\n"),
+    ("class A {", "cycles f 1", 2, "refused f 0 form\n"),
     (RAMP, "cycles g 1", 3, "file fault g\n"),
 ];
 
