@@ -6,3 +6,4 @@ pub mod SpellingLemmas
 pub mod KindLemmas
 pub mod CutLemmas
 pub mod OrderLemmas
+pub mod ValueLemmas

@@ -115,7 +115,7 @@ no_hex text begins none bytes after e (numeral, spelled, is) =
     no_numeral is_hex_digit (map (λ suffix. suffix.now) HEX_SUFFIXES) (drop 2 text) none numeral after behind is
 
 -- a decimal that begins a text which `0x` begins is the 0
-decimal_in_hex : (front suffix rest : List ℕ) → 48 ∷ 120 ∷ rest ≡ front ++ suffix → IsDigits is_digit front → length front ≤ 1
+pub decimal_in_hex : (front suffix rest : List ℕ) → 48 ∷ 120 ∷ rest ≡ front ++ suffix → IsDigits is_digit front → length front ≤ 1
 decimal_in_hex [] suffix rest e run = omega arith
 decimal_in_hex (d ∷ []) suffix rest e run = omega arith
 decimal_in_hex (d ∷ c ∷ ds) suffix rest e run =

@@ -64,3 +64,28 @@ in_order text tokens (segments, cuts, are) = subst (AreInOrder text) (sym are) (
   where
     ascending : Ascend 0 text (tokens_from 0 true segments)
     ascending = ascends segments text [] 0 true (omega arith) cuts
+
+-- the tokens' bytes are pieces of their kinds
+abbrev ArePieces : List Token → Type 0
+ArePieces [] = Unit {0}
+ArePieces (token ∷ tokens) = IsPiece (Some token.kind) token.bytes × ArePieces tokens
+
+pieces_of : (kind : Option TokenKind) (bytes : List ℕ) (at : ℕ) (first : Bool) (tokens : List Token) → IsPiece kind bytes → ArePieces tokens
+    → ArePieces (tokens_of at first kind bytes ++ tokens)
+pieces_of None bytes at first tokens is more = more
+pieces_of (Some kind) bytes at first tokens is more = (is, more)
+
+pieces_from : (segments : List Segment) (text rest : List ℕ) (at : ℕ) (first : Bool) → Cuts segments text rest → ArePieces (tokens_from at first segments)
+pieces_from [] text rest at first cuts = tt
+pieces_from (segment ∷ segments) text rest at first (after, stands, cuts) =
+    pieces_of segment.kind segment.bytes at first (tokens_from (at + length segment.bytes) (first_after first segment.kind segment.bytes) segments)
+    stands.is_piece (pieces_from segments after rest (at + length segment.bytes) (first_after first segment.kind segment.bytes) cuts)
+
+piece_at : (tokens : List Token) (i : ℕ) → ArePieces tokens → i < length tokens → IsPiece (Some (token_at tokens i).kind) (token_at tokens i).bytes
+piece_at [] i more inside = absurd (omega arith)
+piece_at (token ∷ tokens) zero (is, more) inside = is
+piece_at (token ∷ tokens) (suc i) (is, more) inside = piece_at tokens i more (omega arith)
+
+pub are_pieces : (text : List ℕ) (tokens : List Token) → Lexes text tokens → (i : ℕ) → i < length tokens → IsPiece (Some (token_at tokens i).kind) (token_at tokens i).bytes
+are_pieces text tokens (segments, cuts, are) i inside =
+    piece_at tokens i (subst ArePieces (sym are) (pieces_from segments text [] 0 true cuts)) inside

@@ -2,11 +2,12 @@
 use Rattle.std.proofs.Common.{◌≡◌, ◌≢◌, ℕ, suc, ◌+◌, ◌<◌, ◌≤◌, Bool, true, false, not, ◌&&◌, ◌==◌, List, [], ◌∷◌, ◌++◌, length, take, drop, Option, Some, refl, sym, ap, subst, ◌∙◌, arith, append_assoc}
 use Rattle.std.proofs.Math.Seq.{take-add, take-append-add}
 use Rattle.std.proofs.lemmas.Bool.Decides.{Decides-eqb}
-use Rattle.std.proofs.lemmas.List.{length-take-le, take-append-drop, length-append, length-drop, drop-drop, append-nil}
+use Rattle.std.proofs.lemmas.List.{length-take-le, take-append-drop, length-append, length-drop, drop-drop, append-nil, nil_from_length}
 use Rattle.sed_value.specs.Characters.{is_between}
 use Rattle.sed_lexer.specs.declared.spellings.Spelled.{Spelled}
-use Rattle.sed_lexer.specs.Spellings.{is_plain, escaped, Spells, SpellText, IsCharacter, IsText}
+use Rattle.sed_lexer.specs.Spellings.{is_plain, escaped, Spells, SpellText, IsTextOf, IsCharacter, IsText}
 use Rattle.sed_lexer.specs.Spelled.{BeginsSpelled, NoSpelling, SpellsTo, EndsText, NoTextEnd}
+use Rattle.sed_lexer.specs.One.{FindsOne}
 use Rattle.sed_lexer.specs.Fronts.{NoFront, IsLongestFront, begins_with}
 use Rattle.sed_lexer.proofs.FrontLemmas.{and_left, and_right, not_both}
 
@@ -230,3 +231,52 @@ no_text text begins none bytes after e (cs, (spelling, is, spells)) =
     let whole : 34 ∷ drop 1 text ≡ 34 ∷ ((spelling ++ 34 ∷ []) ++ after) = sym (begins_is text 34 begins) ∙ e ∙ ap (λ (x : List ℕ). x ++ after) is in
     let tail : drop 1 text ≡ (spelling ++ 34 ∷ []) ++ after = (head_is 34 34 (drop 1 text) ((spelling ++ 34 ∷ []) ++ after) whole).1 in
     none spelling after cs (tail ∙ append_assoc spelling (34 ∷ []) after) spells
+
+no_text_begun : (bytes : List ℕ) → begins_with bytes 34 ≡ true → NoTextEnd (drop 1 bytes) → (cs : List ℕ) → IsTextOf bytes cs → ⊥
+no_text_begun bytes begins none cs (spelling, e, spells) =
+    let whole : 34 ∷ drop 1 bytes ≡ 34 ∷ (spelling ++ 34 ∷ []) = sym (begins_is bytes 34 begins) ∙ e in
+    none spelling [] cs (head_is 34 34 (drop 1 bytes) (spelling ++ 34 ∷ []) whole).1 spells
+
+-- where no character's spelling goes on, the bytes denote no text
+pub no_text_goes_on : (bytes : List ℕ) (at : ℕ) (characters : List ℕ) → begins_with bytes 34 ≡ true → SpellsTo (drop 1 bytes) at characters
+    → begins_with (drop at (drop 1 bytes)) 34 ≡ false → NoSpelling 34 (drop at (drop 1 bytes)) → (cs : List ℕ) → IsTextOf bytes cs → ⊥
+no_text_goes_on bytes at characters begins spelled other none = no_text_begun bytes begins (text_stops (drop 1 bytes) at characters spelled other none)
+
+pub no_text_with_zero : (bytes : List ℕ) (at : ℕ) (characters : List ℕ) (one : Spelled) → begins_with bytes 34 ≡ true → SpellsTo (drop 1 bytes) at characters
+    → BeginsSpelled 34 (drop at (drop 1 bytes)) one → one.character ≡ 0 → (cs : List ℕ) → IsTextOf bytes cs → ⊥
+no_text_with_zero bytes at characters one begins spelled more is_zero = no_text_begun bytes begins (text_has_no_zero (drop 1 bytes) at characters one spelled more is_zero)
+
+-- a text ends with its quote
+pub no_text_before : (bytes : List ℕ) (at : ℕ) (characters : List ℕ) → begins_with bytes 34 ≡ true → SpellsTo (drop 1 bytes) at characters
+    → begins_with (drop at (drop 1 bytes)) 34 ≡ true → length (drop at (drop 1 bytes)) ≢ 1 → (cs : List ℕ) → IsTextOf bytes cs → ⊥
+no_text_before bytes at characters begins spelled quote longer cs (spelling, e, spells) =
+    let whole : 34 ∷ drop 1 bytes ≡ 34 ∷ (spelling ++ 34 ∷ []) = sym (begins_is bytes 34 begins) ∙ e in
+    let inner : drop 1 bytes ≡ spelling ++ 34 ∷ [] = (head_is 34 34 (drop 1 bytes) (spelling ++ 34 ∷ []) whole).1 in
+    let size : length spelling ≡ at = (text_ends (drop 1 bytes) at characters spelled quote).only spelling [] cs inner spells in
+    longer (omega (arith, length-drop at (drop 1 bytes), ap length inner, length-append spelling (34 ∷ []), size))
+
+nothing_spelled : (rest more : List ℕ) → SpellText rest more → length rest ≡ 0 → more ≡ []
+nothing_spelled rest [] spells none = refl
+nothing_spelled rest (d ∷ ds) (first, others, e, spells, some, last) none =
+    absurd (omega (arith, some_spelling 34 first d spells, ap length e, length-append first others, none))
+
+-- what the characters up to the last quote are is what the bytes denote
+pub text_is_one : (bytes : List ℕ) (at : ℕ) (characters : List ℕ) → begins_with bytes 34 ≡ true → SpellsTo (drop 1 bytes) at characters
+    → begins_with (drop at (drop 1 bytes)) 34 ≡ true → length (drop at (drop 1 bytes)) ≡ 1 → FindsOne (IsTextOf bytes) (Some characters)
+text_is_one bytes at characters begins spelled quote alone = ((take at (drop 1 bytes), here, spelled.so_far), only)
+  where
+    end : drop at (drop 1 bytes) ≡ 34 ∷ drop 1 (drop at (drop 1 bytes))
+    end = begins_is (drop at (drop 1 bytes)) 34 quote
+
+    last : drop at (drop 1 bytes) ≡ 34 ∷ []
+    last = end ∙ ap (λ (x : List ℕ). 34 ∷ x) (nil_from_length (drop 1 (drop at (drop 1 bytes))) (omega (arith, ap length end, alone)))
+
+    here : bytes ≡ 34 ∷ (take at (drop 1 bytes) ++ 34 ∷ [])
+    here = begins_is bytes 34 begins ∙ ap (λ (x : List ℕ). 34 ∷ x) (sym (take-append-drop at (drop 1 bytes)) ∙ ap (λ (x : List ℕ). take at (drop 1 bytes) ++ x) last)
+
+    only : (cs : List ℕ) → IsTextOf bytes cs → cs ≡ characters
+    only cs (spelling, e, spells) =
+        let whole : 34 ∷ drop 1 bytes ≡ 34 ∷ (spelling ++ 34 ∷ []) = sym (begins_is bytes 34 begins) ∙ e in
+        let before = spelled.goes_on spelling [] cs (head_is 34 34 (drop 1 bytes) (spelling ++ 34 ∷ []) whole).1 spells in
+        let none : length before.0 ≡ 0 = omega (arith, ap length before.2, length-append before.0 (34 ∷ []), alone) in
+        before.4 ∙ ap (λ (x : List ℕ). characters ++ x) (nothing_spelled before.0 before.1 before.3 none) ∙ append-nil characters

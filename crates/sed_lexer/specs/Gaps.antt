@@ -8,6 +8,7 @@ is_line_end b = b == 10
 abbrev pub has_line_end : List ℕ → Bool
 has_line_end bytes = list_any is_line_end bytes
 
+-- a tab, a carriage return, a space or a line end
 abbrev pub is_blank : ℕ → Bool
 is_blank b = (b == 9) || (b == 13) || (b == 32) || is_line_end b
 

@@ -1,5 +1,6 @@
 -- How integers are written.
 use Rattle.std.specs.Prelude.{◌≡◌, ℕ, Bool, ◌==◌, ◌||◌, ◌⊎◌, IsTrue, List, [], ◌∷◌, ◌++◌, map, codes}
+use Rattle.std.specs.Str.{byte}
 use Rattle.sed_value.specs.Characters.{is_between, is_digit}
 use Rattle.sed_value.specs.Names.{is_first_then}
 use Rattle.sed_lexer.specs.declared.integers.TheConstants.{DECIMAL_SUFFIXES, HEX_SUFFIXES}
@@ -11,7 +12,7 @@ is_hex_digit b = is_digit b || is_between 97 102 b || is_between 65 70 b
 
 -- a digit, then digits and `_`
 abbrev pub are_digits : (ℕ → Bool) → List ℕ → Bool
-are_digits passes bytes = is_first_then passes (λ b. passes b || (b == 95)) bytes
+are_digits passes bytes = is_first_then passes (λ b. passes b || (b == byte "_")) bytes
 
 -- digits, and then nothing or one of these suffixes
 abbrev pub IsNumeral : (ℕ → Bool) → List (List ℕ) → List ℕ → Type 0

@@ -3,6 +3,8 @@ pub mod Gaps
 pub mod Words
 pub mod Integers
 pub mod Spellings
+pub mod One
+pub mod Values
 pub mod Pieces
 pub mod Lexes
 pub mod Order

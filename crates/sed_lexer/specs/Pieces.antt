@@ -1,6 +1,6 @@
 -- What the pieces of a text are: tokens, and what lies between tokens.
 use Rattle.std.specs.Prelude.{ℕ, Bool, true, ◌==◌, ◌&&◌, not, IsTrue, List, ◌∷◌, codes, Option, Some, None}
-use Rattle.std.specs.Str.{bytes_eq}
+use Rattle.std.specs.Str.{byte, bytes_eq}
 use Rattle.sed_value.specs.Characters.{is_letter_or_digit}
 use Rattle.sed_lexer.specs.declared.kind.TokenKind.{TokenKind}
 use Rattle.sed_lexer.specs.declared.kind.TokenKind.TheVariants.{Id, Key, Integer, Character, Text, Mark}
@@ -28,5 +28,5 @@ IsPiece (Some Mark) bytes = IsTrue (is_mark bytes)
 -- mark `/`, since that would begin a comment without an end.
 abbrev pub can_end : Option TokenKind → List ℕ → List ℕ → Bool
 can_end (Some Integer) bytes (b ∷ rest) = not (is_letter_or_digit b)
-can_end (Some Mark) bytes (b ∷ rest) = not (bytes_eq bytes (codes "/") && (b == 42))
+can_end (Some Mark) bytes (b ∷ rest) = not (bytes_eq bytes (codes "/") && (b == byte "*"))
 can_end kind bytes rest = true

@@ -1,6 +1,7 @@
 //! Laws of the tokens of texts.
-ghost use Rattle.std.specs.Prelude.{◌≡◌, ℕ, List};
-ghost use Rattle.sed_lexer.specs.Token.{Token};
+ghost use Rattle.std.specs.Prelude.{◌≡◌, ◌<◌, ℕ, List, length};
+ghost use Rattle.sed_lexer.specs.Token.{Token, token_at};
+ghost use Rattle.sed_lexer.specs.Pieces.{IsPiece};
 ghost use Rattle.sed_lexer.specs.Lexes.{Lexes, FaultsAt};
 ghost use Rattle.sed_lexer.specs.Order.{AreInOrder};
 
@@ -22,4 +23,9 @@ pub fn tokens_or_fault()
 /// The tokens of a text lie in it one after another, and each has at least one byte.
 pub fn tokens_are_in_order()
     ensures { (text : List ℕ) (tokens : List Token) → Lexes text tokens → AreInOrder text tokens }
+{}
+
+/// The bytes of each token are a piece of its kind.
+pub fn tokens_are_pieces()
+    ensures { (text : List ℕ) (tokens : List Token) → Lexes text tokens → (i : ℕ) → i < length tokens → IsPiece (Some (token_at tokens i).kind) (token_at tokens i).bytes }
 {}

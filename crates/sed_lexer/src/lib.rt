@@ -10,6 +10,7 @@ mod integers;
 mod kind;
 mod laws;
 mod lexing;
+mod numbers;
 mod piece;
 mod spellings;
 #[cfg(test)]
@@ -18,6 +19,10 @@ mod tokens;
 mod words;
 
 pub use kind::TokenKind;
-pub use laws::{fault_is_one, tokens_are_in_order, tokens_are_one, tokens_or_fault};
+pub use laws::{
+    fault_is_one, tokens_are_in_order, tokens_are_one, tokens_are_pieces, tokens_or_fault,
+};
 pub use lexing::{LexRefusal, lex};
+pub use numbers::{Number, integer_value};
+pub use spellings::{character_value, text_value};
 pub use tokens::Tokens;

@@ -1,12 +1,15 @@
 //! Characters and texts.
-ghost use Rattle.std.specs.Prelude.{◌≡◌, MatchOption};
+ghost use Rattle.std.specs.Prelude.{◌≡◌, ◌↔◌, [], ◌∷◌, option_map, IsTrue, IfOk, MatchOption};
 ghost use Rattle.sed_lexer.specs.Spellings as spelled;
-ghost use Rattle.sed_lexer.specs.Spellings.{IsCharacter, IsText};
+ghost use Rattle.sed_lexer.specs.Spellings.{IsCharacterOf, IsTextOf, IsCharacter, IsText};
+ghost use Rattle.sed_lexer.specs.One.{FindsOne};
 ghost use Rattle.sed_lexer.specs.Spelled.{BeginsSpelled, NoSpelling, EndsText, NoTextEnd};
 ghost use Rattle.sed_lexer.specs.Fronts as fronts;
 ghost use Rattle.sed_lexer.specs.Fronts.{FindsLongest};
 
 use crate::fronts::rest_of;
+use sed_value::Memory;
+use std::alloc::Global;
 
 // One character between quotes, and the length of its spelling.
 #[derive(Clone, Copy)]
@@ -103,4 +106,56 @@ pub fn text(text: &[u8]) -> Option<usize>
     }
     let end = text_end(rest_of(text, 1))?;
     Some(end + 2)
+}
+
+fn is_byte(bytes: &[u8], b: u8) -> bool
+    ensures { IsTrue result ↔ (bytes.now ≡ b ∷ []) }
+{
+    bytes.len() == 1 && begins_with(bytes, b)
+}
+
+/// The character that a character in quotes denotes; none where the bytes are no character in quotes.
+pub fn character_value(bytes: &[u8]) -> Option<u8>
+    ensures { FindsOne (IsCharacterOf bytes.now) result }
+{
+    if !begins_with(bytes, b'\'') {
+        return None;
+    }
+    let inner = rest_of(bytes, 1);
+    let one = read_one(b'\'', inner)?;
+    if is_byte(rest_of(inner, one.len), b'\'') {
+        Some(one.character)
+    } else {
+        None
+    }
+}
+
+/// The characters that a text in double quotes denotes; none where the bytes are no text in double quotes.
+pub fn text_value(alloc: Global, bytes: &[u8]) -> Result<Option<Vec<u8>>, Memory>
+    ensures { IfOk result (λ found. FindsOne (IsTextOf bytes.now) (option_map (λ v. v.items) found)) }
+{
+    if !begins_with(bytes, b'"') {
+        return Ok(None);
+    }
+    let inner = rest_of(bytes, 1);
+    let mut characters = Vec::new(alloc);
+    let mut at = 0;
+    'read: loop {
+        let rest = rest_of(inner, at);
+        if begins_with(rest, b'"') {
+            return if rest.len() == 1 {
+                Ok(Some(characters))
+            } else {
+                Ok(None)
+            };
+        }
+        let Some(one) = read_one(b'"', rest) else {
+            return Ok(None);
+        };
+        if one.character == 0 {
+            return Ok(None);
+        }
+        characters.push(one.character)?;
+        at += one.len;
+    }
 }

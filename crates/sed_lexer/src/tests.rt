@@ -1,5 +1,7 @@
 //! What no clause says: that a text is lexed with ample memory, and that the definitions mean what the language does.
-use crate::{LexRefusal, TokenKind, Tokens, lex};
+use crate::{
+    LexRefusal, Number, TokenKind, Tokens, character_value, integer_value, lex, text_value,
+};
 use std::process::Abort;
 use std::test::Fail;
 
@@ -179,6 +181,67 @@ const FAULTS: [(&str, usize); 20] = [
     ("a # b", 2),
 ];
 
+// An integer, and what it denotes: none above the bound of its form, and for what is no integer.
+const INTEGERS: [(&str, Option<Number>); 30] = [
+    ("0", Some(Number::Int(0))),
+    ("007", Some(Number::Int(7))),
+    ("1_000", Some(Number::Int(1000))),
+    ("2147483647", Some(Number::Int(i32::MAX))),
+    ("2147483648", Some(Number::Int(i32::MIN))),
+    ("2147483649", None),
+    ("0xFF", Some(Number::Int(255))),
+    ("0x7fff_ffff", Some(Number::Int(i32::MAX))),
+    ("0xffffffff", Some(Number::Int(-1))),
+    ("0x100000000", None),
+    ("5L", Some(Number::Long(5))),
+    ("9223372036854775807L", Some(Number::Long(i64::MAX))),
+    ("9223372036854775808L", Some(Number::Long(i64::MIN))),
+    ("9223372036854775809L", None),
+    ("99999999999999999999L", None),
+    ("0xaB_cL", Some(Number::Long(2748))),
+    ("0xffffffffffffffffL", Some(Number::Long(-1))),
+    ("0x10000000000000000L", None),
+    ("10ms", Some(Number::Long(10_000_000))),
+    ("3sec", Some(Number::Long(3_000_000_000))),
+    ("1min", Some(Number::Long(60_000_000_000))),
+    ("2hr", Some(Number::Long(7_200_000_000_000))),
+    ("106751days", Some(Number::Long(9_223_286_400_000_000_000))),
+    ("106752days", None),
+    ("9223372036854775807ns", Some(Number::Long(i64::MAX))),
+    ("9223372036854775808ns", None),
+    ("", None),
+    ("0x", None),
+    ("1LL", None),
+    ("a1", None),
+];
+
+const CHARACTERS: [(&str, Option<u8>); 14] = [
+    ("'a'", Some(b'a')),
+    ("'\"'", Some(b'"')),
+    ("'\\n'", Some(10)),
+    ("'\\r'", Some(13)),
+    ("'\\t'", Some(9)),
+    ("'\\0'", Some(0)),
+    ("'\\\\'", Some(92)),
+    ("'\\''", Some(39)),
+    ("'\\\"'", Some(34)),
+    ("'\\$'", Some(36)),
+    ("'''", None),
+    ("'a", None),
+    ("'ab'", None),
+    ("a", None),
+];
+
+const DENOTED: [(&str, Option<&str>); 7] = [
+    ("\"\"", Some("")),
+    ("\"a\\tb$\"", Some("a\tb$")),
+    ("\"\\n\\r\\\"\\'\\$\\\\\"", Some("\n\r\"'$\\")),
+    ("\"a\\0b\"", None),
+    ("\"a\"b\"", None),
+    ("\"a", None),
+    ("", None),
+];
+
 fn letter(kind: TokenKind) -> u8 {
     match kind {
         TokenKind::Id => b'I',
@@ -243,4 +306,28 @@ fn places_of_faults(rt: HostRuntime) {
         let found = lex(rt.alloc(), text.as_bytes()).err();
         assert_eq!(rt; found, Some(LexRefusal::Fault { at }), "in {text}");
     }
+}
+
+#[test]
+fn values_of_integers(rt: HostRuntime) {
+    for (text, number) in INTEGERS {
+        assert_eq!(rt; integer_value(text.as_bytes()), number, "of {text}");
+    }
+}
+
+#[test]
+fn values_of_characters(rt: HostRuntime) {
+    for (text, character) in CHARACTERS {
+        assert_eq!(rt; character_value(text.as_bytes()), character, "of {text}");
+    }
+}
+
+#[test]
+fn values_of_texts(rt: HostRuntime) -> Result<(), Fail> {
+    for (text, characters) in DENOTED {
+        let found = text_value(rt.alloc(), text.as_bytes())?;
+        let found = found.as_ref().map(|v| v.as_slice());
+        assert_eq!(rt; found, characters.map(|c| c.as_bytes()), "of {text}");
+    }
+    Ok(())
 }
