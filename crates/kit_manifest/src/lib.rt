@@ -8,13 +8,13 @@
 #![tactic(auto)]
 
 mod fault;
-//mod links;
+mod links;
 mod manifest;
-//mod order;
+mod order;
 mod reading;
 mod texts;
 
 pub use fault::ManifestFault;
 pub use manifest::{FileNames, KitNames, Manifest, Version};
-//pub use order::order_kits;
+pub use order::order_kits;
 pub use reading::read_manifest;
