@@ -1,11 +1,12 @@
 -- What was read of a table is its manifest, and the only one.
-use Rattle.std.proofs.Common.{◌≡◌, Bool, true, false, not, ◌&&◌, ◌||◌, ℕ, List, [], ◌∷◌, Option, Some, None, option_map, Result, Ok, Err, refl, sym, ap, subst, ◌∙◌}
-use Rattle.std.specs.Prelude.{MatchOption, MatchResult, is_none, is_some, ◌⊎◌, IsTrue, map, String, string_bytes}
+use Rattle.std.proofs.Common.{◌≡◌, true, false, ℕ, List, [], ◌∷◌, Option, Some, None, option_map, Result, Ok, Err, refl, sym, ap, subst, ◌∙◌}
+use Rattle.std.specs.Prelude.{MatchOption, MatchResult, map, String, string_bytes}
 use Rattle.std.specs.declared.alloc.Global.{Global}
 use Rattle.std.specs.List.{list_all}
 use Rattle.sed_value.specs.Names.{is_kit_name}
 use Rattle.toml.specs.Data.{Data, string, integer, float, boolean, datetime, array, table, Items, no_items, item, Members, as_str}
-use Rattle.kit_manifest.specs.Reading.{strings, texts_of_items, texts_of, name_in, version_in, depends_in, files_in, IsManifest, IsDocument, HasDocument, lacks_key, has_wrong_type, has_bad_name, fails, are_texts, are_kit_texts, HasWrongType, HasBadName, IsRefusal, RefusesWhere}
+use Rattle.kit_manifest.specs.Fault.{RefusesWhere}
+use Rattle.kit_manifest.specs.Reading.{strings, texts_of_items, texts_of, name_in, version_in, depends_in, files_in, IsManifest, IsDocument, HasDocument, lacks_key, has_wrong_type, has_bad_name, fails, are_texts, are_kit_texts, HasWrongType, HasBadName, IsRefusal}
 use Rattle.kit_manifest.specs.declared.fault.ManifestFault.{ManifestFault}
 use Rattle.kit_manifest.specs.declared.fault.ManifestFault.TheVariants.{NotToml, MissingKey, WrongType, BadName, UnknownKit, Cycle, RepeatedKit, Memory}
 use Rattle.std.proofs.lemmas.Bool.{and_parts}

@@ -1,6 +1,6 @@
 -- Loops over the kits of a list.
-use Rattle.std.proofs.Common.{◌≡◌, ℕ, zero, suc, ◌+◌, ◌<◌, ◌≤◌, List, [], ◌∷◌, ◌++◌, length, get_or, take, Option, Some, None, refl, sym, ap, ◌∙◌, inl, inr, subst, arith}
-use Rattle.std.specs.Prelude.{Contains, Vec, slice_get, ◌⊎◌}
+use Rattle.std.proofs.Common.{◌≡◌, ℕ, zero, suc, ◌+◌, ◌<◌, ◌≤◌, List, [], ◌∷◌, ◌++◌, length, get_or, take, Some, refl, sym, ap, ◌∙◌, inl, inr, subst, arith}
+use Rattle.std.specs.Prelude.{Contains, Vec}
 use Rattle.std.specs.Option.{option_map_or}
 use Rattle.std.specs.declared.alloc.Global.{Global}
 use Rattle.std.proofs.lemmas.Bool.{cases_eq, cases_lt, cases_order}
@@ -76,21 +76,21 @@ Linked-more kits links last place so_far needed found = record {
   so_many = omega (arith, length-append {A = Vec ℕ Global} links (last ∷ []), so_far.so_many);
   depends = λ i j link. elim (cases_order i (length links)) [
     | inl same ↦
-      let here : links_at (links ++ last ∷ []) i ≡ last.items = ap (links_at (links ++ last ∷ [])) same ∙ links_at-last links last in
-      subst (λ k. DependsOn kits k j) (sym (same ∙ so_far.so_many)) (needed j (subst (λ l. Contains l j) here link))
+        let here : links_at (links ++ last ∷ []) i ≡ last.items = ap (links_at (links ++ last ∷ [])) same ∙ links_at-last links last in
+        subst (λ k. DependsOn kits k j) (sym (same ∙ so_far.so_many)) (needed j (subst (λ l. Contains l j) here link))
     | inr (inl below) ↦ so_far.depends i j (subst (λ l. Contains l j) (links_at-before links last i below) link)
     | inr (inr above) ↦
-      let past : length (links ++ last ∷ []) ≤ i = omega (arith, length-append {A = Vec ℕ Global} links (last ∷ []), above) in
-      absurd (nothing_in j (subst (λ l. Contains l j) (links_at-past (links ++ last ∷ []) i past) link))
+        let past : length (links ++ last ∷ []) ≤ i = omega (arith, length-append {A = Vec ℕ Global} links (last ∷ []), above) in
+        absurd (nothing_in j (subst (λ l. Contains l j) (links_at-past (links ++ last ∷ []) i past) link))
   ];
   linked = λ i j below wanted. elim (cases_eq i place) [
     | inl same ↦
-      let here : links_at (links ++ last ∷ []) i ≡ last.items = ap (links_at (links ++ last ∷ [])) (same ∙ sym so_far.so_many) ∙ links_at-last links last in
-      subst (λ l. Contains l j) (sym here) (found j (subst (λ k. DependsOn kits k j) same wanted))
+        let here : links_at (links ++ last ∷ []) i ≡ last.items = ap (links_at (links ++ last ∷ [])) (same ∙ sym so_far.so_many) ∙ links_at-last links last in
+        subst (λ l. Contains l j) (sym here) (found j (subst (λ k. DependsOn kits k j) same wanted))
     | inr apart ↦
-      let before : i < length links = omega (arith, so_far.so_many, below, apart) in
-      let smaller : i < place = omega (arith, below, apart) in
-      subst (λ l. Contains l j) (sym (links_at-before links last i before)) (so_far.linked i j smaller wanted)
+        let before : i < length links = omega (arith, so_far.so_many, below, apart) in
+        let smaller : i < place = omega (arith, below, apart) in
+        subst (λ l. Contains l j) (sym (links_at-before links last i before)) (so_far.linked i j smaller wanted)
   ];
 }
 
@@ -101,7 +101,7 @@ Linked-whole kits links n so_far all most = record {
   linked = λ i j wanted. elim (cases_lt i n) [
     | inl below ↦ so_far.linked i j below wanted
     | inr past ↦
-      let outside : length kits ≤ i = omega (arith, past, most) in
-      absurd (nothing_in (name_of kits j) (subst (λ l. Contains l (name_of kits j)) (depends_of-past kits i outside) wanted.1))
+        let outside : length kits ≤ i = omega (arith, past, most) in
+        absurd (nothing_in (name_of kits j) (subst (λ l. Contains l (name_of kits j)) (depends_of-past kits i outside) wanted.1))
   ];
 }

@@ -1,13 +1,13 @@
 -- Marks on places: one more set, and how many are left.
-use Rattle.std.proofs.Common.{◌≡◌, ◌≢◌, ℕ, ◌+◌, ◌<◌, ◌≤◌, Bool, true, false, not, cond, List, [], ◌∷◌, ◌++◌, length, get_or, take, replicate, Some, refl, sym, ap, ◌∙◌, inl, inr, subst, arith, length-append}
+use Rattle.std.proofs.Common.{◌≡◌, ℕ, ◌+◌, ◌<◌, Bool, true, false, not, cond, List, [], ◌∷◌, ◌++◌, length, get_or, replicate, Some, refl, sym, ap, ◌∙◌, inl, inr, subst, arith, length-append}
 use Rattle.std.specs.Prelude.{All, Contains, ◌⊎◌}
 use Rattle.std.proofs.Math.ListN.{set}
 use Rattle.std.proofs.lemmas.Bool.{cases_eq, cases_Bool, cases_lt, false≢true}
 use Rattle.std.proofs.lemmas.List.{get_or-set_same, get_or-set_other, get_or_past, get_or-replicate, length-set, length-replicate}
-use Rattle.std.proofs.lemmas.List.Elements.{All-contains, All-append, All-more, All-weaker, All-cons, All-nil, Contains-get_or, Contains-push, Contains-push_cases, Contains-append_left, Contains-append_right}
+use Rattle.std.proofs.lemmas.List.Elements.{All-append, All-weaker, All-cons, All-nil, Contains-get_or, Contains-push, Contains-push_cases, Contains-append_left, Contains-append_right}
 use Rattle.std.proofs.lemmas.List.Sums.{sum_by-set}
 use Rattle.std.proofs.lemmas.Option.{slice_get-get_or}
-use Rattle.kit_manifest.specs.Links.{is_marked, unmarked_count, AreMarked, Reaches}
+use Rattle.kit_manifest.specs.Links.{is_marked, unmarked_count, Reaches}
 
 pub All-from_each : {X : Type 0} (P : X → Type 0) (xs : List X) → ((x : X) → Contains xs x → P x) → All P xs
 All-from_each P xs each k d within = each (get_or xs k d) (Contains-get_or xs k d within)

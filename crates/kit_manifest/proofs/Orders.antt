@@ -1,6 +1,6 @@
 -- The places that were taken so far, and what holds of an order.
-use Rattle.std.proofs.Common.{◌≡◌, ◌≢◌, ℕ, ◌<◌, Bool, true, false, List, [], ◌∷◌, ◌++◌, length, get_or, replicate, refl, sym, ap, ◌∙◌, inl, inr, subst, arith, append_assoc}
-use Rattle.std.specs.Prelude.{All, AllPairs, Contains, Vec, ◌⊎◌}
+use Rattle.std.proofs.Common.{◌≡◌, ◌≢◌, ℕ, ◌<◌, Bool, true, false, List, [], ◌∷◌, ◌++◌, length, replicate, sym, ap, ◌∙◌, inl, inr, subst, arith, append_assoc}
+use Rattle.std.specs.Prelude.{AllPairs, Contains, Vec}
 use Rattle.std.specs.declared.alloc.Global.{Global}
 use Rattle.std.proofs.Math.ListN.{set}
 use Rattle.std.proofs.lemmas.Bool.{false≢true}
@@ -9,7 +9,7 @@ use Rattle.std.proofs.lemmas.List.Elements.{All-contains, Contains-get_or, Conta
 use Rattle.std.proofs.lemmas.List.Quantifiers.{all_pairs_push}
 use Rattle.kit_manifest.specs.Links.{links_at, IsLink, is_marked, IsReady}
 use Rattle.kit_manifest.specs.Order.{IsFirst, CanBeTaken, Takes, nothing, next, IsOrder, IsPermutationOf, StandsBefore}
-use Rattle.kit_manifest.specs.Walk.{Walk, one_step, more_steps}
+use Rattle.kit_manifest.specs.Walk.{Walk}
 use Rattle.kit_manifest.proofs.Marks.{All-from_each, is_marked-set, is_marked-set_kept, is_marked-set_cases, is_marked-replicate, not_marked}
 use Rattle.kit_manifest.proofs.Walks.{Walk-within}
 
@@ -108,7 +108,7 @@ Takes-once : (n : ℕ) (Needs : ℕ → ℕ → Type 0) (order : List ℕ) → T
 Takes-once n Needs _ nothing = λ i j d earlier within. absurd (omega (arith, within))
 Takes-once n Needs _ (next taken x before first) =
     all_pairs_push (λ i j. i ≢ j) taken x (Takes-once n Needs taken before)
-      (λ k d within same. first.holds.left (subst (Contains taken) same (Contains-get_or taken k d within)))
+    (λ k d within same. first.holds.left (subst (Contains taken) same (Contains-get_or taken k d within)))
 
 pub IsOrder-permutation : (n : ℕ) (Needs : ℕ → ℕ → Type 0) (order : List ℕ) → IsOrder n Needs order → IsPermutationOf n order
 IsOrder-permutation n Needs order is = record {
@@ -123,19 +123,19 @@ Takes-before n Needs _ nothing i j (k, within, is) needs = absurd (omega (arith,
 Takes-before n Needs _ (next taken x before first) i j there needs =
     elim (Contains-push_cases taken x i there) [
       | inl earlier ↦
-        let so_far = Takes-before n Needs taken before i j earlier needs in
-        record {
-          front = so_far.front;
-          back = so_far.back ++ x ∷ [];
-          parts = ap (λ l. l ++ x ∷ []) so_far.parts ∙ append_assoc so_far.front (i ∷ so_far.back) (x ∷ []);
-          there = so_far.there;
-        }
+          let so_far = Takes-before n Needs taken before i j earlier needs in
+          record {
+            front = so_far.front;
+            back = so_far.back ++ x ∷ [];
+            parts = ap (λ l. l ++ x ∷ []) so_far.parts ∙ append_assoc so_far.front (i ∷ so_far.back) (x ∷ []);
+            there = so_far.there;
+          }
       | inr same ↦ record {
-          front = taken;
-          back = [];
-          parts = ap (λ k. taken ++ k ∷ []) same;
-          there = first.holds.met j (subst (λ k. Needs k j) (sym same) needs);
-        }
+        front = taken;
+        back = [];
+        parts = ap (λ k. taken ++ k ∷ []) same;
+        there = first.holds.met j (subst (λ k. Needs k j) (sym same) needs);
+      }
     ]
 
 pub IsOrder-before : (n : ℕ) (Needs : ℕ → ℕ → Type 0) (order : List ℕ) → IsOrder n Needs order → (i j : ℕ) → i < n → Needs i j → StandsBefore order j i

@@ -1,8 +1,9 @@
 -- The refusals of a list, and what its links give of its dependences.
-use Rattle.std.proofs.Common.{◌≡◌, ◌≢◌, ℕ, ◌+◌, ◌<◌, List, [], ◌∷◌, ◌++◌, length, get_or, Option, Some, None, Result, Ok, Err, refl, sym, ap, ◌∙◌, inl, inr, subst, arith}
-use Rattle.std.specs.Prelude.{All, Contains, MatchResult, IfOk, OnOk, IsOk, Vec, ◌⊎◌, slice_get}
+use Rattle.std.proofs.Common.{◌≡◌, ℕ, ◌<◌, List, length, Result, Ok, Err, refl, sym, ap, inl, inr, subst}
+use Rattle.std.specs.Prelude.{MatchResult, IfOk, OnOk, IsOk, Vec}
 use Rattle.std.specs.declared.alloc.Global.{Global}
 use Rattle.std.proofs.lemmas.Bool.{cases_order}
+use Rattle.kit_manifest.specs.Fault.{RefusesWhere}
 use Rattle.kit_manifest.specs.declared.manifest.Manifest.{Manifest}
 use Rattle.kit_manifest.specs.declared.fault.ManifestFault.{ManifestFault}
 use Rattle.kit_manifest.specs.declared.fault.ManifestFault.TheVariants.{NotToml, MissingKey, WrongType, BadName, UnknownKit, Cycle, RepeatedKit, Memory}
@@ -11,7 +12,6 @@ use Rattle.kit_manifest.specs.declared.links.Ordered.{Ordered}
 use Rattle.kit_manifest.specs.declared.links.Ordered.TheVariants.{Order}
 use Rattle.kit_manifest.specs.declared.links.Ordered.TheVariants as ordered
 use Rattle.kit_manifest.specs.Order.{DependsOn, HasUnknown, LeadsBack, IsRepeated, IsNowhere, IsFirst, Takes, IsOrder, IsPermutationOf, StandsBefore, UnknownAt, CycleAt, RepeatedAt, IsOrderly, IsOrderOf, IsListRefusal}
-use Rattle.kit_manifest.specs.Reading.{RefusesWhere}
 use Rattle.kit_manifest.specs.Walk.{Walk}
 use Rattle.kit_manifest.proofs.Marks.{All-from_each}
 use Rattle.kit_manifest.proofs.Walks.{Walk-map}

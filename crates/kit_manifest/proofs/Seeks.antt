@@ -1,6 +1,6 @@
 -- The search for a way back: what was reached, and what waits to be gone on from.
-use Rattle.std.proofs.Common.{◌≡◌, ℕ, ◌<◌, Bool, true, false, List, [], ◌∷◌, ◌++◌, length, replicate, sym, ◌∙◌, inl, inr, subst, arith}
-use Rattle.std.specs.Prelude.{All, Contains, Vec, ◌⊎◌, ◌↔◌}
+use Rattle.std.proofs.Common.{◌≡◌, ℕ, Bool, true, false, List, [], ◌∷◌, ◌++◌, length, replicate, sym, ◌∙◌, inl, inr, subst, arith}
+use Rattle.std.specs.Prelude.{Contains, Vec, ◌⊎◌}
 use Rattle.std.specs.declared.alloc.Global.{Global}
 use Rattle.std.proofs.lemmas.Bool.{false≢true}
 use Rattle.std.proofs.lemmas.List.{length-replicate}
@@ -46,9 +46,9 @@ pub Seeks-start : (links : List (Vec ℕ Global)) (from : ℕ) (places : List �
     → Reaches places before reached waiting_before waiting → Seeks links from reached waiting
 Seeks-start links from places before reached waiting_before waiting at none empty now =
     Seeks-first links from reached waiting
-      (subst (λ p. Reaches p (replicate (length links) false) reached [] waiting) at
-      (subst (λ b. Reaches places b reached [] waiting) none
-      (subst (λ w. Reaches places before reached w waiting) empty now)))
+    (subst (λ p. Reaches p (replicate (length links) false) reached [] waiting) at
+    (subst (λ b. Reaches places b reached [] waiting) none
+    (subst (λ w. Reaches places before reached w waiting) empty now)))
 
 pub Seeks-more : (links : List (Vec ℕ Global)) (from place : ℕ) (a b : List Bool) (w v all : List ℕ) → Seeks links from a all → all ≡ w ++ place ∷ []
     → Reaches (links_at links place) a b w v → Seeks links from b v
@@ -65,12 +65,12 @@ Seeks-more links from place a b w v all so_far popped now = record {
   first = still (links_at links from) so_far.first;
   further = λ i marked. elim (now.new_wait i marked) [
     | inl before ↦ elim (so_far.further i before) [
-        | inl waits ↦ elim (Contains-push_cases w place i (subst (λ l. Contains l i) popped waits)) [
-            | inl left ↦ inl (now.still_wait i left)
-            | inr same ↦ inr (subst (λ j. AreMarked b (links_at links j)) same now.all)
-          ]
-        | inr gone ↦ inr (still (links_at links i) gone)
+      | inl waits ↦ elim (Contains-push_cases w place i (subst (λ l. Contains l i) popped waits)) [
+        | inl left ↦ inl (now.still_wait i left)
+        | inr same ↦ inr (subst (λ j. AreMarked b (links_at links j)) same now.all)
       ]
+      | inr gone ↦ inr (still (links_at links i) gone)
+    ]
     | inr waits ↦ inl waits
   ];
 }
@@ -82,8 +82,8 @@ pub Seeks-back : (links : List (Vec ℕ Global)) (from : ℕ) (reached : List Bo
     → Walk (IsLink links) from from → is_marked reached from ≡ true
 Seeks-back links from reached waiting so_far done walk =
     Walk-within (IsLink links) (λ i. is_marked reached i ≡ true)
-      (λ i marked j link. elim (so_far.further i marked) [
-        | inl waits ↦ absurd (done i waits)
-        | inr gone ↦ All-contains (λ k. is_marked reached k ≡ true) (links_at links i) j gone link
-      ])
-      from from (λ k link. All-contains (λ i. is_marked reached i ≡ true) (links_at links from) k so_far.first link) walk
+    (λ i marked j link. elim (so_far.further i marked) [
+      | inl waits ↦ absurd (done i waits)
+      | inr gone ↦ All-contains (λ k. is_marked reached k ≡ true) (links_at links i) j gone link
+    ])
+    from from (λ k link. All-contains (λ i. is_marked reached i ≡ true) (links_at links from) k so_far.first link) walk

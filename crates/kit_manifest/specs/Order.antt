@@ -3,7 +3,7 @@ use Rattle.std.specs.Prelude.{◌≡◌, ◌≢◌, ℕ, ◌<◌, List, [], ◌�
 use Rattle.std.specs.Option.{option_map_or}
 use Rattle.kit_manifest.specs.declared.manifest.Manifest.{Manifest}
 use Rattle.kit_manifest.specs.declared.fault.ManifestFault.{ManifestFault}
-use Rattle.kit_manifest.specs.declared.fault.ManifestFault.TheVariants.{NotToml, MissingKey, WrongType, BadName, UnknownKit, Cycle, RepeatedKit, Memory}
+use Rattle.kit_manifest.specs.declared.fault.ManifestFault.TheVariants.{UnknownKit, Cycle, RepeatedKit, Memory}
 use Rattle.kit_manifest.specs.Walk.{Walk}
 
 -- The name of the kit at a place of the list, and the names that it depends on.
@@ -99,14 +99,6 @@ pub record IsOrderly (kits : List Manifest) : Type 0 where
 pub record IsOrderOf (kits : List Manifest) (places : List ℕ) : Type 0 where
   pub order : IsOrder (length kits) (DependsOn kits) places
   pub orderly : IsOrderly kits
-
--- One of the refusals of a list, or want of memory.
-abbrev pub IsOfList : ManifestFault → Type 0
-IsOfList NotToml = ⊥
-IsOfList MissingKey = ⊥
-IsOfList WrongType = ⊥
-IsOfList BadName = ⊥
-IsOfList _ = Unit {0}
 
 -- The fault is the refusal of the list, or want of memory.
 abbrev pub IsListRefusal : List Manifest → ManifestFault → Type 0

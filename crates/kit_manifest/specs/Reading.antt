@@ -1,12 +1,12 @@
 -- What a TOML document says of a kit, and when it says too little.
-use Rattle.std.specs.Prelude.{◌≡◌, ℕ, Bool, true, false, not, ◌&&◌, ◌||◌, List, [], ◌∷◌, Option, Some, None, is_some, is_none, option_map, codes, IsTrue, IsUtf8, All, MatchOption, Result, Err, ◌⊎◌}
+use Rattle.std.specs.Prelude.{◌≡◌, ℕ, Bool, true, false, not, ◌||◌, List, [], ◌∷◌, Option, Some, None, is_some, is_none, option_map, codes, IsTrue, IsUtf8, MatchOption}
 use Rattle.std.specs.List.{list_all}
 use Rattle.std.specs.Option.{option_map_or}
 use Rattle.sed_value.specs.Names.{is_kit_name}
 use Rattle.toml.specs.Data.{Data, string, array, Items, no_items, item, Members, get_member, as_str}
 use Rattle.toml.specs.Parse.{parse_document}
 use Rattle.kit_manifest.specs.declared.fault.ManifestFault.{ManifestFault}
-use Rattle.kit_manifest.specs.declared.fault.ManifestFault.TheVariants.{MissingKey, WrongType, BadName, UnknownKit, Cycle, RepeatedKit, Memory}
+use Rattle.kit_manifest.specs.declared.fault.ManifestFault.TheVariants.{MissingKey, WrongType, BadName, Memory}
 use Rattle.kit_manifest.specs.declared.manifest.Manifest.{Manifest}
 
 -- The text is the TOML document of this table.
@@ -96,22 +96,6 @@ pub record HasBadName (table : Members) : Type 0 where
   pub complete : lacks_key table ≡ false
   pub typed : has_wrong_type table ≡ false
   pub bad : has_bad_name table ≡ true
-
--- The answer is this refusal exactly where the fact holds; want of memory may come in its place.
-pub record RefusesWhere {T : Type 0} (result : Result T ManifestFault) (fault : ManifestFault) (Holds : Type 0) : Type 0 where
-  pub only : result ≡ Err fault → Holds
-  pub comes : Holds → (result ≡ Err Memory → ⊥) → result ≡ Err fault
-
--- One of the refusals of a text, or want of memory.
-abbrev pub IsOfText : ManifestFault → Type 0
-IsOfText (UnknownKit _) = ⊥
-IsOfText (Cycle _) = ⊥
-IsOfText (RepeatedKit _) = ⊥
-IsOfText _ = Unit {0}
-
--- The fault is want of memory, or the one given, and then the fact holds.
-abbrev pub IsMemoryOr : ManifestFault → ManifestFault → Type 0 → Type 0
-IsMemoryOr fault given Holds = (fault ≡ Memory) ⊎ ((fault ≡ given) × Holds)
 
 -- The fault is the refusal of the table, or want of memory.
 abbrev pub IsRefusal : Members → ManifestFault → Type 0

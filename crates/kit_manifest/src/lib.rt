@@ -18,3 +18,6 @@ pub use fault::ManifestFault;
 pub use manifest::{FileNames, KitNames, Manifest, Version};
 pub use order::order_kits;
 pub use reading::read_manifest;
+
+#[cfg(test)]
+mod tests;

@@ -1,8 +1,8 @@
 //! The order of kits.
 ghost use Rattle.std.specs.Prelude.{◌≡◌, ◌≢◌, ℕ, ◌<◌, ◌↔◌, Contains, codes, length, IfErr, IfOk, IsOk, IsTrue, MatchOption, MatchResult, OnOk};
+ghost use Rattle.kit_manifest.specs.Fault.{IsOfList, RefusesWhere};
 ghost use Rattle.kit_manifest.specs.Links.{AreLinksOf};
-ghost use Rattle.kit_manifest.specs.Order.{name_of, DependsOn, IsUnknown, HasUnknown, IsRepeated, IsNowhere, IsFirst, IsOrder, IsPermutationOf, StandsBefore, UnknownAt, CycleAt, RepeatedAt, IsOrderly, IsOrderOf, IsListRefusal, IsOfList};
-ghost use Rattle.kit_manifest.specs.Reading.{RefusesWhere};
+ghost use Rattle.kit_manifest.specs.Order.{name_of, DependsOn, IsUnknown, HasUnknown, IsRepeated, IsNowhere, IsFirst, IsOrder, IsPermutationOf, StandsBefore, UnknownAt, CycleAt, RepeatedAt, IsOrderly, IsOrderOf, IsListRefusal};
 
 use crate::fault::ManifestFault;
 use crate::links::{Ordered, order_of};

@@ -2,8 +2,9 @@
 ghost use Rattle.std.specs.Prelude.{◌≡◌, ◌≢◌, [], Some, true, map, string_bytes, IfErr, IfOk, MatchOption, MatchResult};
 ghost use Rattle.toml.specs.Data.{Members};
 ghost use Rattle.toml.specs.View.{table_view};
+ghost use Rattle.kit_manifest.specs.Fault.{RefusesWhere, IsOfText, IsMemoryOr};
 ghost use Rattle.kit_manifest.specs.declared.manifest.Manifest.{Manifest};
-ghost use Rattle.kit_manifest.specs.Reading.{IsDocument, HasDocument, IsManifest, LacksKey, HasWrongType, HasBadName, RefusesWhere, IsOfText, IsMemoryOr, IsRefusal, depends_in, texts_of, are_texts, fails};
+ghost use Rattle.kit_manifest.specs.Reading.{IsDocument, HasDocument, IsManifest, LacksKey, HasWrongType, HasBadName, IsRefusal, depends_in, texts_of, are_texts, fails};
 
 use crate::fault::ManifestFault;
 use crate::manifest::{FileNames, KitNames, Manifest, Version};

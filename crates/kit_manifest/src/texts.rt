@@ -4,7 +4,8 @@ ghost use Rattle.std.specs.List.{list_all};
 ghost use Rattle.sed_value.specs.Names.{is_kit_name};
 ghost use Rattle.toml.specs.Data.{get_member};
 ghost use Rattle.toml.specs.View.{view, table_view};
-ghost use Rattle.kit_manifest.specs.Reading.{texts_of, IsMemoryOr};
+ghost use Rattle.kit_manifest.specs.Fault.{IsMemoryOr};
+ghost use Rattle.kit_manifest.specs.Reading.{texts_of};
 
 use crate::fault::ManifestFault;
 use sed_value::KitName;

@@ -1,5 +1,5 @@
-use Rattle.std.proofs.Common.{◌≡◌, ℕ, ◌<◌, true, length, refl, sym, ap, ◌∙◌, inl, inr, arith, subst, length-set}
-use Rattle.kit_manifest.specs.Links.{IsLink, is_marked}
+use Rattle.std.proofs.Common.{true, sym, ◌∙◌, inl, inr, subst, length-set}
+use Rattle.kit_manifest.specs.Links.{IsLink}
 use Rattle.kit_manifest.specs.Walk.{Walk, one_step}
 use Rattle.kit_manifest.proofs.Marks.{is_marked-set_cases}
 use Rattle.kit_manifest.proofs.Walks.{Walk-step}

@@ -1,6 +1,5 @@
 use Rattle.std.proofs.Common.{◌+◌, arith, sym, subst, ◌∙◌, ap}
 use Rattle.std.proofs.lemmas.Bool.{false≢true}
-use Rattle.kit_manifest.specs.Order.{DependsOn}
 use Rattle.kit_manifest.proofs.Kits.{Needs, Needs-yes, Needs-not}
 use Rattle.kit_manifest.proofs.order.needs_of.Goals as goal
 use Rattle.kit_manifest.proofs.order.needs_of.Goals.{then-depends_on+in_ok-push, else-depends_on}
@@ -8,10 +7,10 @@ use Rattle.kit_manifest.proofs.order.needs_of.Goals.{then-depends_on+in_ok-push,
 pub loop-other-preserved : goal.loop-other-preserved
 loop-other-preserved c = elim c.if-depends_on.branch [
   | then-depends_on+in_ok-push w ↦
-    subst (λ needs. Needs c.args.list.now c.args.place needs (c.loop-other.other + 1)) (sym (ap (λ v. v.items) w.needs-is ∙ w.in_ok-push.ensures.items))
+      subst (λ needs. Needs c.args.list.now c.args.place needs (c.loop-other.other + 1)) (sym (ap (λ v. v.items) w.needs-is ∙ w.in_ok-push.ensures.items))
       (Needs-yes c.args.list.now c.args.place c.loop-other.needs.items c.loop-other.other c.loop-other.invariant (c.depends_on.ensures.0 w.if-depends_on.true))
   | else-depends_on w ↦
-    subst (λ needs. Needs c.args.list.now c.args.place needs (c.loop-other.other + 1)) (sym (ap (λ v. v.items) w.needs-is))
+      subst (λ needs. Needs c.args.list.now c.args.place needs (c.loop-other.other + 1)) (sym (ap (λ v. v.items) w.needs-is))
       (Needs-not c.args.list.now c.args.place c.loop-other.needs.items c.loop-other.other c.loop-other.invariant (λ depends. false≢true (sym w.if-depends_on.false ∙ c.depends_on.ensures.1 depends)))
 ]
 

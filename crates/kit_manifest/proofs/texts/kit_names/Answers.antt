@@ -15,9 +15,9 @@ loop-text-preserved c =
     let read : kit_name_in (string_bytes c.text-item.result) ≡ Some c.in-Some.name = ap kit_name_in (sym c.as_bytes.ensures.value) ∙ (sym c.read.ensures ∙ c.in-Some.is) in
     record {
       read =
-        c.in_ok-push.ensures.items
-        ∙ (ap (λ names. names ++ c.in-Some.name ∷ []) c.loop-text.invariant.read
-        ∙ (ap (λ name. map string_bytes (take c.loop-text.text-index c.args.texts.now) ++ name ∷ []) (sym (same_from_Some (is_kit_name bytes) bytes c.in-Some.name read))
-        ∙ sym (map-take_more string_bytes c.args.texts.now c.loop-text.text-index c.text-item.result c.loop-text-test.true c.text-item.is)));
+          c.in_ok-push.ensures.items
+          ∙ (ap (λ names. names ++ c.in-Some.name ∷ []) c.loop-text.invariant.read
+          ∙ (ap (λ name. map string_bytes (take c.loop-text.text-index c.args.texts.now) ++ name ∷ []) (sym (same_from_Some (is_kit_name bytes) bytes c.in-Some.name read))
+          ∙ sym (map-take_more string_bytes c.args.texts.now c.loop-text.text-index c.text-item.result c.loop-text-test.true c.text-item.is)));
       named = list_all-take_more is_kit_name string_bytes c.args.texts.now c.loop-text.text-index c.text-item.result c.loop-text-test.true c.text-item.is c.loop-text.invariant.named (true_from_Some (is_kit_name bytes) bytes c.in-Some.name read);
     }
