@@ -1,0 +1,28 @@
+//! Programs as plain data: the schema of their kits, their methods, fields, statics and texts.
+//!
+//! A `Program` is what a checked source comes to: each name in it is resolved to a number or a
+//! value, and each expression has its kind. The definitions of this crate say what its numbers mean:
+//! the fields and slots of a class with the inherited ones first, the nearest method of a name, the
+//! data size, the contents of a new object, and which programs are typed. The meaning of
+//! expressions, every engine, and the compiler stand on it.
+#![tactic(auto)]
+
+pub mod items;
+pub mod kind;
+pub mod number;
+pub mod operators;
+pub mod program;
+pub mod schema;
+pub mod statement;
+pub mod text;
+pub mod tree;
+
+pub use items::Items;
+pub use kind::Kind;
+pub use number::{SlotNo, TypeNo};
+pub use operators::{Arithmetic, Binary, Comparison, Gives, TextCall, Unary, Update, Width};
+pub use program::{Field, FieldForm, Method, Program};
+pub use schema::{ActionArg, ClassInfo, Schema, SlotForm, SlotInfo};
+pub use statement::{Label, Stmt};
+pub use text::{Bytes255, LONGEST_TEXT};
+pub use tree::{Expr, Link, Place};
