@@ -1,0 +1,9 @@
+pub mod Building
+pub mod Related
+pub mod Within
+pub mod MoreTurns
+pub mod Examples
+pub mod ObjectExamples
+pub mod StatementExamples
+pub mod CallExamples
+pub mod RootLaws

@@ -1,0 +1,15 @@
+pub mod Traps
+pub mod Values
+pub mod Operators
+pub mod Texts
+pub mod State
+pub mod Steps
+pub mod Places
+pub mod Expressions
+pub mod Statements
+pub mod Root
+pub mod Code
+pub mod Fits
+pub mod Whole
+pub mod Program
+pub mod Turns

@@ -1,0 +1,23 @@
+-- More turns.
+use Rattle.std.specs.Prelude.{ℕ, ◌+◌, ◌≤◌}
+use Rattle.sed_engine.specs.declared.call.CallEnd.{CallEnd}
+use Rattle.sed_engine.specs.declared.call.CallEnd.TheVariants.{Done, Trap}
+use Rattle.sed_engine.specs.State.{Shared}
+
+abbrev pub more_shared : ℕ → Shared → Shared
+more_shared k s = record { contents = s.contents; statics = s.statics; turns = s.turns + k; moment = s.moment }
+
+-- a call that ended normally left no more turns than these
+abbrev pub LeavesAtMost : CallEnd → ℕ → Type 0
+LeavesAtMost (Done left) turns = left ≤ turns
+LeavesAtMost (Trap number) turns = Unit {0}
+
+-- a call that ended normally with so many more turns left
+abbrev pub with_more : ℕ → CallEnd → CallEnd
+with_more k (Done left) = Done (left + k)
+with_more k (Trap number) = Trap number
+
+-- a call ended normally
+abbrev pub IsDone : CallEnd → Type 0
+IsDone (Done left) = Unit {0}
+IsDone (Trap number) = ⊥

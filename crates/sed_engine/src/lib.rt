@@ -1,0 +1,17 @@
+//! What a code means, and what an engine is.
+//!
+//! The definitions say what expressions, statements and root calls of a program do. A code is one
+//! record of definitions: its schema, the fields of its classes, the contents of new objects and of
+//! the statics, data sizes, and its root call. `Engine` keeps objects of such a code and runs root
+//! calls on them; everything above speaks of a code through this trait alone.
+#![tactic(auto)]
+
+pub mod call;
+pub mod engine;
+pub mod laws;
+pub mod trap;
+
+pub use call::{AddRefusal, CallEnd, Callback, Place, Root};
+pub use engine::Engine;
+pub use laws::{more_turns_end_alike, paths_stay, turns_do_not_grow};
+pub use trap::Trap;
