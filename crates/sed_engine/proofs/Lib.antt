@@ -6,4 +6,5 @@ pub mod Examples
 pub mod ObjectExamples
 pub mod StatementExamples
 pub mod CallExamples
+pub mod KeepsFit
 pub mod RootLaws

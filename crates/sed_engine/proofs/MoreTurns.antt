@@ -118,7 +118,8 @@ closed : (k : ℕ) (w : Setting) → CallsSame k w.calls → Closed (Same k) w
 closed k w calls = record {
   follow = then_same;
   answer = λ r. record { ends = λ s u. refl };
-  of_read_local = λ i. record { ends = λ s u. refl };
+  of_read_local = λ kind i. record { ends = λ s u. refl };
+  of_this = record { ends = λ s u. refl };
   of_write_local = λ i v. record { ends = λ s u. refl };
   of_read_spot = λ spot. record { ends = λ s u. ap (λ (v : Value). gives (read_as v) (more k s)) (kept_more spot k s.shared) };
   of_write_spot = λ p spot v. record {

@@ -1,6 +1,7 @@
 -- What holds of each step holds of every expression and statement: one induction for all laws of that form.
 use Rattle.std.proofs.Common.{ℕ, suc, ◌+◌, ◌-◌, Bool, true, false, if◌then◌else◌, List, [], ◌∷◌, drop, length, replicate, slice_set, zero, Option, Some, None, Result, Ok}
 use Rattle.sed_value.specs.declared.slot_type.Primitive.{Primitive}
+use Rattle.sed_typed.specs.declared.kind.Kind.{Kind}
 use Rattle.sed_typed.specs.declared.operators.TextCall.{TextCall}
 use Rattle.sed_typed.specs.declared.operators.TextCall.TheVariants as text
 use Rattle.sed_typed.specs.declared.tree.Place.{Place}
@@ -15,7 +16,7 @@ use Rattle.sed_engine.specs.declared.trap.Trap.{Trap}
 use Rattle.sed_engine.specs.Values.{Val, Nothing, Int, At, Null, Literal, Truth, Long, Spot, whole, truth, is_met, spot_of, zero_of}
 use Rattle.sed_engine.specs.Texts.{index_within, with_character}
 use Rattle.sed_engine.specs.State.{State, End, gives, answers, then_do}
-use Rattle.sed_engine.specs.Steps.{inside, read_spot, write_spot, read_bytes, write_bytes, read_local, write_local, read_moment, take_turn}
+use Rattle.sed_engine.specs.Steps.{inside, read_spot, write_spot, read_bytes, write_bytes, read_local, read_this, write_local, read_moment, take_turn}
 use Rattle.sed_engine.specs.Places.{Target, OfLocal, OfStatic, OfField, OfElement, static_spot, element_spot, field_spot, fetch, put}
 use Rattle.sed_engine.specs.Expressions.{Setting, back, put_all, new_frame, frame_of, call, call_static, call_super, invoke, method_for, text_bytes, changeable, operand, text_call, buf_bytes, in_chain, eval, locate, meaning, evals, meanings}
 use Rattle.sed_engine.specs.Statements.{Flow, Next, Break, Continue, Return, Round, Again, Over, Answer, follows, in_order, after_body, round, do_round, rounds, label_of, eval_or, exec, execs}
@@ -32,7 +33,8 @@ data AllLinksHave (R : (A : Type 0) → (State → End A) → Type 0) : List (Va
 pub record Closed (R : (A : Type 0) → (State → End A) → Type 0) (w : Setting) : Type 1 where
   pub follow : {A B : Type 0} {f : State → End A} {h : A → State → End B} → R A f → ((a : A) → R B (h a)) → R B (λ s. then_do (f s) h)
   pub answer : {A : Type 0} (r : Result A Trap) → R A (λ s. answers r s)
-  pub of_read_local : (i : ℕ) → R Val (λ s. read_local i s)
+  pub of_read_local : (kind : Kind) (i : ℕ) → R Val (λ s. read_local kind i s)
+  pub of_this : R Val (λ s. read_this s)
   pub of_write_local : (i : ℕ) (v : Val) → R Val (λ s. write_local i v s)
   pub of_read_spot : (spot : Spot) → R Val (λ s. read_spot spot s)
   pub of_write_spot : (p : Primitive) (spot : Spot) (v : Val) → R Val (λ s. write_spot p spot v s)
@@ -66,7 +68,7 @@ module _ (R : (A : Type 0) → (State → End A) → Type 0) (w : Setting) (c : 
   of_static m es all = c.follow (of_put_all 0 es new_frame all) (λ frame. of_call m frame)
 
   of_super : (m : ℕ) (es : List (State → End Val)) → AllHave R Val es → R Val (call_super w m es)
-  of_super m es all = c.follow (c.of_read_local 0) (λ this. c.follow (of_put_all 1 es (frame_of this) all) (λ frame. of_call m frame))
+  of_super m es all = c.follow c.of_this (λ this. c.follow (of_put_all 1 es (frame_of this) all) (λ frame. of_call m frame))
 
   of_invoke : (v : Val) (m : ℕ) (es : List (State → End Val)) → AllHave R Val es → R Val (invoke w v m es)
   of_invoke v m es all = c.follow (of_put_all 1 es (frame_of v) all) (λ frame. c.follow (c.answer (spot_of v)) (λ spot. of_call (method_for w spot m) frame))
@@ -78,13 +80,13 @@ module _ (R : (A : Type 0) → (State → End A) → Type 0) (w : Setting) (c : 
   of_element count v index = c.follow (c.answer (spot_of v)) (λ spot. c.follow (c.answer (index_within count (whole index))) (λ i. give (inside spot i)))
 
   of_fetch : (t : Target) → R Val (fetch t)
-  of_fetch (OfLocal i) = c.of_read_local i
+  of_fetch (OfLocal kind i) = c.of_read_local kind i
   of_fetch (OfStatic p i) = c.of_read_spot (static_spot i)
   of_fetch (OfField p v i) = c.follow (of_field v i) c.of_read_spot
   of_fetch (OfElement p count v index) = c.follow (of_element count v index) c.of_read_spot
 
   of_put : (t : Target) (v : Val) → R Val (put t v)
-  of_put (OfLocal i) v = c.of_write_local i v
+  of_put (OfLocal kind i) v = c.of_write_local i v
   of_put (OfStatic p i) v = c.of_write_spot p (static_spot i) v
   of_put (OfField p o i) v = c.follow (of_field o i) (λ spot. c.of_write_spot p spot v)
   of_put (OfElement p count o index) v = c.follow (of_element count o index) (λ spot. c.of_write_spot p spot v)
@@ -115,8 +117,8 @@ module _ (R : (A : Type 0) → (State → End A) → Type 0) (w : Setting) (c : 
     of_expr (expr.Bool t) = give _
     of_expr (expr.Null kind) = give _
     of_expr (expr.Text n) = give _
-    of_expr (expr.This class) = c.of_read_local 0
-    of_expr (expr.Local kind i) = c.of_read_local i
+    of_expr (expr.This class) = c.of_this
+    of_expr (expr.Local kind i) = c.of_read_local kind i
     of_expr (expr.Static p i) = c.of_read_spot (static_spot i)
     of_expr (expr.StaticPart kind i) = give _
     of_expr expr.Ticks = c.of_moment

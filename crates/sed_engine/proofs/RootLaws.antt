@@ -8,6 +8,7 @@ use Rattle.sed_engine.specs.State.{Shared}
 use Rattle.sed_engine.specs.Expressions.{Called}
 use Rattle.sed_engine.specs.Root.{RootEnd, run_root, end_of, root_frame, most_frames, calls_with}
 use Rattle.sed_engine.specs.Turns.{more_shared, LeavesAtMost, IsDone, with_more}
+use Rattle.sed_engine.proofs.KeepsFit.{Forms, FitsNow, calls_fit}
 use Rattle.sed_engine.proofs.Within.{Within, calls_keep}
 use Rattle.sed_engine.proofs.MoreTurns.{Unspent, calls_same}
 
@@ -54,3 +55,10 @@ run_alike program class k (Some m) argument s d =
       statics = ap (λ (x : Called). x.shared.statics) same;
       left = ap (λ (x : Called). end_of x.result x.shared.turns) same ∙ end_more c.result c.shared.turns k;
     }
+
+pub run_fits : (forms : Forms) (program : Program) (class : ℕ) (m : Option ℕ) (argument : Value) (s : Shared) → FitsNow forms s →
+    FitsNow forms (record { contents = (run_root program class m argument s).contents; statics = (run_root program class m argument s).statics; turns = s.turns; moment = s.moment })
+run_fits forms program class None argument s fits = record { contents = fits.contents; statics = fits.statics }
+run_fits forms program class (Some m) argument s fits =
+    let h = (calls_fit forms program class most_frames).keeps m (root_frame argument) s fits in
+    record { contents = h.contents; statics = h.statics }

@@ -127,3 +127,28 @@ falls_to_last p = refl
 falls_to_default : (p : Pointer) → outcome (run (falling p 7) 10) (1 ∷ []) ≡ done 10 (10 ∷ [])
 unfolding falling calls_with int_wrap
 falls_to_default p = refl
+
+-- switch (2) { case 1: int i = 5  case 2: i = i + 1; y = i }: a declaration that was jumped over leaves 0
+jumped : Pointer → Program
+jumped p = simple (int_field ∷ [])
+    (stmt.Switch' (int 2) (labels p) (three p)
+    (more_of-Stmt (stmt.Local kind.Int 1 (Some (int 5))) (more_of-Stmt stmt.Empty (more_of-Stmt (block p (stmt.Do (step_i p)) (set_y p local_i)) end_of-Stmt))))
+
+jumped_is : (p : Pointer) → outcome (run (jumped p) 10) (1 ∷ []) ≡ done 10 (1 ∷ [])
+unfolding jumped step_i local_i calls_with int_wrap
+jumped_is p = refl
+
+-- for (int i = 0; i < n; i++) y = i
+filling : Pointer → ℕ → Program
+filling p n = simple (int_field ∷ [])
+    (stmt.For' p (stmt.Local kind.Int 1 (Some (int 0))) (Some (is p local_i comparison.Less (int n))) (Some (step_i p)) p (set_y p local_i))
+
+-- 10,000 rounds with 10,000 turns
+fills : (p : Pointer) → outcome (run (filling p 10000) 10000) (1 ∷ []) ≡ done 0 (9999 ∷ [])
+unfolding filling step_i local_i calls_with loop int_wrap
+fills p = refl
+
+-- one round more than turns
+fills_out : (p : Pointer) → outcome (run (filling p 10001) 10000) (1 ∷ []) ≡ trapped 4 (9999 ∷ [])
+unfolding filling step_i local_i calls_with loop int_wrap
+fills_out p = refl

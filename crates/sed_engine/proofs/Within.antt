@@ -6,9 +6,9 @@ use Rattle.sed_typed.specs.declared.kind.Kind.{Kind}
 use Rattle.sed_typed.specs.declared.statement.Stmt.{Stmt}
 use Rattle.sed_typed.specs.declared.program.Method.{Method}
 use Rattle.sed_typed.specs.declared.program.Program.{Program}
-use Rattle.sed_typed.specs.Contents.{Contents, Path, with_value}
+use Rattle.sed_typed.specs.Contents.{Contents, Path, changed_at}
 use Rattle.sed_engine.specs.declared.trap.Trap.{Trap}
-use Rattle.sed_engine.specs.Values.{Val, Base, Component, Statics, stored_as}
+use Rattle.sed_engine.specs.Values.{Val, Base, Component, Statics, stored_as, stored_over}
 use Rattle.sed_engine.specs.State.{Shared, State, End, after, then_do}
 use Rattle.sed_engine.specs.Steps.{written_at}
 use Rattle.sed_engine.specs.Expressions.{Setting, Calls}
@@ -40,13 +40,13 @@ after_keeps (Err x) s t h each w = w
 then_keeps : {A B : Type 0} {f : State → End A} {h : A → State → End B} → Keeps A f → ((a : A) → Keeps B (h a)) → Keeps B (λ s. then_do (f s) h)
 then_keeps {A} {B} {f} {h} first rest = record { keeps = λ s. after_keeps (f s).result s.shared (f s).state h rest (first.keeps s) }
 
-paths-with_value : (m : Contents) (path : Path) (v : Value) → paths (with_value m path v) ≡ paths m
-paths-with_value [] path v = refl
-paths-with_value (e ∷ es) path v = ap (λ (rest : List Path). e.0 ∷ rest) (paths-with_value es path v)
+paths-changed_at : (m : Contents) (path : Path) (change : Value → Value) → paths (changed_at m path change) ≡ paths m
+paths-changed_at [] path change = refl
+paths-changed_at (e ∷ es) path change = ap (λ (rest : List Path). e.0 ∷ rest) (paths-changed_at es path change)
 
 written_within : (base : Base) (path : Path) (v : Value) (s : Shared) → Within s (written_at base path v s)
-written_within Component path v s = record { turns = omega arith; contents = paths-with_value s.contents path v; statics = refl }
-written_within Statics path v s = record { turns = omega arith; contents = refl; statics = paths-with_value s.statics path v }
+written_within Component path v s = record { turns = omega arith; contents = paths-changed_at s.contents path (stored_over v); statics = refl }
+written_within Statics path v s = record { turns = omega arith; contents = refl; statics = paths-changed_at s.statics path (stored_over v) }
 
 pub record CallsKeep (c : Calls) : Type 0 where
   pub keeps : (m : ℕ) (frame : List Val) (s : Shared) → Within s (c m frame s).shared
@@ -65,7 +65,8 @@ closed : (w : Setting) → CallsKeep w.calls → Closed Keeps w
 closed w calls = record {
   follow = then_keeps;
   answer = λ r. record { keeps = λ s. within_self s.shared };
-  of_read_local = λ i. record { keeps = λ s. within_self s.shared };
+  of_read_local = λ kind i. record { keeps = λ s. within_self s.shared };
+  of_this = record { keeps = λ s. within_self s.shared };
   of_write_local = λ i v. record { keeps = λ s. within_self s.shared };
   of_read_spot = λ spot. record { keeps = λ s. within_self s.shared };
   of_write_spot = λ p spot v. record { keeps = λ s. written_within spot.base spot.path (stored_as p v) s.shared };

@@ -18,7 +18,7 @@ use Rattle.sed_engine.specs.declared.trap.Trap.TheVariants.{OutOfRange}
 use Rattle.sed_engine.specs.Values.{Val, Nothing, Truth, Int, Long, Null, At, Literal, Base, Component, Statics, Spot, whole, truth, is_met, spot_of}
 use Rattle.sed_engine.specs.Operators.{arithmetic_of, binary_of, unary_of, given}
 use Rattle.sed_engine.specs.State.{Shared, State, End, gives, answers, then_do}
-use Rattle.sed_engine.specs.Steps.{read_spot, read_bytes, write_bytes, read_local, read_moment, take_turn}
+use Rattle.sed_engine.specs.Steps.{read_spot, read_bytes, write_bytes, read_local, read_this, read_moment, take_turn}
 use Rattle.sed_engine.specs.Places.{Target, OfLocal, OfStatic, OfField, OfElement, static_spot, elements_of, element_spot, field_spot, fetch, put}
 use Rattle.sed_engine.specs.Texts.{index_within, characters, literal_bytes, with_character, filled}
 
@@ -63,7 +63,7 @@ call_static w method args s = then_do (put_all 0 args new_frame s) (λ frame s1.
 -- of the method that is named, on the receiver of the frame
 abbrev pub call_super : Setting → ℕ → List (State → End Val) → State → End Val
 call_super w method args s =
-    then_do (read_local 0 s) (λ this s1. then_do (put_all 1 args (frame_of this) s1) (λ frame s2. call w method frame s2))
+    then_do (read_this s) (λ this s1. then_do (put_all 1 args (frame_of this) s1) (λ frame s2. call w method frame s2))
 
 -- the class of the object at a place
 abbrev pub class_of : Setting → Spot → Option ℕ
@@ -138,8 +138,8 @@ abbrev mutual
   eval w (expr.Bool t) s = gives (Truth t) s
   eval w (expr.Null kind) s = gives Null s
   eval w (expr.Text n) s = gives (Literal n) s
-  eval w (expr.This class) s = read_local 0 s
-  eval w (expr.Local kind i) s = read_local i s
+  eval w (expr.This class) s = read_this s
+  eval w (expr.Local kind i) s = read_local kind i s
   eval w (expr.Static p i) s = read_spot (static_spot i) s
   eval w (expr.StaticPart kind i) s = gives (At (static_spot i)) s
   eval w expr.Ticks s = read_moment s
@@ -154,7 +154,7 @@ abbrev mutual
 
   -- the receiver, then the index
   pub locate : Setting → Place → State → End Target
-  locate w (place.Local kind i) s = gives (OfLocal i) s
+  locate w (place.Local kind i) s = gives (OfLocal kind i) s
   locate w (place.Static p i) s = gives (OfStatic p i) s
   locate w (place.Field' p q e i) s = then_do (eval w e s) (λ object s1. gives (OfField p object i) s1)
   locate w (place.Element' p count q e r i) s = then_do (eval w e s) (λ array s1. then_do (eval w i s1) (λ index s2. gives (OfElement p count array index) s2))

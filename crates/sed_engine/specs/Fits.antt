@@ -1,5 +1,5 @@
 -- Contents that fit the fields of their class.
-use Rattle.std.specs.Prelude.{ℕ, ◌≡◌, ◌==◌, ◌-◌, ◌&&◌, nat_lt, nat_le, Bool, false, IsTrue, All, if◌then◌else◌, List, [], ◌∷◌, length, map, slice_get, slice_index_or, Option, Some, None}
+use Rattle.std.specs.Prelude.{ℕ, ◌≡◌, ◌==◌, ◌&&◌, nat_lt, nat_le, Bool, false, IsTrue, if◌then◌else◌, List, [], ◌∷◌, length, map, slice_get, Option, Some, None}
 use Rattle.std.specs.List.{list_all}
 use Rattle.std.specs.Option.{option_map, option_map_or}
 use Rattle.sed_value.specs.Value.{is_of_type}
@@ -8,6 +8,7 @@ use Rattle.sed_value.specs.declared.value.Value.TheVariants as kept
 use Rattle.sed_value.specs.declared.slot_type.SlotType.TheVariants as slot
 use Rattle.sed_typed.specs.declared.program.FieldForm.{FieldForm}
 use Rattle.sed_typed.specs.declared.program.FieldForm.TheVariants.{Prim, Str, Buf, Array, Object}
+use Rattle.sed_engine.specs.Values.{are_bytes, last_byte}
 use Rattle.sed_typed.specs.Contents.{Path, Contents, Shape}
 
 -- the form of a field by its number
@@ -33,13 +34,10 @@ abbrev pub form_of : (ℕ → List Shape) → List Shape → Path → Option Fie
 form_of fields shapes [] = None
 form_of fields shapes (i ∷ path) = form_below fields path (form_at shapes i)
 
-abbrev pub are_bytes : List ℕ → Bool
-are_bytes = list_all (λ b. nat_lt b 256)
-
 -- a value that a field of this form keeps; an array and an object keep none of their own
 abbrev pub keeps : FieldForm → Value → Bool
 keeps (Prim p) v = is_of_type (slot.Prim p) v
-keeps (Str n) (kept.Buf bytes) = are_bytes bytes && (length bytes == n) && (slice_index_or bytes (n - 1) 0 == 0)
+keeps (Str n) (kept.Buf bytes) = are_bytes bytes && (length bytes == n) && (last_byte bytes == 0)
 keeps (Str n) v = false
 keeps (Buf n) (kept.Buf bytes) = are_bytes bytes && nat_le (length bytes) n
 keeps (Buf n) v = false
@@ -49,7 +47,11 @@ keeps (Object t) v = false
 abbrev pub is_kept : Option FieldForm → Value → Bool
 is_kept form v = option_map_or (λ f. keeps f v) form false
 
+-- each value is of the form at its path
+abbrev pub all_kept : (Path → Option FieldForm) → Contents → Bool
+all_kept form contents = list_all (λ e. is_kept (form e.0) e.1) contents
+
 -- the paths are those of first contents, in their order, and each value is of the form at its path
 pub record Fits (fields : ℕ → List Shape) (shapes : List Shape) (first contents : Contents) : Type 0 where
   pub paths : map (λ e. e.0) contents ≡ map (λ e. e.0) first
-  pub values : All (λ e. IsTrue (is_kept (form_of fields shapes e.0) e.1)) contents
+  pub values : IsTrue (all_kept (form_of fields shapes) contents)

@@ -1,6 +1,7 @@
 -- What may be assigned to, once its receiver and index are evaluated.
 use Rattle.std.specs.Prelude.{ℕ, [], ◌∷◌}
 use Rattle.sed_value.specs.declared.slot_type.Primitive.{Primitive}
+use Rattle.sed_typed.specs.declared.kind.Kind.{Kind}
 use Rattle.sed_engine.specs.Values.{Val, At, Null, Spot, Statics, whole, spot_of}
 use Rattle.sed_engine.specs.State.{State, End, gives, answers, then_do}
 use Rattle.sed_engine.specs.Steps.{inside, read_spot, write_spot, read_local, write_local}
@@ -8,7 +9,7 @@ use Rattle.sed_engine.specs.Texts.{index_within}
 
 -- a place to read or to store; neither null nor the index is tested yet
 pub data Target : Type 0 where
-  OfLocal : ℕ → Target
+  OfLocal : Kind → ℕ → Target
   OfStatic : Primitive → ℕ → Target
   OfField : Primitive → Val → ℕ → Target
   OfElement : Primitive → ℕ → Val → Val → Target
@@ -32,14 +33,14 @@ field_spot object i s = then_do (answers (spot_of object) s) (λ spot s1. gives 
 
 -- reads a target, with its tests
 abbrev pub fetch : Target → State → End Val
-fetch (OfLocal i) s = read_local i s
+fetch (OfLocal kind i) s = read_local kind i s
 fetch (OfStatic p i) s = read_spot (static_spot i) s
 fetch (OfField p object i) s = then_do (field_spot object i s) (λ spot s1. read_spot spot s1)
 fetch (OfElement p count array index) s = then_do (element_spot count array index s) (λ spot s1. read_spot spot s1)
 
 -- stores into a target, with its tests
 abbrev pub put : Target → Val → State → End Val
-put (OfLocal i) v s = write_local i v s
+put (OfLocal kind i) v s = write_local i v s
 put (OfStatic p i) v s = write_spot p (static_spot i) v s
 put (OfField p object i) v s = then_do (field_spot object i s) (λ spot s1. write_spot p spot v s1)
 put (OfElement p count array index) v s = then_do (element_spot count array index s) (λ spot s1. write_spot p spot v s1)

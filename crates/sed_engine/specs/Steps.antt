@@ -4,10 +4,11 @@ use Rattle.std.specs.Option.{option_map_or}
 use Rattle.sed_value.specs.declared.value.Value.{Value}
 use Rattle.sed_value.specs.declared.value.Value.TheVariants as kept
 use Rattle.sed_value.specs.declared.slot_type.Primitive.{Primitive}
-use Rattle.sed_typed.specs.Contents.{Contents, value_at, with_value}
+use Rattle.sed_typed.specs.declared.kind.Kind.{Kind}
+use Rattle.sed_typed.specs.Contents.{Contents, value_at, changed_at}
 use Rattle.sed_engine.specs.declared.trap.Trap.{Trap}
 use Rattle.sed_engine.specs.declared.trap.Trap.TheVariants.{TurnsSpent}
-use Rattle.sed_engine.specs.Values.{Val, Nothing, Long, Base, Component, Statics, Spot, read_as, stored_as}
+use Rattle.sed_engine.specs.Values.{Val, Nothing, Long, Base, Component, Statics, Spot, read_as, stored_as, stored_over, begun}
 use Rattle.sed_engine.specs.State.{Shared, State, End, gives}
 
 -- the place of a field or an element
@@ -24,9 +25,9 @@ kept_at spot s = option_map_or (λ v. v) (value_at (contents_of spot.base s) spo
 
 abbrev pub written_at : Base → List ℕ → Value → Shared → Shared
 written_at Component path v s =
-    record { contents = with_value s.contents path v; statics = s.statics; turns = s.turns; moment = s.moment }
+    record { contents = changed_at s.contents path (stored_over v); statics = s.statics; turns = s.turns; moment = s.moment }
 written_at Statics path v s =
-    record { contents = s.contents; statics = with_value s.statics path v; turns = s.turns; moment = s.moment }
+    record { contents = s.contents; statics = changed_at s.statics path (stored_over v); turns = s.turns; moment = s.moment }
 
 abbrev pub read_spot : Spot → State → End Val
 read_spot spot s = gives (read_as (kept_at spot s.shared)) s
@@ -48,8 +49,12 @@ abbrev pub write_bytes : Spot → List ℕ → State → End Val
 write_bytes spot bytes s =
     gives Nothing (record { shared = written_at spot.base spot.path (kept.Buf bytes) s.shared; locals = s.locals })
 
-abbrev pub read_local : ℕ → State → End Val
-read_local i s = gives (slice_index_or s.locals i Nothing) s
+abbrev pub read_local : Kind → ℕ → State → End Val
+read_local kind i s = gives (begun kind (slice_index_or s.locals i Nothing)) s
+
+-- the receiver stands in local 0
+abbrev pub read_this : State → End Val
+read_this s = gives (slice_index_or s.locals 0 Nothing) s
 
 abbrev pub write_local : ℕ → Val → State → End Val
 write_local i v s = gives v (record { shared = s.shared; locals = slice_set s.locals i v })

@@ -1,11 +1,13 @@
 -- The values that expressions come to, and how they are kept.
-use Rattle.std.specs.Prelude.{ℕ, ◌==◌, ◌&&◌, ℤ, pos, Bool, true, false, not, if◌then◌else◌, Result, Ok, Err}
+use Rattle.std.specs.Prelude.{ℕ, ◌-◌, ◌==◌, ◌&&◌, ◌||◌, ℤ, pos, Bool, true, false, not, nat_lt, if◌then◌else◌, List, length, slice_index, Result, Ok, Err}
+use Rattle.std.specs.List.{list_all}
 use Rattle.std.specs.Str.{bytes_eq}
-use Rattle.sed_value.specs.Value.{stored, widened}
+use Rattle.sed_value.specs.Value.{stored, widened, is_of_type}
 use Rattle.sed_value.specs.declared.slot_type.SlotType.TheVariants.{Prim}
 use Rattle.sed_value.specs.declared.value.Value.{Value}
 use Rattle.sed_value.specs.declared.value.Value.TheVariants as kept
 use Rattle.sed_value.specs.declared.slot_type.Primitive.{Primitive}
+use Rattle.sed_value.specs.declared.slot_type.Primitive.TheVariants as prim
 use Rattle.sed_typed.specs.declared.kind.Kind.{Kind}
 use Rattle.sed_typed.specs.declared.kind.Kind.TheVariants as kind
 use Rattle.sed_typed.specs.Contents.{Path}
@@ -92,6 +94,31 @@ value_of v = kept.Nothing
 abbrev pub stored_as : Primitive → Val → Value
 stored_as p v = stored (Prim p) (value_of v)
 
+abbrev pub are_bytes : List ℕ → Bool
+are_bytes = list_all (λ b. nat_lt b 256)
+
+abbrev pub last_byte : List ℕ → ℕ
+last_byte bytes = slice_index bytes (length bytes - 1)
+
+-- bytes that may stand where others are: as many, and with a last 0 where there was one
+abbrev pub are_alike : List ℕ → Value → Bool
+are_alike old (kept.Buf new) = are_bytes new && (length new == length old) && (not (last_byte old == 0) || (last_byte new == 0))
+are_alike old v = false
+
+-- a value that may stand where another is: it is of the same type
+abbrev pub is_alike : Value → Value → Bool
+is_alike (kept.Bool t) v = is_of_type (Prim prim.Bool) v
+is_alike (kept.Byte n) v = is_of_type (Prim prim.Byte) v
+is_alike (kept.Short n) v = is_of_type (Prim prim.Short) v
+is_alike (kept.Int n) v = is_of_type (Prim prim.Int) v
+is_alike (kept.Long n) v = is_of_type (Prim prim.Long) v
+is_alike (kept.Buf bytes) v = are_alike bytes v
+is_alike kept.Nothing v = false
+
+-- what stands after a store: the new value, or by default, to which no typed program comes, the old one
+abbrev pub stored_over : Value → Value → Value
+stored_over new old = if is_alike old new then new else old
+
 -- what a local without an initial value, and a method that does not return, have: 0, false or null
 abbrev pub zero_of : Kind → Val
 zero_of kind.Void = Nothing
@@ -102,3 +129,8 @@ zero_of kind.Text = Null
 zero_of (kind.Object class) = Null
 zero_of (kind.Array p n) = Null
 zero_of (kind.Buf n) = Null
+
+-- a local that was not begun is 0, false or null too
+abbrev pub begun : Kind → Val → Val
+begun kind Nothing = zero_of kind
+begun kind v = v

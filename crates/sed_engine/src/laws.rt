@@ -5,6 +5,8 @@ ghost use Rattle.sed_typed.specs.declared.program.Program.{Program};
 ghost use Rattle.sed_typed.specs.Contents.{Contents};
 ghost use Rattle.sed_engine.specs.declared.call.Root.{Root as AnyRoot};
 ghost use Rattle.sed_engine.specs.Root.{root};
+ghost use Rattle.sed_engine.specs.Program.{meaning_of};
+ghost use Rattle.sed_engine.specs.Whole.{RootFits};
 ghost use Rattle.sed_engine.specs.Turns.{LeavesAtMost, IsDone, with_more};
 
 /// A root call that ends normally leaves no more turns than it was given.
@@ -32,4 +34,9 @@ pub fn more_turns_end_alike()
     ensures left { (program : Program) (class : ℕ) (contents statics : Contents) (which : AnyRoot) (argument : Value) (turns more : ℕ) (moment : ℤ) →
         IsDone (root program class contents statics which argument turns moment).end →
         (root program class contents statics which argument (turns + more) moment).end ≡ with_more more (root program class contents statics which argument turns moment).end }
+{}
+
+/// What a root call leaves fits, where the contents, the statics and the argument that it was given fit.
+pub fn what_is_left_fits()
+    ensures { (program : Program) → RootFits (meaning_of program) }
 {}
