@@ -1,0 +1,3 @@
+pub mod TinyLemmas
+pub mod WholeSys
+pub mod CallerLemmas

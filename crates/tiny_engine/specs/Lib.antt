@@ -1,0 +1,2 @@
+pub mod Sys
+pub mod Tiny

@@ -1,0 +1,74 @@
+//! A caller that knows an engine by its trait alone, and its use at the tiny engine.
+ghost use Rattle.std.specs.Prelude.{◌≡◌, ◌≢◌, ℕ, ◌<◌, IsTrue, IfOk, OnErr};
+ghost use Rattle.std.specs.FinMap as map;
+ghost use Rattle.sed_engine.specs.Code.{is_creatable, may_store, new_object, slot_value, with_slot};
+
+use crate::tiny::{Tiny, int_kept};
+use sed_engine::{AddRefusal, Engine, Place};
+use sed_typed::{SlotNo, TypeNo};
+use sed_value::{SlotBuf, Value};
+use std::alloc::Global;
+
+/// Makes an object, stores a value in one of its properties, and reads it back into `out`.
+///
+/// The other places stay. A refusal changes nothing.
+pub fn make_with<E: Engine>(
+    engine: &mut E,
+    t: TypeNo,
+    s: SlotNo,
+    v: &SlotBuf,
+    out: &mut SlotBuf,
+) -> Result<Place, AddRefusal>
+    requires creatable { IsTrue (is_creatable (E.meaning engine.old) t.0) }
+    requires few { map.len (E.live engine.old) < 4096 }
+    requires goes { IsTrue (may_store (E.meaning engine.old) t.0 s.0 v.now) }
+    ensures made { IfOk result (λ p. map.get (E.live engine.new) p.0 ≡ Some (with_slot (E.meaning engine.old) (new_object (E.meaning engine.old) t.0) s.0 v.now)) }
+    ensures read { IfOk result (λ p. out.new ≡ slot_value (E.meaning engine.old) (with_slot (E.meaning engine.old) (new_object (E.meaning engine.old) t.0) s.0 v.now) s.0) }
+    ensures others { IfOk result (λ p. (q : ℕ) → q ≢ p.0 → map.get (E.live engine.new) q ≡ map.get (E.live engine.old) q) }
+    ensures refused { OnErr result (E.live engine.new ≡ E.live engine.old) }
+{
+    let p = match engine.add(t) {
+        Ok(p) => p,
+        Err(refusal) => return Err(refusal),
+    };
+    engine.set(p, s, v);
+    engine.get(p, s, out);
+    Ok(p)
+}
+
+/// Makes a folder with this `meta` in a new tiny engine, and gives what its `meta` then is.
+pub fn meta_of_folder(alloc: Global, limit: u32, meta: i32) -> Result<i32, AddRefusal>
+    ensures { IfOk result (λ m. m ≡ meta) }
+{
+    let mut engine = match Tiny::new(alloc, limit) {
+        Ok(engine) => engine,
+        Err(_) => return Err(AddRefusal::Memory),
+    };
+    let mut v = SlotBuf::new();
+    v.put(Value::Int(meta));
+    let mut out = SlotBuf::new();
+    match make_with(&mut engine, TypeNo(4), SlotNo(0), &v, &mut out) {
+        Ok(_) => Ok(int_kept(&out)),
+        Err(refusal) => Err(refusal),
+    }
+}
+
+#[cfg(test)]
+mod tests {
+    use super::*;
+    use std::alloc::AllocError;
+
+    // A component takes 4 bytes.
+    #[test]
+    fn a_folder_keeps_its_meta(rt: HostRuntime) -> Result<(), AllocError> {
+        let rows = [
+            (8, 7, Ok(7)),
+            (4, -2147483648, Ok(-2147483648)),
+            (3, 7, Err(AddRefusal::DataFull)),
+        ];
+        for (limit, meta, expected) in rows {
+            assert!(rt; meta_of_folder(rt.alloc(), limit, meta) == expected);
+        }
+        Ok(())
+    }
+}
