@@ -5,3 +5,9 @@ pub mod Contents
 pub mod Initial
 pub mod Kinds
 pub mod Objects
+pub mod SysTypes
+pub mod TypedSchema
+pub mod TypedExpr
+pub mod TypedStmt
+pub mod Depth
+pub mod Typed

@@ -1,0 +1,82 @@
+-- Typed programs.
+use Rattle.std.specs.Prelude.{ℕ, ◌≡◌, ◌≤◌, ◌<◌, true, false, IsTrue, All, IfSome, IsSomeAnd, if◌then◌else◌, List, [], ◌∷◌, ◌++◌, length, slice_get, sum_by, None}
+use Rattle.sed_typed.specs.declared.kind.Kind.{Kind}
+use Rattle.sed_typed.specs.declared.kind.Kind.TheVariants as kind
+use Rattle.sed_typed.specs.declared.program.Method.{Method}
+use Rattle.sed_typed.specs.declared.program.Program.{Program}
+use Rattle.sed_typed.specs.declared.statement.Stmt.{Stmt}
+use Rattle.sed_typed.specs.Classes.{fields as fields_of, find, method_name}
+use Rattle.sed_typed.specs.Sizes.{form_size, data_size}
+use Rattle.sed_typed.specs.TypedSchema.{HasKits, IsClass, HasSlots, IsField, LiesDeeper, HasMembers, is_abstract, is_below}
+use Rattle.sed_typed.specs.SysTypes.{virtual_class}
+use Rattle.sed_typed.specs.TypedStmt.{IsStmt}
+use Rattle.sed_typed.specs.Depth.{stmt_depth}
+
+-- what a parameter or a local may be
+abbrev pub IsStorable : Kind → Type 0
+IsStorable kind.Void = ⊥
+IsStorable kind.Bool = Unit {0}
+IsStorable kind.Int = Unit {0}
+IsStorable kind.Long = Unit {0}
+IsStorable kind.Text = Unit {0}
+IsStorable (kind.Object class) = Unit {0}
+IsStorable (kind.Array p n) = ⊥
+IsStorable (kind.Buf n) = ⊥
+
+-- what a result may be
+abbrev pub IsResult : Kind → Type 0
+IsResult kind.Void = Unit {0}
+IsResult k = IsStorable k
+
+-- a method's receiver, if it has one
+abbrev pub receiver_of : Method → List Kind
+receiver_of m = if m.is_static then [] else kind.Object m.class ∷ []
+
+-- the frame of a method: the receiver, the parameters, and the other locals, of which there are at most 64 with the parameters
+pub record IsFrame (m : Method) (locals : List Kind) : Type 0 where
+  pub others : List Kind
+  pub order : locals ≡ receiver_of m ++ m.params ++ others
+  pub storable : All IsStorable locals
+  pub most : length m.params ≤ 8
+  pub most_locals : length (m.params ++ others) ≤ 64
+
+-- a body in a frame
+pub record IsBody (program : Program) (m : Method) (body : Stmt) : Type 0 where
+  pub locals : List Kind
+  pub frame : IsFrame m locals
+  pub typed : IsStmt (record { program = program; class = m.class.0; is_static = m.is_static; locals = locals; result = m.result }) (record { breaks = false; continues = false }) body
+  pub depth : stmt_depth body ≤ 64
+
+-- a method of a class; only an instance method of a class at or below `Virtual` is virtual, and one without a body is
+pub record IsMethod (program : Program) (m : Method) : Type 0 where
+  pub class : m.class.0 < length program.schema.classes
+  pub params : All IsStorable m.params
+  pub result : IsResult m.result
+  pub virtual : m.is_virtual ≡ true → (m.is_static ≡ false) × IsTrue (is_below program.schema.classes virtual_class m.class.0)
+  pub no_body : m.body ≡ None → (m.is_virtual ≡ true) × (is_abstract program.schema.classes m.class.0 ≡ true)
+  pub body : IfSome m.body (IsBody program m)
+
+-- a class that is not abstract has a body for each method
+abbrev pub HasBodies : Program → ℕ → Type 0
+HasBodies program class =
+    is_abstract program.schema.classes class ≡ false → (m : ℕ) →
+    IfSome (find program class (method_name program m)) (λ n. IsSomeAnd (slice_get program.methods n) (λ x. x.body ≡ None → ⊥))
+
+-- the statics together
+abbrev pub statics_size : Program → ℕ
+statics_size program = sum_by (λ f. form_size (data_size program) f.form) program.statics
+
+pub record Typed (program : Program) : Type 0 where
+  pub kits : HasKits program.schema
+  pub classes : (class : ℕ) → IfSome (slice_get program.schema.classes class) (IsClass program class)
+  pub slots : (class : ℕ) → IfSome (slice_get program.schema.classes class) (HasSlots program class)
+  pub members : (class : ℕ) → class < length program.schema.classes → HasMembers program class
+  pub fields : All (IsField program) program.fields
+  pub statics : All (IsField program) program.statics
+  -- objects lie inside one another to a depth, so none holds itself
+  pub depth : ℕ → ℕ
+  pub deeper : (class : ℕ) → All (λ f. LiesDeeper depth class f.form) (fields_of program class)
+  pub methods : All (IsMethod program) program.methods
+  pub bodies : (class : ℕ) → class < length program.schema.classes → HasBodies program class
+  pub statics_most : statics_size program < 65536
+  pub texts_most : length program.texts ≤ 4096
