@@ -6,5 +6,7 @@ pub mod Examples
 pub mod ObjectExamples
 pub mod StatementExamples
 pub mod CallExamples
+pub mod TypedExamples
 pub mod KeepsFit
 pub mod RootLaws
+pub mod TypedCodes

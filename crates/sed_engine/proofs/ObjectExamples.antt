@@ -21,7 +21,7 @@ use Rattle.sed_typed.specs.declared.tree.Place.TheVariants as place
 use Rattle.sed_typed.specs.Contents.{value_at}
 use Rattle.sed_engine.specs.declared.call.CallEnd.TheVariants as end
 use Rattle.sed_engine.specs.Root.{calls_with}
-use Rattle.sed_engine.proofs.Building.{Pointer, none, one, two, int, chain, this, set, set_y, y_is, block, block_of_three, field, int_field, class_info, program_of, simple, execute, run, outcome, done, trapped}
+use Rattle.sed_engine.proofs.Building.{Pointer, by, none, one, two, int, chain, this, set, set_y, y_is, block, block_of_three, field, int_field, class_info, program_of, simple, execute, run, outcome, done, trapped}
 
 -- class 6 has an int n; class 5 has y and an inline object of class 6: o.n = 7; y = o.n
 inline : Pointer → Program
@@ -188,3 +188,20 @@ buffer p =
 buffer_is : (p : Pointer) → outcome (run (buffer p) 10) (1 ∷ 2 ∷ []) ≡ trapped 3 (2 ∷ 9 ∷ [])
 unfolding buffer calls_with
 buffer_is p = refl
+
+-- (y = 1, a)[1 / 0] = 0: the receiver before the index
+receiver_first : Pointer → Program
+receiver_first p =
+    with_bytes (stmt.Do (expr.Set' (place.Element' prim.Byte 3 p (chain p (y_is p 1) (link.After (bytes p))) p (chain p (int 1) (by op.Divide (int 0)))) p (int 0)))
+
+receiver_first_traps : (p : Pointer) → outcome (run (receiver_first p) 10) (1 ∷ []) ≡ trapped 1 (1 ∷ [])
+unfolding receiver_first with_bytes bytes calls_with
+receiver_first_traps p = refl
+
+-- a[1 / 0] = (y = 1): the index before the value
+index_first : Pointer → Program
+index_first p = with_bytes (stmt.Do (expr.Set' (element p (chain p (int 1) (by op.Divide (int 0)))) p (y_is p 1)))
+
+index_first_traps : (p : Pointer) → outcome (run (index_first p) 10) (1 ∷ []) ≡ trapped 1 (0 ∷ [])
+unfolding index_first with_bytes bytes element calls_with
+index_first_traps p = refl

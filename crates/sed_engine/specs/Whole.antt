@@ -1,19 +1,15 @@
 -- What everything above a code relies on.
-use Rattle.std.specs.Prelude.{ℕ, ◌≡◌, ◌==◌, ◌<◌, ◌≤◌, ℤ, Bool, true, false, IsTrue, All, IfSome, List, [], ◌∷◌, ◌++◌, length, count_by, filter, slice_get, Option, Some, None, codes}
-use Rattle.std.specs.Option.{option_map, option_map_or}
+use Rattle.std.specs.Prelude.{ℕ, ◌≡◌, ◌==◌, ◌<◌, ◌≤◌, ℤ, false, IsTrue, All, IfSome, List, [], ◌∷◌, ◌++◌, length, count_by, filter, slice_get, Some}
+use Rattle.std.specs.Option.{option_map_or}
 use Rattle.sed_value.specs.declared.value.Value.{Value}
-use Rattle.sed_value.specs.declared.slot_type.Primitive.TheVariants as prim
 use Rattle.sed_value.specs.declared.slot_type.SlotType.{SlotType}
 use Rattle.sed_value.specs.declared.slot_type.SlotType.TheVariants as slot
 use Rattle.sed_typed.specs.declared.program.FieldForm.{FieldForm}
 use Rattle.sed_typed.specs.declared.program.FieldForm.TheVariants as form
-use Rattle.sed_typed.specs.declared.schema.ActionArg.TheVariants.{Void}
-use Rattle.sed_typed.specs.declared.schema.ClassInfo.{ClassInfo}
 use Rattle.sed_typed.specs.declared.schema.Schema.{Schema}
-use Rattle.sed_typed.specs.declared.schema.SlotForm.TheVariants.{Prop, Action}
-use Rattle.sed_typed.specs.declared.schema.SlotInfo.{SlotInfo}
 use Rattle.sed_typed.specs.Classes.{base_of, slots}
 use Rattle.sed_typed.specs.Contents.{Contents, Shape}
+pub use Rattle.sed_typed.specs.SysTypes.{HasSysTypes, IsSysType, meta_slot, save_slot}
 use Rattle.sed_engine.specs.declared.call.Root.{Root as Root-type}
 use Rattle.sed_engine.specs.Code.{Meaning, slot_type, may_call}
 use Rattle.sed_engine.specs.Fits.{Fits}
@@ -24,32 +20,6 @@ pub record KeepsLimits (schema : Schema) : Type 0 where
   pub types : (kit : ℕ) → count_by (λ c. c.kit == kit) schema.classes ≤ 64
   pub slots : All (λ c. length c.slots ≤ 64) schema.classes
   pub sizes : All (λ c. c.size < 65536) schema.classes
-
--- a class as `sys` has it
-pub record IsSysType (c : ClassInfo) (number : ℕ) (name : List ℕ) (base : Option ℕ) (abstract component : Bool) (all : List SlotInfo) : Type 0 where
-  pub kit : c.kit ≡ 0
-  pub number_is : c.number ≡ number
-  pub name_is : c.name ≡ name
-  pub base_is : option_map (λ t. t.0) c.base ≡ base
-  pub is_abstract : c.is_abstract ≡ abstract
-  pub is_component : c.is_component ≡ component
-  pub slots : c.slots ≡ all
-
--- the slot of every component, and the one that the App has besides
-abbrev pub meta_slot : SlotInfo
-meta_slot = record { name = codes "meta"; config = true; form = Prop (slot.Prim prim.Int) }
-
-abbrev pub save_slot : SlotInfo
-save_slot = record { name = codes "save"; config = false; form = Action Void }
-
--- the first five classes are the types of kit 0
-pub record HasSysTypes (classes : List ClassInfo) : Type 0 where
-  pub object : IfSome (slice_get classes 0) (λ c. IsSysType c 0 (codes "Obj") None true false [])
-  pub virtual : IfSome (slice_get classes 1) (λ c. IsSysType c 1 (codes "Virtual") (Some 0) true false [])
-  pub component : IfSome (slice_get classes 2) (λ c. IsSysType c 2 (codes "Component") (Some 1) true true (meta_slot ∷ []))
-  pub app : IfSome (slice_get classes 3) (λ c. IsSysType c 3 (codes "App") (Some 2) false true (meta_slot ∷ save_slot ∷ []))
-  pub folder : IfSome (slice_get classes 4) (λ c. IsSysType c 4 (codes "Folder") (Some 2) false true (meta_slot ∷ []))
-  pub there : 5 ≤ length classes
 
 -- one list begins with another
 abbrev pub Begins : {X : Type 0} → List X → List X → Type 0

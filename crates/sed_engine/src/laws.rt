@@ -1,12 +1,14 @@
 //! Laws of the meaning of programs. Each is the contract of a function that does nothing.
-ghost use Rattle.std.specs.Prelude.{◌≡◌, ◌+◌, ℕ, ℤ, map};
+ghost use Rattle.std.specs.Prelude.{◌≡◌, ◌+◌, ℕ, ℤ, map, slice_get, IfSome};
 ghost use Rattle.sed_value.specs.declared.value.Value.{Value};
 ghost use Rattle.sed_typed.specs.declared.program.Program.{Program};
 ghost use Rattle.sed_typed.specs.Contents.{Contents};
 ghost use Rattle.sed_engine.specs.declared.call.Root.{Root as AnyRoot};
 ghost use Rattle.sed_engine.specs.Root.{root};
 ghost use Rattle.sed_engine.specs.Program.{meaning_of};
-ghost use Rattle.sed_engine.specs.Whole.{RootFits};
+ghost use Rattle.sed_engine.specs.Whole.{RootFits, KeepsLimits};
+ghost use Rattle.sed_typed.specs.SysTypes.{HasSysTypes};
+ghost use Rattle.sed_typed.specs.Typed.{Typed};
 ghost use Rattle.sed_engine.specs.Turns.{LeavesAtMost, IsDone, with_more};
 
 /// A root call that ends normally leaves no more turns than it was given.
@@ -39,4 +41,11 @@ pub fn more_turns_end_alike()
 /// What a root call leaves fits, where the contents, the statics and the argument that it was given fit.
 pub fn what_is_left_fits()
     ensures { (program : Program) → RootFits (meaning_of program) }
+{}
+
+/// The code of a typed program keeps the limits, has the types of `sys`, and tells its data sizes.
+pub fn typed_programs_keep_their_schema()
+    ensures limits { (program : Program) → Typed program → KeepsLimits (meaning_of program).schema }
+    ensures sys { (program : Program) → Typed program → HasSysTypes (meaning_of program).schema.classes }
+    ensures sizes { (program : Program) → Typed program → (class : ℕ) → IfSome (slice_get (meaning_of program).schema.classes class) (λ c. c.size ≡ (meaning_of program).data_size class) }
 {}

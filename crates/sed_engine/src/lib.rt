@@ -13,5 +13,8 @@ pub mod trap;
 
 pub use call::{AddRefusal, CallEnd, Callback, Place, Root};
 pub use engine::Engine;
-pub use laws::{more_turns_end_alike, paths_stay, turns_do_not_grow, what_is_left_fits};
+pub use laws::{
+    more_turns_end_alike, paths_stay, turns_do_not_grow, typed_programs_keep_their_schema,
+    what_is_left_fits,
+};
 pub use trap::Trap;
