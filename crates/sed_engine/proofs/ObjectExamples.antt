@@ -205,3 +205,11 @@ index_first p = with_bytes (stmt.Do (expr.Set' (element p (chain p (int 1) (by o
 index_first_traps : (p : Pointer) → outcome (run (index_first p) 10) (1 ∷ []) ≡ trapped 1 (0 ∷ [])
 unfolding index_first with_bytes bytes element calls_with
 index_first_traps p = refl
+
+-- a Str of 6 bytes: s.copyFromStr("abc") fills with zeros
+filling : Pointer → Program
+filling p = simple (int_field ∷ field 5 (form.Str 6) kept.Nothing ∷ []) (block p (stmt.Do (call1 p (str p) text.Copy (expr.Text 0))) (set_y p (call0 p (str p) text.Length)))
+
+filling_is : (p : Pointer) → outcome (run (filling p) 10) (1 ∷ 2 ∷ []) ≡ (end.Done 10, Some (kept.Int (pos 3)) ∷ Some (kept.Buf (97 ∷ 98 ∷ 99 ∷ 0 ∷ 0 ∷ 0 ∷ [])) ∷ [])
+unfolding filling str call0 call1 calls_with
+filling_is p = refl
