@@ -1,11 +1,11 @@
 -- The tokens of a text lie in it one after another.
-use Rattle.std.proofs.Common.{◌≡◌, ℕ, zero, suc, ◌+◌, ◌<◌, ◌≤◌, Bool, true, List, [], ◌∷◌, ◌++◌, length, take, drop, slice_range, Option, Some, None, refl, sym, ap, subst, ◌∙◌, arith}
+use Rattle.std.proofs.Common.{◌≡◌, ℕ, zero, suc, ◌+◌, ◌<◌, ◌≤◌, Bool, true, List, [], ◌∷◌, ◌++◌, length, take, drop, slice_range, slice_index_or, All, Option, Some, None, refl, sym, ap, subst, ◌∙◌, arith}
 use Rattle.std.proofs.lemmas.List.{length-append, length-drop, drop-drop, take_at, drop_at}
 use Rattle.sed_lexer.specs.declared.kind.TokenKind.{TokenKind}
 use Rattle.sed_lexer.specs.Token.{Token, token_at, end_of}
 use Rattle.sed_lexer.specs.Pieces.{Segment, IsPiece}
 use Rattle.sed_lexer.specs.Lexes.{Cuts, tokens_of, first_after, tokens_from, Lexes}
-use Rattle.sed_lexer.specs.Order.{LiesIn, AreInOrder}
+use Rattle.sed_lexer.specs.Order.{LiesIn, AreInOrder, IsOfItsKind}
 use Rattle.sed_lexer.proofs.KindLemmas.{piece_not_empty}
 
 -- the tokens lie in the text one after another, from this place on
@@ -43,22 +43,23 @@ ascends (segment ∷ segments) text rest at first inside (after, stands, cuts) =
     (ascends segments text rest (at + length segment.bytes) (first_after first segment.kind segment.bytes) within
     (subst (λ (x : List ℕ). Cuts segments x rest) (sym behind) cuts))
 
-lie_at : (at : ℕ) (text : List ℕ) (tokens : List Token) (i : ℕ) → Ascend at text tokens → i < length tokens → LiesIn text (token_at tokens i) × (at ≤ (token_at tokens i).start)
-lie_at at text [] i more inside = absurd (omega arith)
-lie_at at text (token ∷ tokens) zero (behind, lies, more) inside = (lies, behind)
-lie_at at text (token ∷ tokens) (suc i) (behind, lies, more) inside =
-    let later = lie_at (end_of token) text tokens i more (omega arith) in
+lie_at : (at : ℕ) (text : List ℕ) (tokens : List Token) (i : ℕ) (d : Token) → Ascend at text tokens → i < length tokens
+    → LiesIn text (slice_index_or tokens i d) × (at ≤ (slice_index_or tokens i d).start)
+lie_at at text [] i d more inside = absurd (omega arith)
+lie_at at text (token ∷ tokens) zero d (behind, lies, more) inside = (lies, behind)
+lie_at at text (token ∷ tokens) (suc i) d (behind, lies, more) inside =
+    let later = lie_at (end_of token) text tokens i d more (omega arith) in
     (later.0, omega (arith, later.1, behind))
 
 apart_at : (at : ℕ) (text : List ℕ) (tokens : List Token) (i j : ℕ) → Ascend at text tokens → i < j → j < length tokens → end_of (token_at tokens i) ≤ (token_at tokens j).start
 apart_at at text [] i j more before inside = absurd (omega arith)
 apart_at at text (token ∷ tokens) i zero more before inside = absurd (omega arith)
-apart_at at text (token ∷ tokens) zero (suc j) (behind, lies, more) before inside = (lie_at (end_of token) text tokens j more (omega arith)).1
+apart_at at text (token ∷ tokens) zero (suc j) (behind, lies, more) before inside = (lie_at (end_of token) text tokens j _ more (omega arith)).1
 apart_at at text (token ∷ tokens) (suc i) (suc j) (behind, lies, more) before inside = apart_at (end_of token) text tokens i j more (omega arith) (omega arith)
 
 pub in_order : (text : List ℕ) (tokens : List Token) → Lexes text tokens → AreInOrder text tokens
 in_order text tokens (segments, cuts, are) = subst (AreInOrder text) (sym are) (record {
-  lie = λ i inside. (lie_at 0 text (tokens_from 0 true segments) i ascending inside).0;
+  lie = λ i d inside. (lie_at 0 text (tokens_from 0 true segments) i d ascending inside).0;
   apart = λ i j before inside. apart_at 0 text (tokens_from 0 true segments) i j ascending before inside;
 })
   where
@@ -68,7 +69,7 @@ in_order text tokens (segments, cuts, are) = subst (AreInOrder text) (sym are) (
 -- the tokens' bytes are pieces of their kinds
 abbrev ArePieces : List Token → Type 0
 ArePieces [] = Unit {0}
-ArePieces (token ∷ tokens) = IsPiece (Some token.kind) token.bytes × ArePieces tokens
+ArePieces (token ∷ tokens) = IsOfItsKind token × ArePieces tokens
 
 pieces_of : (kind : Option TokenKind) (bytes : List ℕ) (at : ℕ) (first : Bool) (tokens : List Token) → IsPiece kind bytes → ArePieces tokens
     → ArePieces (tokens_of at first kind bytes ++ tokens)
@@ -81,11 +82,11 @@ pieces_from (segment ∷ segments) text rest at first (after, stands, cuts) =
     pieces_of segment.kind segment.bytes at first (tokens_from (at + length segment.bytes) (first_after first segment.kind segment.bytes) segments)
     stands.is_piece (pieces_from segments after rest (at + length segment.bytes) (first_after first segment.kind segment.bytes) cuts)
 
-piece_at : (tokens : List Token) (i : ℕ) → ArePieces tokens → i < length tokens → IsPiece (Some (token_at tokens i).kind) (token_at tokens i).bytes
-piece_at [] i more inside = absurd (omega arith)
-piece_at (token ∷ tokens) zero (is, more) inside = is
-piece_at (token ∷ tokens) (suc i) (is, more) inside = piece_at tokens i more (omega arith)
+piece_at : (tokens : List Token) (i : ℕ) (d : Token) → ArePieces tokens → i < length tokens → IsOfItsKind (slice_index_or tokens i d)
+piece_at [] i d more inside = absurd (omega arith)
+piece_at (token ∷ tokens) zero d (is, more) inside = is
+piece_at (token ∷ tokens) (suc i) d (is, more) inside = piece_at tokens i d more (omega arith)
 
-pub are_pieces : (text : List ℕ) (tokens : List Token) → Lexes text tokens → (i : ℕ) → i < length tokens → IsPiece (Some (token_at tokens i).kind) (token_at tokens i).bytes
-are_pieces text tokens (segments, cuts, are) i inside =
-    piece_at tokens i (subst ArePieces (sym are) (pieces_from segments text [] 0 true cuts)) inside
+pub are_pieces : (text : List ℕ) (tokens : List Token) → Lexes text tokens → All IsOfItsKind tokens
+are_pieces text tokens (segments, cuts, are) i d inside =
+    piece_at tokens i d (subst ArePieces (sym are) (pieces_from segments text [] 0 true cuts)) inside

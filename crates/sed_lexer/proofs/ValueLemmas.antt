@@ -1,5 +1,5 @@
 -- What integers denote.
-use Rattle.std.proofs.Common.{get_or, ◌≡◌, ◌≢◌, ℕ, ◌+◌, ◌-◌, ◌*◌, ◌^◌, ◌<◌, ◌≤◌, pos, nat_le, Bool, true, false, not, ◌||◌, ◌==◌, cond, List, [], ◌∷◌, ◌++◌, length, take, drop, codes, fold, filter, Option, Some, None, option_and_then, inl, inr, refl, sym, ap, subst, ◌∙◌, arith, append_assoc}
+use Rattle.std.proofs.Common.{IsSome, ◌↔◌, get_or, ◌≡◌, ◌≢◌, ℕ, ◌+◌, ◌-◌, ◌*◌, ◌^◌, ◌<◌, ◌≤◌, pos, nat_le, Bool, true, false, not, ◌||◌, ◌==◌, cond, List, [], ◌∷◌, ◌++◌, length, take, drop, codes, fold, filter, Option, Some, None, option_and_then, inl, inr, refl, sym, ap, subst, ◌∙◌, arith, append_assoc}
 use Rattle.std.specs.Int.{Width, int_wrap, cast_signed}
 use Rattle.std.specs.Str.{bytes_eq}
 use mir.Val.{bits}
@@ -13,7 +13,7 @@ use Rattle.sed_value.specs.Characters.{is_digit}
 use Rattle.sed_value.specs.Wrap.{wrap}
 use Rattle.sed_lexer.specs.declared.numbers.Number.{Number}
 use Rattle.sed_lexer.specs.Integers.{is_hex_digit}
-use Rattle.sed_lexer.specs.Values.{with_digit, digits_value, time_factor, int_within, long_within, decimal_number, hex_number, DenotesDecimal, DenotesHex, Denotes}
+use Rattle.sed_lexer.specs.Values.{with_digit, digits_value, time_factor, int_within, long_within, decimal_number, hex_number, DenotesDecimal, DenotesHex, Denotes, IsWithinBounds}
 use Rattle.sed_lexer.specs.One.{FindsOne}
 use Rattle.sed_lexer.specs.Fronts.{NoFront, IsLongestFront}
 use Rattle.sed_lexer.proofs.FrontLemmas.{front_in_front, run_goes_on}
@@ -257,3 +257,7 @@ digits_stop base digits i number some so_far inside other large small =
     subst (λ (x : List ℕ). digits_value base (take (i + 1) digits) ≤ digits_value base x) (take-append-drop (i + 1) digits)
     (digits_grow base some (take (i + 1) digits) (drop (i + 1) digits)) in
     large (omega (arith, more, grows, small))
+
+pub one_within : (text : List ℕ) (found : Option Number) → FindsOne (Denotes text) found → IsSome found ↔ IsWithinBounds text
+one_within text None none = (λ h. absurd (let k : false ≡ true = h in cc), λ within. absurd (none within.0 within.1))
+one_within text (Some number) one = (λ h. (number, one.0), λ within. refl)

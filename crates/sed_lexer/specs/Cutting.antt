@@ -18,7 +18,8 @@ pub record IsLongestPiece (text : List ℕ) (piece : Piece) : Type 0 where
 
 -- no piece begins the text
 abbrev pub NoPiece : List ℕ → Type 0
-NoPiece text = (segment : Segment) (rest : List ℕ) → text ≡ segment.bytes ++ rest → IsPiece segment.kind segment.bytes → ⊥
+NoPiece text = (segment : Segment) (rest : List ℕ) → text ≡ segment.bytes ++ rest
+    → IsPiece segment.kind segment.bytes → ⊥
 
 -- the piece can stand at the start of the text
 pub record Stands (text : List ℕ) (piece : Piece) : Type 0 where
@@ -31,4 +32,5 @@ pub record IsCut (text : List ℕ) (spans : List Span) (at : ℕ) (first : Bool)
   pub within : at ≤ length text
   pub lie : All (Lies text) spans
   pub on : (segments : List Segment) (rest : List ℕ) → Cuts segments (drop at text) rest
-      → (all : List Segment) × Cuts all text rest × (tokens_from 0 true all ≡ map (token_of text) spans ++ tokens_from at first segments)
+      → (all : List Segment) × Cuts all text rest
+      × (tokens_from 0 true all ≡ map (token_of text) spans ++ tokens_from at first segments)

@@ -18,7 +18,8 @@ IsBlank bytes = (b : ℕ) × (bytes ≡ b ∷ []) × IsTrue (is_blank b)
 
 -- `//` or `**`, and then anything but a line end
 abbrev pub IsLineComment : List ℕ → Type 0
-IsLineComment bytes = (words : List ℕ) × ((bytes ≡ codes "//" ++ words) ⊎ (bytes ≡ codes "**" ++ words)) × (has_line_end words ≡ false)
+IsLineComment bytes = (words : List ℕ) × ((bytes ≡ codes "//" ++ words) ⊎ (bytes ≡ codes "**" ++ words))
+    × (has_line_end words ≡ false)
 
 -- the first `*/` in the bytes stands at their end, behind these words
 abbrev pub EndsComment : List ℕ → List ℕ → Type 0

@@ -7,8 +7,8 @@ use Rattle.sed_lexer.specs.Pieces.{Segment, IsPiece, can_end}
 
 -- no piece that begins the text is longer than these bytes
 abbrev pub IsLongest : List ℕ → List ℕ → Type 0
-IsLongest bytes text = (other : Segment) (after : List ℕ) → text ≡ other.bytes ++ after → IsPiece other.kind other.bytes
-    → length other.bytes ≤ length bytes
+IsLongest bytes text = (other : Segment) (after : List ℕ) → text ≡ other.bytes ++ after
+    → IsPiece other.kind other.bytes → length other.bytes ≤ length bytes
 
 -- The text begins with this piece, and goes on with the rest. No longer piece begins there, and this one can end there.
 pub record CanStand (segment : Segment) (text rest : List ℕ) : Type 0 where

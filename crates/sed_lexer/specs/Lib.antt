@@ -7,6 +7,7 @@ pub mod One
 pub mod Values
 pub mod Pieces
 pub mod Lexes
+pub mod Answer
 pub mod Order
 pub mod Fronts
 pub mod Spelled

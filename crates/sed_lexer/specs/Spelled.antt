@@ -17,14 +17,16 @@ pub record SpellsTo (inner : List ℕ) (at : ℕ) (characters : List ℕ) : Type
   pub within : at ≤ length inner
   pub so_far : SpellText (take at inner) characters
   pub goes_on : (spelling after cs : List ℕ) → inner ≡ spelling ++ 34 ∷ after → SpellText spelling cs
-      → (rest : List ℕ) × (more : List ℕ) × (drop at inner ≡ rest ++ 34 ∷ after) × SpellText rest more × (cs ≡ characters ++ more)
+      → (rest : List ℕ) × (more : List ℕ) × (drop at inner ≡ rest ++ 34 ∷ after)
+      × SpellText rest more × (cs ≡ characters ++ more)
 
 -- a quote stands at this place, and the bytes before it spell a text
 pub record EndsText (inner : List ℕ) (n : ℕ) : Type 0 where
   pub within : n < length inner
   pub quote : inner ≡ take n inner ++ 34 ∷ drop (n + 1) inner
   pub spells : (characters : List ℕ) × SpellText (take n inner) characters
-  pub only : (spelling after cs : List ℕ) → inner ≡ spelling ++ 34 ∷ after → SpellText spelling cs → length spelling ≡ n
+  pub only : (spelling after cs : List ℕ) → inner ≡ spelling ++ 34 ∷ after → SpellText spelling cs
+      → length spelling ≡ n
 
 -- no quote ends a text whose spelling begins here
 abbrev pub NoTextEnd : List ℕ → Type 0

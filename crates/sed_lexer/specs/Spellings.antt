@@ -28,7 +28,8 @@ Spells quote (b ∷ e ∷ d ∷ bs) c = ⊥
 
 -- the character that a character in quotes denotes
 abbrev pub IsCharacterOf : List ℕ → ℕ → Type 0
-IsCharacterOf bytes c = (spelling : List ℕ) × (bytes ≡ codes "'" ++ (spelling ++ codes "'")) × Spells (byte "'") spelling c
+IsCharacterOf bytes c = (spelling : List ℕ) × (bytes ≡ codes "'" ++ (spelling ++ codes "'"))
+    × Spells (byte "'") spelling c
 
 -- the bytes spell these characters of a text, none of which is 0
 abbrev pub SpellText : List ℕ → List ℕ → Type 0
@@ -38,7 +39,8 @@ SpellText bytes (c ∷ cs) = (spelling : List ℕ) × (rest : List ℕ) × (byte
 
 -- the characters that a text in double quotes denotes
 abbrev pub IsTextOf : List ℕ → List ℕ → Type 0
-IsTextOf bytes characters = (spelling : List ℕ) × (bytes ≡ codes "\"" ++ (spelling ++ codes "\"")) × SpellText spelling characters
+IsTextOf bytes characters = (spelling : List ℕ) × (bytes ≡ codes "\"" ++ (spelling ++ codes "\""))
+    × SpellText spelling characters
 
 abbrev pub IsCharacter : List ℕ → Type 0
 IsCharacter bytes = (c : ℕ) × IsCharacterOf bytes c

@@ -1,13 +1,12 @@
 //! Laws of the tokens of texts.
-ghost use Rattle.std.specs.Prelude.{◌≡◌, ◌<◌, ℕ, List, length};
-ghost use Rattle.sed_lexer.specs.Token.{Token, token_at};
-ghost use Rattle.sed_lexer.specs.Pieces.{IsPiece};
+ghost use Rattle.std.specs.Prelude.{◌≡◌, ℕ, List, All};
+ghost use Rattle.sed_lexer.specs.Token.{Token};
 ghost use Rattle.sed_lexer.specs.Lexes.{Lexes, FaultsAt};
-ghost use Rattle.sed_lexer.specs.Order.{AreInOrder};
+ghost use Rattle.sed_lexer.specs.Order.{AreInOrder, IsOfItsKind};
 
 /// A text has at most one list of tokens.
 pub fn tokens_are_one()
-    ensures { (text : List ℕ) (tokens others : List Token) → Lexes text tokens → Lexes text others → tokens ≡ others }
+    ensures { (text : List ℕ) (a b : List Token) → Lexes text a → Lexes text b → a ≡ b }
 {}
 
 /// A text faults at one place at most.
@@ -27,5 +26,5 @@ pub fn tokens_are_in_order()
 
 /// The bytes of each token are a piece of its kind.
 pub fn tokens_are_pieces()
-    ensures { (text : List ℕ) (tokens : List Token) → Lexes text tokens → (i : ℕ) → i < length tokens → IsPiece (Some (token_at tokens i).kind) (token_at tokens i).bytes }
+    ensures { (text : List ℕ) (tokens : List Token) → Lexes text tokens → All IsOfItsKind tokens }
 {}

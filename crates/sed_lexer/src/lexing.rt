@@ -1,8 +1,9 @@
 //! Cutting a text into tokens.
-ghost use Rattle.std.specs.Prelude.{◌≡◌, ◌<◌, ◌⊎◌, ◌||◌, ℕ, List, length, IfOk, IsErrOf};
+ghost use Rattle.std.specs.Prelude.{◌≡◌, ◌<◌, ◌||◌, ℕ, List, length, IfOk, IsErrOf};
 ghost use Rattle.sed_lexer.specs.Token.{Token};
 ghost use Rattle.sed_lexer.specs.Gaps as gaps;
 ghost use Rattle.sed_lexer.specs.Lexes.{Lexes, FaultsAt};
+ghost use Rattle.sed_lexer.specs.Answer.{IsUnlessMemory};
 ghost use Rattle.sed_lexer.specs.Cutting.{IsCut};
 
 use crate::Tokens;
@@ -99,8 +100,8 @@ pub fn lex(alloc: Global, text: &[u8]) -> Result<Tokens, LexRefusal>
     ensures none { (at : ℕ) → IsErrOf result (LexRefusal.Fault at) → (tokens : List Token) → Lexes text.now tokens → ⊥ }
 
     // A text that has tokens is answered with them, and one that faults with the place, unless memory is refused.
-    ensures lexes { (tokens : List Token) → Lexes text.now tokens → (result ≡ Ok tokens) ⊎ (result ≡ Err LexRefusal.Memory) }
-    ensures faults { (at : ℕ) → FaultsAt text.now at → (result ≡ Err (LexRefusal.Fault at)) ⊎ (result ≡ Err LexRefusal.Memory) }
+    ensures lexes { (tokens : List Token) → Lexes text.now tokens → IsUnlessMemory result (Ok tokens) }
+    ensures faults { (at : ℕ) → FaultsAt text.now at → IsUnlessMemory result (Err (LexRefusal.Fault at)) }
 {
     let mut spans = Vec::new(alloc);
     let mut place = Place { at: 0, first: true };

@@ -1,10 +1,10 @@
 //! What integers denote.
-ghost use Rattle.std.specs.Prelude.{◌≡◌, ◌-◌, ◌*◌, ◌^◌, ◌<◌, pos};
+ghost use Rattle.std.specs.Prelude.{◌≡◌, ◌-◌, ◌*◌, ◌^◌, ◌<◌, ◌↔◌, pos, IsSome};
 ghost use Rattle.std.specs.Int.{w32, w64};
 ghost use Rattle.std.specs.Option.{SomeIff};
 ghost use Rattle.sed_value.specs.Wrap.{wrap};
 ghost use Rattle.sed_lexer.specs.Values as values;
-ghost use Rattle.sed_lexer.specs.Values.{DenotesDecimal, DenotesHex, Denotes};
+ghost use Rattle.sed_lexer.specs.Values.{DenotesDecimal, DenotesHex, Denotes, IsWithinBounds};
 ghost use Rattle.sed_lexer.specs.One.{FindsOne};
 
 use crate::fronts::{front_of, rest_of};
@@ -161,9 +161,10 @@ fn hex_value(bytes: &[u8]) -> Option<Number>
     }
 }
 
-/// The number that the integer denotes; none where it is above the bound of its form, and where the bytes are no integer.
+/// The number that the integer denotes. There is none where it is above the bound of its form, or the bytes are no integer.
 pub fn integer_value(bytes: &[u8]) -> Option<Number>
-    ensures { FindsOne (Denotes bytes.now) result }
+    ensures one { FindsOne (Denotes bytes.now) result }
+    ensures bounds { IsSome result ↔ IsWithinBounds bytes.now }
 {
     if let Some(number) = hex_value(bytes) {
         return Some(number);
