@@ -1,7 +1,7 @@
 //! A caller that knows an engine by its trait alone, and its use at the tiny engine.
-ghost use Rattle.std.specs.Prelude.{◌≡◌, ◌≢◌, ℕ, ◌<◌, IsTrue, IfOk, OnErr};
+ghost use Rattle.std.specs.Prelude.{◌≡◌, ◌≢◌, ◌↔◌, ℕ, ◌+◌, ◌<◌, false, IsTrue, IfOk, OnErr};
 ghost use Rattle.std.specs.FinMap as map;
-ghost use Rattle.sed_engine.specs.Code.{is_creatable, may_store, new_object, slot_value, with_slot};
+ghost use Rattle.sed_engine.specs.Code.{data_of, is_creatable, may_store, new_object, slot_value, with_slot};
 
 use crate::tiny::{Tiny, int_kept};
 use sed_engine::{AddRefusal, Engine, Place};
@@ -11,7 +11,7 @@ use std::alloc::Global;
 
 /// Makes an object, stores a value in one of its properties, and reads it back into `out`.
 ///
-/// The other places stay. A refusal changes nothing.
+/// The other places stay. A refusal comes where the engine's `add` refuses, and changes nothing.
 pub fn make_with<E: Engine>(
     engine: &mut E,
     t: TypeNo,
@@ -26,6 +26,8 @@ pub fn make_with<E: Engine>(
     ensures read { IfOk result (λ p. out.new ≡ slot_value (E.meaning engine.old) (with_slot (E.meaning engine.old) (new_object (E.meaning engine.old) t.0) s.0 v.now) s.0) }
     ensures others { IfOk result (λ p. (q : ℕ) → q ≢ p.0 → map.get (E.live engine.new) q ≡ map.get (E.live engine.old) q) }
     ensures refused { OnErr result (E.live engine.new ≡ E.live engine.old) }
+    ensures full { (result ≡ Err AddRefusal.DataFull) ↔ (E.limit engine.old < data_of (E.meaning engine.old) (E.live engine.old) + (E.meaning engine.old).data_size t.0) }
+    ensures memory { result ≡ Err AddRefusal.Memory → E.fixed engine.old ≡ false }
 {
     let p = match engine.add(t) {
         Ok(p) => p,
