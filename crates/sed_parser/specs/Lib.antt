@@ -3,3 +3,13 @@ pub mod FirstForm
 pub mod Naming
 pub mod Reading
 pub mod Gives
+pub mod Rule
+pub mod Many
+pub mod Tree
+pub mod ExpressionTree
+pub mod ExpressionFalls
+pub mod Words
+pub mod Halts
+pub mod Next
+pub mod Leaves
+pub mod Expressions

@@ -1,0 +1,68 @@
+-- What stands several times in a row.
+use Rattle.std.specs.Prelude.{◌≡◌, ◌≤◌, ℕ, zero, suc, ◌+◌, Bool, true, false, cond, List, [], ◌∷◌, length, Option, Some, None, refl}
+use Rattle.std.proofs.Common.{arith, ap, subst, sym, ◌∙◌}
+use Rattle.sed_lexer.specs.Token.{Token}
+use Rattle.sed_parser.specs.Phrase.{Phrase}
+use Rattle.sed_parser.specs.Rule.{Rule, Reads, then, then_first, then_whole, give_sound, give_whole, none_some}
+
+-- an item wherever one is wanted, by what is next
+abbrev pub Many : {A : Type 0} → (List Token → Bool) → (A → Phrase) → List A → Phrase
+Many go item [] tokens rest = (go tokens ≡ false) × (tokens ≡ rest)
+Many go item (a ∷ xs) tokens rest = (go tokens ≡ true) × ((middle : List Token) × item a tokens middle × Many go item xs middle rest)
+
+-- at most so many
+abbrev pub many_at : {A : Type 0} → (List Token → Bool) → Reads A → ℕ → Reads (List A)
+many_at go item zero tokens = cond (go tokens) None (Some ([], tokens))
+many_at go item (suc most) tokens = cond (go tokens) (then (item tokens) (λ a middle. then (many_at go item most middle) (λ xs rest. Some (a ∷ xs, rest)))) (Some ([], tokens))
+
+abbrev pub ManyAt : {A : Type 0} → (List Token → Bool) → (A → Phrase) → ℕ → List A → Phrase
+ManyAt go item most xs tokens rest = Many go item xs tokens rest × (length xs ≤ most)
+
+none_sound : {A : Type 0} (go : List Token → Bool) (item : A → Phrase) (most : ℕ) (tokens : List Token) (xs : List A) (rest : List Token) → go tokens ≡ false
+    → ◌≡◌ {A = Option (List A × List Token)} (Some ([], tokens)) (Some (xs, rest)) → ManyAt go item most xs tokens rest
+none_sound {A} go item most tokens xs rest stop e =
+    let g = give_sound {A = List A} [] tokens xs rest e in
+    subst (λ (x : List A). ManyAt go item most x tokens rest) g.0 ((stop, g.1), omega arith)
+
+pub many_sound : {A : Type 0} (go : List Token → Bool) (item : Rule A) (most : ℕ) (tokens : List Token) (xs : List A) (rest : List Token)
+    → many_at go item.reads most tokens ≡ Some (xs, rest) → ManyAt go item.holds most xs tokens rest
+many_sound {A} go item zero tokens xs rest e = by_go (go tokens) refl e
+  where
+    by_go : (b : Bool) → go tokens ≡ b → ◌≡◌ {A = Option (List A × List Token)} (cond b None (Some ([], tokens))) (Some (xs, rest)) → ManyAt go item.holds 0 xs tokens rest
+    by_go true goes e = absurd (none_some _ e)
+    by_go false stop e = none_sound go item.holds 0 tokens xs rest stop e
+many_sound {A} go item (suc most) tokens xs rest e = by_go (many_sound go item most) (go tokens) refl e
+  where
+    by_go : ((ts : List Token) (ys : List A) (r : List Token) → many_at go item.reads most ts ≡ Some (ys, r) → ManyAt go item.holds most ys ts r)
+        → (b : Bool) → go tokens ≡ b
+        → cond b (then (item.reads tokens) (λ a middle. then (many_at go item.reads most middle) (λ ys r. Some (a ∷ ys, r)))) (Some ([], tokens)) ≡ Some (xs, rest)
+        → ManyAt go item.holds (suc most) xs tokens rest
+    by_go shorter true goes e =
+        let s = then_first (item.reads tokens) (λ a middle. then (many_at go item.reads most middle) (λ ys r. Some (a ∷ ys, r))) (xs, rest) e in
+        let m = then_first (many_at go item.reads most s.1) (λ ys r. Some (s.0 ∷ ys, r)) (xs, rest) s.3 in
+        let h = shorter s.1 m.0 m.1 m.2 in
+        let few : length m.0 ≤ most = h.1 in
+        let g = give_sound (s.0 ∷ m.0) m.1 xs rest m.3 in
+        let many : ManyAt go item.holds (suc most) (s.0 ∷ m.0) tokens m.1 = ((goes, (s.1, item.sound tokens s.0 s.1 s.2, h.0)), omega (arith, few)) in
+        let here : ManyAt go item.holds (suc most) xs tokens m.1 = subst (λ (x : List A). ManyAt go item.holds (suc most) x tokens m.1) g.0 many in
+        subst (λ (r : List Token). ManyAt go item.holds (suc most) xs tokens r) g.1 here
+    by_go shorter false stop e = none_sound go item.holds (suc most) tokens xs rest stop e
+
+pub many_whole : {A : Type 0} (go : List Token → Bool) (item : Rule A) (most : ℕ) (tokens : List Token) (xs : List A) (rest : List Token)
+    → ManyAt go item.holds most xs tokens rest → many_at go item.reads most tokens ≡ Some (xs, rest)
+many_whole {A} go item zero tokens [] rest h = rw h.0.0 (give_whole {A = List A} [] tokens [] rest (refl, h.0.1))
+many_whole {A} go item (suc most) tokens [] rest h = rw h.0.0 (give_whole {A = List A} [] tokens [] rest (refl, h.0.1))
+many_whole go item zero tokens (a ∷ xs) rest h = let few : suc (length xs) ≤ 0 = h.1 in absurd (omega (arith, few))
+many_whole {A} go item (suc most) tokens (a ∷ xs) rest ((goes, (middle, first, others)), few) =
+    let fewer : length xs ≤ most = omega (arith, few) in
+    let more : many_at go item.reads most middle ≡ Some (xs, rest) = many_whole go item most middle xs rest (others, fewer) in
+    rw (goes, item.whole tokens a middle first, more) refl
+
+-- As many items xs the tokens hold: an item has a token or more.
+abbrev pub many : {A : Type 0} → (List Token → Bool) → Rule A → Rule (List A)
+many go item = record {
+  holds = λ xs tokens rest. ManyAt go item.holds (length tokens) xs tokens rest;
+  reads = λ tokens. many_at go item.reads (length tokens) tokens;
+  sound = λ tokens xs rest e. many_sound go item (length tokens) tokens xs rest e;
+  whole = λ tokens xs rest h. many_whole go item (length tokens) tokens xs rest h;
+}

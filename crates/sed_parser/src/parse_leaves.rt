@@ -1,0 +1,161 @@
+// Names, types, facets, modifiers, parameters and initial values.
+ghost use Rattle.std.specs.Prelude.{◌≡◌};
+ghost use Rattle.sed_parser.specs.Leaves as grammar;
+ghost use Rattle.sed_parser.specs.Halts.{Gives};
+
+use crate::halt::Halt;
+use crate::leaves::{Base, Facet, Init, InitValue, Literal, Modifier, Param, Size, TypeName, TypeRef};
+use crate::parser::Parser;
+use std::alloc::Global;
+
+impl<'a> Parser<'a> {
+    /// The end of a statement or a declaration.
+    #[tactic(auto, unfolding(crate::specs::Leaves::end))]
+    pub fn end(&mut self) -> Result<(), Halt>
+        ensures { Gives result self.new (grammar.end.reads self.old) }
+    {
+        if self.is_mark(b";") {
+            self.mark(b";")?;
+            return Ok(());
+        }
+        if !self.may_end() {
+            return Err(Halt::Fault);
+        }
+        Ok(())
+    }
+
+    #[tactic(auto, unfolding(crate::specs::Leaves::type_name))]
+    pub fn type_name(&mut self, alloc: Global) -> Result<TypeName, Halt>
+        ensures { Gives result self.new (grammar.type_name.reads self.old) }
+    {
+        let at = self.start();
+        let first = self.ident(alloc)?;
+        if self.is_mark(b"::") {
+            self.mark(b"::")?;
+            let id = self.ident(alloc)?;
+            return Ok(TypeName {
+                at,
+                kit: Some(first),
+                id,
+            });
+        }
+        Ok(TypeName {
+            at,
+            kit: None,
+            id: first,
+        })
+    }
+
+    #[tactic(auto, unfolding(crate::specs::Leaves::base_of_type))]
+    fn base_of_type(&mut self, alloc: Global) -> Result<Base, Halt>
+        ensures { Gives result self.new (grammar.base_of_type.reads self.old) }
+    {
+        if self.is_prim() {
+            let word = self.prim()?;
+            return Ok(Base::Primitive(word));
+        }
+        if self.is_key(b"void") {
+            self.key(b"void")?;
+            return Ok(Base::Void);
+        }
+        let name = self.type_name(alloc)?;
+        Ok(Base::Named(name))
+    }
+
+    #[tactic(auto, unfolding(crate::specs::Leaves::size_of_type))]
+    fn size_of_type(&mut self, alloc: Global) -> Result<Option<Size>, Halt>
+        ensures { Gives result self.new (grammar.size_of_type.reads self.old) }
+    {
+        if self.is_mark(b"(") {
+            self.mark(b"(")?;
+            let n = self.integer(alloc)?;
+            self.mark(b")")?;
+            return Ok(Some(Size::Parens(n)));
+        }
+        if self.is_mark(b"[") {
+            self.mark(b"[")?;
+            let n = self.integer(alloc)?;
+            self.mark(b"]")?;
+            return Ok(Some(Size::Brackets(n)));
+        }
+        Ok(None)
+    }
+
+    #[tactic(auto, unfolding(crate::specs::Leaves::type_of))]
+    pub fn type_of(&mut self, alloc: Global) -> Result<TypeRef, Halt>
+        ensures { Gives result self.new (grammar.type_of.reads self.old) }
+    {
+        let at = self.start();
+        let base = self.base_of_type(alloc)?;
+        let size = self.size_of_type(alloc)?;
+        Ok(TypeRef { at, base, size })
+    }
+
+    #[tactic(auto, unfolding(crate::specs::Leaves::facet_value))]
+    fn facet_value(&mut self, alloc: Global) -> Result<Option<Literal>, Halt>
+        ensures { Gives result self.new (grammar.facet_value.reads self.old) }
+    {
+        if !self.is_mark(b"=") {
+            return Ok(None);
+        }
+        self.mark(b"=")?;
+        let value = self.literal(alloc)?;
+        Ok(Some(value))
+    }
+
+    #[tactic(auto, unfolding(crate::specs::Leaves::facet))]
+    pub fn facet(&mut self, alloc: Global) -> Result<Facet, Halt>
+        ensures { Gives result self.new (grammar.facet.reads self.old) }
+    {
+        let at = self.start();
+        self.mark(b"@")?;
+        let name = self.ident(alloc)?;
+        let value = self.facet_value(alloc)?;
+        Ok(Facet { at, name, value })
+    }
+
+    #[tactic(auto, unfolding(crate::specs::Leaves::modifier))]
+    pub fn modifier(&mut self) -> Result<Modifier, Halt>
+        ensures { Gives result self.new (grammar.modifier.reads self.old) }
+    {
+        let at = self.start();
+        let word = self.modifier_word()?;
+        Ok(Modifier { at, word })
+    }
+
+    #[tactic(auto, unfolding(crate::specs::Leaves::param))]
+    pub fn param(&mut self, alloc: Global) -> Result<Param, Halt>
+        ensures { Gives result self.new (grammar.param.reads self.old) }
+    {
+        let at = self.start();
+        let kind = self.type_of(alloc)?;
+        let name = self.ident(alloc)?;
+        Ok(Param { at, kind, name })
+    }
+
+    #[tactic(auto, unfolding(crate::specs::Leaves::init_value))]
+    fn init_value(&mut self, alloc: Global) -> Result<InitValue, Halt>
+        ensures { Gives result self.new (grammar.init_value.reads self.old) }
+    {
+        if self.is_mark(b"-") {
+            self.mark(b"-")?;
+            let value = self.literal(alloc)?;
+            return Ok(InitValue::Minus(value));
+        }
+        if self.is_literal() {
+            let value = self.literal(alloc)?;
+            return Ok(InitValue::Literal(value));
+        }
+        let name = self.ident(alloc)?;
+        Ok(InitValue::Name(name))
+    }
+
+    #[tactic(auto, unfolding(crate::specs::Leaves::initial))]
+    pub fn initial(&mut self, alloc: Global) -> Result<Init, Halt>
+        ensures { Gives result self.new (grammar.initial.reads self.old) }
+    {
+        let at = self.start();
+        let value = self.init_value(alloc)?;
+        Ok(Init { at, value })
+    }
+}
