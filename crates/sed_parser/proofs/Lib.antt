@@ -3,3 +3,5 @@ pub mod Loops
 pub mod Steps
 pub mod Parts
 pub mod Grammar
+pub mod Repeats
+pub mod Levels

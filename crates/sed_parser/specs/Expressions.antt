@@ -46,8 +46,10 @@ abbrev pub next_leaf : List Token → Bool
 next_leaf tokens = next_literal tokens || next_key (codes "this") tokens
 
 -- `, EXPRESSION`, several times
-abbrev pub next_argument : Inner → Rule Tree
-next_argument inner = part.mark (codes ",") >> inner 13 true
+unfoldable pub next_argument : Inner → Rule Tree
+next_argument inner = do
+  part.mark (codes ",")
+  inner 13 true
 
 unfoldable pub more_arguments : Inner → Tree → Rule (List Tree)
 more_arguments inner first = do
@@ -134,12 +136,15 @@ access inner inside = do
 abbrev pub next_access : Bool → List Token → Bool
 next_access inside tokens = next_goes inside tokens && (next_mark (codes ".") tokens || next_mark (codes "[") tokens)
 
+unfoldable pub access_links : Inner → Bool → Rule (List Tree)
+access_links inner inside = many (next_access inside) (access inner inside)
+
 -- a primary, what stands behind it from left to right, and `++` or `--`
 unfoldable pub postfix : Inner → Bool → Rule Tree
 postfix inner inside = do
   at ← part.place
   first ← primary inner inside
-  links ← many (next_access inside) (access inner inside)
+  links ← access_links inner inside
   when (λ tokens. next_goes inside tokens && next_update tokens)
     (do
       op ← part.update
@@ -174,12 +179,18 @@ operand level tighter = do
   e ← tighter
   give (Part (label.Operand at op) e Absent)
 
+abbrev pub next_operand : Bool → ℕ → List Token → Bool
+next_operand inside level tokens = next_goes inside tokens && next_binary level tokens
+
+unfoldable pub operand_links : ℕ → Bool → Rule Tree → Rule (List Tree)
+operand_links level inside tighter = many (next_operand inside level) (operand level tighter)
+
 -- operands of a binary level, from left to right
 unfoldable pub operands : ℕ → Bool → Rule Tree → Rule Tree
 operands level inside tighter = do
   at ← part.place
   first ← tighter
-  links ← many (λ tokens. next_goes inside tokens && next_binary level tokens) (operand level tighter)
+  links ← operand_links level inside tighter
   give (chain at first links)
 
 -- `? :`, whose parts are from right to left
