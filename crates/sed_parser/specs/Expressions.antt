@@ -61,14 +61,14 @@ unfoldable pub arguments : Inner → Rule (List Tree)
 arguments inner = do
   part.mark (codes "(")
   when (next_mark (codes ")"))
-    (do
-      part.mark (codes ")")
-      give [])
-    (do
-      first ← inner 13 true
-      all ← more_arguments inner first
-      part.mark (codes ")")
-      give all)
+      (do
+        part.mark (codes ")")
+        give [])
+      (do
+        first ← inner 13 true
+        all ← more_arguments inner first
+        part.mark (codes ")")
+        give all)
 
 -- `super.ID`, before its arguments
 unfoldable pub super_name : Bool → Rule Ident
@@ -85,12 +85,12 @@ unfoldable pub named : Inner → Bool → Rule Tree
 named inner inside = do
   first ← part.ident
   when (goes_mark inside (codes "::"))
-    (do
-      part.mark (codes "::")
-      onward inside
-      second ← part.ident
-      give (Part (label.Of first second) Absent Absent))
-    (when (goes_mark inside (codes "("))
+      (do
+        part.mark (codes "::")
+        onward inside
+        second ← part.ident
+        give (Part (label.Of first second) Absent Absent))
+      (when (goes_mark inside (codes "("))
       (do
         args ← arguments inner
         give (Part (label.Call first) (row args) Absent))
@@ -100,38 +100,38 @@ unfoldable pub primary : Inner → Bool → Rule Tree
 primary inner inside = do
   at ← part.place
   when next_leaf leaf
-    (when (next_mark (codes "("))
+      (when (next_mark (codes "("))
       (do
         part.mark (codes "(")
         e ← inner 13 true
         part.mark (codes ")")
         give (Part (label.Paren at) e Absent))
       (when (next_key (codes "super"))
-        (do
-          name ← super_name inside
-          args ← arguments inner
-          give (Part (label.Super at name) (row args) Absent))
-        (named inner inside)))
+      (do
+        name ← super_name inside
+        args ← arguments inner
+        give (Part (label.Super at name) (row args) Absent))
+      (named inner inside)))
 
 -- `.ID`, `.ID(..)` or `[EXPRESSION]`
 unfoldable pub access : Inner → Bool → Rule Tree
 access inner inside = do
   at ← part.place
   when (next_mark (codes "."))
-    (do
-      part.mark (codes ".")
-      onward inside
-      name ← part.ident
-      when (goes_mark inside (codes "("))
-        (do
-          args ← arguments inner
-          give (Part (label.Method at name) (row args) Absent))
-        (give (Part (label.Member at name) Absent Absent)))
-    (do
-      part.mark (codes "[")
-      e ← inner 13 true
-      part.mark (codes "]")
-      give (Part (label.Index at) e Absent))
+      (do
+        part.mark (codes ".")
+        onward inside
+        name ← part.ident
+        when (goes_mark inside (codes "("))
+            (do
+              args ← arguments inner
+              give (Part (label.Method at name) (row args) Absent))
+            (give (Part (label.Member at name) Absent Absent)))
+      (do
+        part.mark (codes "[")
+        e ← inner 13 true
+        part.mark (codes "]")
+        give (Part (label.Index at) e Absent))
 
 abbrev pub next_access : Bool → List Token → Bool
 next_access inside tokens = next_goes inside tokens && (next_mark (codes ".") tokens || next_mark (codes "[") tokens)
@@ -146,22 +146,22 @@ postfix inner inside = do
   first ← primary inner inside
   links ← access_links inner inside
   when (λ tokens. next_goes inside tokens && next_update tokens)
-    (do
-      op ← part.update
-      give (Part (label.Update at op) (chain at first links) Absent))
-    (give (chain at first links))
+      (do
+        op ← part.update
+        give (Part (label.Update at op) (chain at first links) Absent))
+      (give (chain at first links))
 
 -- a prefix operator or a cast, and its operand, which goes on
 unfoldable pub prefixed : Inner → Bool → Rule Tree → Rule Tree
 prefixed inner inside tighter = do
   at ← part.place
   when next_prefix
-    (do
-      op ← part.prefix
-      onward inside
-      e ← inner 1 inside
-      give (Part (label.Prefix at op) e Absent))
-    (when (λ tokens. next_mark (codes "(") tokens && second_prim tokens)
+      (do
+        op ← part.prefix
+        onward inside
+        e ← inner 1 inside
+        give (Part (label.Prefix at op) e Absent))
+      (when (λ tokens. next_mark (codes "(") tokens && second_prim tokens)
       (do
         part.mark (codes "(")
         kind ← part.prim
@@ -199,13 +199,13 @@ conditional inner inside tighter = do
   at ← part.place
   first ← tighter
   when (goes_mark inside (codes "?"))
-    (do
-      part.mark (codes "?")
-      second ← inner 13 inside
-      part.mark (codes ":")
-      third ← inner 12 inside
-      give (Part (label.Conditional at) first (Part label.Both second third)))
-    (give first)
+      (do
+        part.mark (codes "?")
+        second ← inner 13 inside
+        part.mark (codes ":")
+        third ← inner 12 inside
+        give (Part (label.Conditional at) first (Part label.Both second third)))
+      (give first)
 
 -- assignments, from right to left
 unfoldable pub assigned : Inner → Bool → Rule Tree → Rule Tree
@@ -213,18 +213,18 @@ assigned inner inside tighter = do
   at ← part.place
   target ← tighter
   when (λ tokens. next_goes inside tokens && next_assignment tokens)
-    (do
-      op ← part.assignment
-      value ← inner 13 inside
-      give (Part (label.Assign at op) target value))
-    (give target)
+      (do
+        op ← part.assignment
+        value ← inner 13 inside
+        give (Part (label.Assign at op) target value))
+      (give target)
 
 -- an expression of a level, by that of the level below
 abbrev pub of_level : Inner → ℕ → Bool → Rule Tree → Rule Tree
 of_level inner level inside tighter = when (λ tokens. level == 13) (assigned inner inside tighter)
     (when (λ tokens. level == 12) (conditional inner inside tighter)
-      (when (λ tokens. level == 1) (prefixed inner inside tighter)
-        (operands level inside tighter)))
+    (when (λ tokens. level == 1) (prefixed inner inside tighter)
+    (operands level inside tighter)))
 
 unfoldable pub expression_in : Inner → ℕ → Bool → Rule Tree
 expression_in inner zero inside = postfix inner inside

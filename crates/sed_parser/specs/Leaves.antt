@@ -73,11 +73,11 @@ type_name = do
   at ← place
   first ← ident
   when (next_mark (codes "::"))
-    (do
-      mark (codes "::")
-      second ← ident
-      give (record { at = at; kit = Some first; id = second }))
-    (give (record { at = at; kit = None; id = first }))
+      (do
+        mark (codes "::")
+        second ← ident
+        give (record { at = at; kit = Some first; id = second }))
+      (give (record { at = at; kit = None; id = first }))
 
 unfoldable pub base_of_type : Rule Base
 base_of_type = when next_prim
@@ -85,12 +85,12 @@ base_of_type = when next_prim
       word ← prim
       give (base.Primitive word))
     (when (next_key (codes "void"))
-      (do
-        key (codes "void")
-        give base.Void)
-      (do
-        name ← type_name
-        give (base.Named name)))
+    (do
+      key (codes "void")
+      give base.Void)
+    (do
+      name ← type_name
+      give (base.Named name)))
 
 -- `(N)` or `[N]`
 unfoldable pub size_of_type : Rule (Option Size)
@@ -101,12 +101,12 @@ size_of_type = when (next_mark (codes "("))
       mark (codes ")")
       give (Some (size.Parens n)))
     (when (next_mark (codes "["))
-      (do
-        mark (codes "[")
-        n ← integer
-        mark (codes "]")
-        give (Some (size.Brackets n)))
-      (give None))
+    (do
+      mark (codes "[")
+      n ← integer
+      mark (codes "]")
+      give (Some (size.Brackets n)))
+    (give None))
 
 unfoldable pub type_of : Rule TypeRef
 type_of = do
@@ -154,12 +154,12 @@ init_value = when (next_mark (codes "-"))
       value ← literal
       give (init.Minus value))
     (when next_literal
-      (do
-        value ← literal
-        give (init.Literal value))
-      (do
-        name ← ident
-        give (init.Name name)))
+    (do
+      value ← literal
+      give (init.Literal value))
+    (do
+      name ← ident
+      give (init.Name name)))
 
 unfoldable pub initial : Rule Init
 initial = do

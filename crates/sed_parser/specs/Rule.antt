@@ -113,7 +113,7 @@ before {A} {B} p f = record {
   holds = λ b tokens rest. (a : A) × (middle : List Token) × p.holds a tokens middle × (f a).holds b middle rest;
   reads = λ tokens. then (p.reads tokens) (λ a. (f a).reads);
   sound = λ tokens b rest e. let s = then_first (p.reads tokens) (λ a. (f a).reads) (b, rest) e in
-    (s.0, s.1, p.sound tokens s.0 s.1 s.2, (f s.0).sound s.1 b rest s.3);
+      (s.0, s.1, p.sound tokens s.0 s.1 s.2, (f s.0).sound s.1 b rest s.3);
   whole = λ tokens b rest h. then_whole (p.reads tokens) (λ a. (f a).reads) h.0 h.1 (b, rest) (p.whole tokens h.0 h.1 h.2) ((f h.0).whole h.1 b rest h.3);
 }
 

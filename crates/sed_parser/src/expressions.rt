@@ -1,7 +1,7 @@
 // Expressions.
 
-use crate::operators::{AssignOp, BinaryOp, PrefixOp, UpdateOp};
 use crate::leaves::{Ident, Literal};
+use crate::operators::{AssignOp, BinaryOp, PrefixOp, UpdateOp};
 use sed_value::Prim;
 use std::marker::Model;
 

@@ -1,7 +1,7 @@
 // What a node of a tree is.
 
-use crate::operators::{AssignOp, BinaryOp, PrefixOp, UpdateOp};
 use crate::leaves::{Ident, Literal, TypeRef};
+use crate::operators::{AssignOp, BinaryOp, PrefixOp, UpdateOp};
 use sed_value::Prim;
 
 /// What a node of an expression or a statement is, as contracts see it: its form, with what stands in the node itself.

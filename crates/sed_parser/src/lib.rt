@@ -9,11 +9,10 @@ mod form;
 mod halt;
 mod items;
 mod label;
-mod leaves;
 mod laws;
+mod leaves;
 mod naming;
 mod operators;
-
 mod parse_expressions;
 mod parse_leaves;
 mod parser;
@@ -26,6 +25,9 @@ pub use form::{First, FirstAssign, FirstProp, FirstRefusal, FirstTerm};
 pub use items::Items;
 pub use label::Label;
 pub use laws::class_is_one;
+pub use leaves::{
+    Base, Facet, Ident, Init, InitValue, Literal, LiteralKind, Modifier, ModifierWord, Param, Size,
+    TypeName, TypeRef,
+};
 pub use operators::{AssignOp, BinaryOp, PrefixOp, UpdateOp};
-pub use leaves::{Base, Facet, Ident, Init, InitValue, Literal, LiteralKind, Modifier, ModifierWord, Param, Size, TypeName, TypeRef};
 pub use reading::first;

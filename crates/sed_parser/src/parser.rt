@@ -5,13 +5,13 @@ ghost use Rattle.sed_parser.specs.Leaves as grammar;
 ghost use Rattle.sed_parser.specs.Next as next;
 ghost use Rattle.sed_parser.specs.Halts.{Gives};
 
+use crate::Items;
 use crate::halt::Halt;
 use crate::leaves::{Ident, Literal, LiteralKind, ModifierWord};
 use crate::operators::{AssignOp, BinaryOp, PrefixOp, UpdateOp};
 use crate::tables::{
     assignment_of, binary_of, leads_on, literal_kind, modifier_of, prefix_of, prim_of, update_of,
 };
-use crate::Items;
 use sed_lexer::{TokenKind, Tokens};
 use sed_value::Prim;
 use std::alloc::Global;
@@ -318,7 +318,8 @@ impl<'a> Parser<'a> {
         if self.at == self.tokens.len() {
             return Err(Halt::Fault);
         }
-        let Some(op) = binary_of(level, self.tokens.kind(self.at), self.tokens.bytes(self.at)) else {
+        let Some(op) = binary_of(level, self.tokens.kind(self.at), self.tokens.bytes(self.at))
+        else {
             return Err(Halt::Fault);
         };
         self.at += 1;

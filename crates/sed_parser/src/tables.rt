@@ -233,7 +233,11 @@ pub fn binary_of(level: usize, kind: TokenKind, bytes: &[u8]) -> Option<BinaryOp
         return None;
     }
     let op = binary_mark(bytes)?;
-    if level_of(op) == level { Some(op) } else { None }
+    if level_of(op) == level {
+        Some(op)
+    } else {
+        None
+    }
 }
 
 fn sum_assignment(bytes: &[u8]) -> Option<AssignOp>
