@@ -1,11 +1,14 @@
 //! The program: `sedona` over the system's files and standard output. It ends with the status that the call gives.
 #![tactic(auto)]
 
-use sed_outside::{OutSink, RealFiles};
+use sed_outside::{OutSink, RealFiles, Sink};
 use sedona_cli::sedona;
 use std::env::{self, Env};
 use std::io;
 use std::process::ExitCode;
+
+// The status of want of memory.
+const NO_MEMORY: u8 = 7;
 
 // The words behind the program's name.
 fn given_words<R: Env + Alloc>(rt: &R) -> io::Result<Vec<String<R::A>, R::A>> {
@@ -17,9 +20,16 @@ fn given_words<R: Env + Alloc>(rt: &R) -> io::Result<Vec<String<R::A>, R::A>> {
 }
 
 fn main(rt: HostRuntime) -> ExitCode {
-    // A word that is no UTF-8 is in no table of words, and then none of them is given.
-    let words = given_words(&rt).unwrap_or(Vec::new(rt.alloc()));
-    let mut files = RealFiles::new(&rt);
     let mut out = OutSink::new(io::writer(&rt));
+    let words = match given_words(&rt) {
+        Ok(words) => words,
+        Err(error) if error.kind() == io::ErrorKind::OutOfMemory => {
+            let _ = out.put(b"out of memory\n");
+            return ExitCode::from(NO_MEMORY);
+        }
+        // A word that is no UTF-8 is in no table of words, and then none of them is given.
+        Err(_) => Vec::new(rt.alloc()),
+    };
+    let mut files = RealFiles::new(&rt);
     ExitCode::from(sedona(rt.alloc(), &words, &mut files, &mut out))
 }
