@@ -1,7 +1,6 @@
 pub mod Rest
-pub mod Loops
-pub mod Steps
-pub mod Parts
-pub mod Grammar
 pub mod Repeats
 pub mod Levels
+pub mod Nesting
+pub mod Units
+pub mod Shown

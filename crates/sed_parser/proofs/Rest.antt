@@ -1,19 +1,18 @@
 -- What a reader at its end has left.
 use Rattle.std.proofs.Common.{◌≡◌, ℕ, zero, suc, ◌≤◌, ◌<◌, Bool, true, List, [], ◌∷◌, length, drop, nat_eq, refl, ◌∙◌, ◌+◌, add-one, arith}
 use Rattle.sed_lexer.specs.Token.{Token}
-use Rattle.sed_parser.specs.Reading.{is_end}
-use Rattle.sed_parser.specs.Next.{next_goes}
+use Rattle.sed_parser.specs.Next.{at_end, next_goes}
 
-pub is_end-drop : (ts : List Token) (at : ℕ) → at ≤ length ts → nat_eq at (length ts) ≡ is_end (drop at ts)
-is_end-drop [] zero within = refl
-is_end-drop [] (suc at) within = grind arith
-is_end-drop (t ∷ ts) zero within = grind arith
-is_end-drop (t ∷ ts) (suc at) within =
+pub at_end-drop : (ts : List Token) (at : ℕ) → at ≤ length ts → nat_eq at (length ts) ≡ at_end (drop at ts)
+at_end-drop [] zero within = refl
+at_end-drop [] (suc at) within = grind arith
+at_end-drop (t ∷ ts) zero within = grind arith
+at_end-drop (t ∷ ts) (suc at) within =
     let less : at ≤ length ts = omega arith in
-    let shorter : nat_eq at (length ts) ≡ is_end (drop at ts) = is_end-drop ts at less in
+    let shorter : nat_eq at (length ts) ≡ at_end (drop at ts) = at_end-drop ts at less in
     grind (arith, shorter)
 
-pub ruleset ends = is_end-drop
+pub ruleset ends = at_end-drop
 
 -- within brackets each token goes on
 pub goes_inside : (inside : Bool) (ts : List Token) (at : ℕ) → inside ≡ true → at < length ts → next_goes inside (drop at ts) ≡ true

@@ -1,8 +1,4 @@
 pub mod Phrase
-pub mod FirstForm
-pub mod Naming
-pub mod Reading
-pub mod Gives
 pub mod Rule
 pub mod Many
 pub mod Tree
@@ -13,3 +9,11 @@ pub mod Halts
 pub mod Next
 pub mod Leaves
 pub mod Expressions
+pub mod StatementTree
+pub mod StatementFalls
+pub mod Statements
+pub mod Classes
+pub mod Derives
+pub mod Naming
+pub mod FirstForm
+pub mod Answers

@@ -1,9 +1,10 @@
 -- What stands several times in a row.
-use Rattle.std.specs.Prelude.{◌≡◌, ◌≤◌, ℕ, zero, suc, ◌+◌, Bool, true, false, cond, List, [], ◌∷◌, length, Option, Some, None, refl}
+use Rattle.std.specs.Prelude.{◌≡◌, ◌≤◌, ℕ, zero, suc, ◌+◌, Bool, true, false, cond, List, [], ◌∷◌, ◌++◌, length, Option, Some, None, refl}
 use Rattle.std.proofs.Common.{arith, ap, subst, sym, ◌∙◌}
+use Rattle.std.proofs.lemmas.List.{length-append}
 use Rattle.sed_lexer.specs.Token.{Token}
 use Rattle.sed_parser.specs.Phrase.{Phrase}
-use Rattle.sed_parser.specs.Rule.{Rule, Reads, then, then_first, then_whole, give_sound, give_whole, none_some}
+use Rattle.sed_parser.specs.Rule.{Rule, IsLeft, Reads, then, then_first, give_sound, give_whole, none_some, none_taken, both_taken}
 
 -- an item wherever one is wanted, by what is next
 abbrev pub Many : {A : Type 0} → (List Token → Bool) → (A → Phrase) → List A → Phrase
@@ -58,11 +59,42 @@ many_whole {A} go item (suc most) tokens (a ∷ xs) rest ((goes, (middle, first,
     let more : many_at go item.reads most middle ≡ Some (xs, rest) = many_whole go item most middle xs rest (others, fewer) in
     rw (goes, item.whole tokens a middle first, more) refl
 
--- As many items xs the tokens hold: an item has a token or more.
+pub many_left : {A : Type 0} (go : List Token → Bool) (item : Rule A) (xs : List A) (tokens rest : List Token) → Many go item.holds xs tokens rest → IsLeft tokens rest
+many_left go item [] tokens rest h = none_taken tokens rest h.1
+many_left go item (a ∷ xs) tokens rest (goes, (middle, first, others)) =
+    both_taken tokens middle rest (item.left tokens a middle first) (many_left go item xs middle rest others)
+
+not_both : true ≡ false → ⊥
+not_both e = cc
+
+-- An item of no token stands in no row: behind it there would be the same one, and so on.
+no_end : {A : Type 0} (go : List Token → Bool) (item : Rule A) (a : A) (xs : List A) (tokens rest : List Token) → go tokens ≡ true → item.holds a tokens tokens
+    → Many go item.holds xs tokens rest → ⊥
+no_end go item a [] tokens rest goes nothing_taken h = not_both (sym goes ∙ h.0)
+no_end {A} go item a (b ∷ xs) tokens rest goes nothing_taken (again, (middle, first, others)) =
+    let same : tokens ≡ middle = (give_sound a tokens b middle (sym (item.whole tokens a tokens nothing_taken) ∙ item.whole tokens b middle first)).1 in
+    no_end go item a xs tokens rest goes nothing_taken (subst (λ (ts : List Token). Many go item.holds xs ts rest) (sym same) others)
+
+-- so a row has no more items than tokens
+pub few : {A : Type 0} (go : List Token → Bool) (item : Rule A) (xs : List A) (tokens rest : List Token) → Many go item.holds xs tokens rest → length xs ≤ length tokens
+few go item [] tokens rest h = omega arith
+few {A} go item (a ∷ xs) tokens rest (goes, (middle, first, others)) = by_front (item.left tokens a middle first) (few go item xs middle rest others)
+  where
+    by_front : IsLeft tokens middle → length xs ≤ length middle → suc (length xs) ≤ length tokens
+    by_front ([], same) fewer =
+        let stays : item.holds a middle middle = subst (λ (ts : List Token). item.holds a ts middle) same first in
+        absurd (no_end go item a xs middle rest (ap go (sym same) ∙ goes) stays others)
+    by_front (t ∷ ts, same) fewer =
+        let all : length tokens ≡ suc (length (ts ++ middle)) = ap (λ (x : List Token). length x) same in
+        let both : length (ts ++ middle) ≡ length ts + length middle = length-append ts middle in
+        omega (arith, all, both, fewer)
+
+-- items up to where none is wanted
 abbrev pub many : {A : Type 0} → (List Token → Bool) → Rule A → Rule (List A)
 many go item = record {
-  holds = λ xs tokens rest. ManyAt go item.holds (length tokens) xs tokens rest;
+  holds = Many go item.holds;
   reads = λ tokens. many_at go item.reads (length tokens) tokens;
-  sound = λ tokens xs rest e. many_sound go item (length tokens) tokens xs rest e;
-  whole = λ tokens xs rest h. many_whole go item (length tokens) tokens xs rest h;
+  sound = λ tokens xs rest e. (many_sound go item (length tokens) tokens xs rest e).0;
+  whole = λ tokens xs rest h. many_whole go item (length tokens) tokens xs rest (h, few go item xs tokens rest h);
+  left = λ tokens xs rest h. many_left go item xs tokens rest h;
 }

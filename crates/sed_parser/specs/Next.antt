@@ -2,7 +2,6 @@
 use Rattle.std.specs.Prelude.{◌≡◌, ℕ, Bool, true, false, ◌||◌, ◌&&◌, not, List, [], ◌∷◌, drop, Option, Some, None, codes}
 use Rattle.std.specs.Str.{bytes_eq}
 use Rattle.sed_lexer.specs.Token.{Token}
-use Rattle.sed_parser.specs.Reading.{is_end}
 use Rattle.sed_parser.specs.Words.{is_some, is_mark, is_key, is_id, literal_kind, prim_of, modifier_of, binary_of, assignment_of, update_of, prefix_of, goes}
 
 -- the place of the next token in the text, and 0 at the end
@@ -57,7 +56,8 @@ next_goes inside (t ∷ ts) = goes inside t
 
 -- no token is left
 abbrev pub at_end : List Token → Bool
-at_end tokens = is_end tokens
+at_end [] = true
+at_end (t ∷ ts) = false
 
 -- the next token is the first on its line
 abbrev pub next_first : List Token → Bool

@@ -2,20 +2,34 @@
 --
 -- A rule says what stands where: `holds a tokens rest` where `a` stands at the front of the tokens, with `rest` behind it.
 -- Beside that it has a reading from left to right, which a parser follows, with the proof that reading finds just what
--- stands there. So a grammar of such rules is written once, and a place has at most one reading.
-use Rattle.std.specs.Prelude.{◌≡◌, ◌⊎◌, ◌≤◌, ℕ, zero, suc, ◌+◌, Bool, true, false, cond, List, [], ◌∷◌, length, Option, Some, None, refl}
-use Rattle.std.proofs.Common.{inl, inr, ap, subst, sym, ◌∙◌, arith}
+-- stands there, and that what is left are the last ones of the tokens. So a grammar of such rules is written once, and a
+-- place has at most one reading.
+use Rattle.std.specs.Prelude.{◌≡◌, ◌⊎◌, ◌+◌, Bool, true, false, cond, List, [], ◌∷◌, ◌++◌, Option, Some, None, refl}
+use Rattle.std.proofs.Common.{inl, inr, ap, sym, ◌∙◌}
+use Rattle.std.proofs.lemmas.List.{append_assoc}
 use Rattle.sed_lexer.specs.Token.{Token}
 use Rattle.sed_parser.specs.Phrase.{Phrase}
 
 abbrev pub Reads : Type 0 → Type 0
 Reads A = List Token → Option (A × List Token)
 
+-- the rest are the last ones of the tokens
+abbrev pub IsLeft : Phrase
+IsLeft tokens rest = (front : List Token) × (tokens ≡ front ++ rest)
+
 pub record Rule (A : Type 0) : Type 1 where
   pub holds : A → Phrase
   pub reads : Reads A
   pub sound : (tokens : List Token) (a : A) (rest : List Token) → reads tokens ≡ Some (a, rest) → holds a tokens rest
   pub whole : (tokens : List Token) (a : A) (rest : List Token) → holds a tokens rest → reads tokens ≡ Some (a, rest)
+  pub left : (tokens : List Token) (a : A) (rest : List Token) → holds a tokens rest → IsLeft tokens rest
+
+pub none_taken : (tokens rest : List Token) → tokens ≡ rest → IsLeft tokens rest
+none_taken tokens rest same = ([], same)
+
+pub both_taken : (tokens middle rest : List Token) → IsLeft tokens middle → IsLeft middle rest → IsLeft tokens rest
+both_taken tokens middle rest (front, first) (back, second) =
+    (front ++ back, first ∙ ap (λ (ts : List Token). front ++ ts) second ∙ sym (append_assoc front back rest))
 
 some_eq : {A : Type 0} (x y : A) → Some x ≡ Some y → x ≡ y
 some_eq x y e = cc
@@ -41,6 +55,7 @@ give a = record {
   reads = λ tokens. Some (a, tokens);
   sound = λ tokens b rest e. give_sound a tokens b rest e;
   whole = λ tokens b rest h. give_whole a tokens b rest h;
+  left = λ tokens b rest h. none_taken tokens rest h.1;
 }
 
 -- what is seen of the tokens from here on, and no token
@@ -50,6 +65,7 @@ seen f = record {
   reads = λ tokens. Some (f tokens, tokens);
   sound = λ tokens b rest e. give_sound (f tokens) tokens b rest e;
   whole = λ tokens b rest h. give_whole (f tokens) tokens b rest h;
+  left = λ tokens b rest h. none_taken tokens rest h.1;
 }
 
 -- nothing stands there
@@ -59,6 +75,7 @@ nothing = record {
   reads = λ tokens. None;
   sound = λ tokens b rest e. none_some (b, rest) e;
   whole = λ tokens b rest h. absurd h;
+  left = λ tokens b rest h. absurd h;
 }
 
 -- one token, of which the value is told
@@ -86,12 +103,17 @@ pub token_whole : {A : Type 0} (f : Token → Option A) (tokens : List Token) (a
 token_whole f [] a rest h = absurd h
 token_whole f (t ∷ ts) a rest h = rw (h.0, h.1) refl
 
+pub token_left : {A : Type 0} (f : Token → Option A) (tokens : List Token) (a : A) (rest : List Token) → of_token f a tokens rest → IsLeft tokens rest
+token_left f [] a rest h = absurd h
+token_left f (t ∷ ts) a rest h = (t ∷ [], ap (λ (r : List Token). t ∷ r) h.1)
+
 abbrev pub token : {A : Type 0} → (Token → Option A) → Rule A
 token f = record {
   holds = of_token f;
   reads = read_token f;
   sound = token_sound f;
   whole = token_whole f;
+  left = token_left f;
 }
 
 -- one rule, and behind it the next, by what the first one has read
@@ -115,6 +137,7 @@ before {A} {B} p f = record {
   sound = λ tokens b rest e. let s = then_first (p.reads tokens) (λ a. (f a).reads) (b, rest) e in
       (s.0, s.1, p.sound tokens s.0 s.1 s.2, (f s.0).sound s.1 b rest s.3);
   whole = λ tokens b rest h. then_whole (p.reads tokens) (λ a. (f a).reads) h.0 h.1 (b, rest) (p.whole tokens h.0 h.1 h.2) ((f h.0).whole h.1 b rest h.3);
+  left = λ tokens b rest h. both_taken tokens h.1 rest (p.left tokens h.0 h.1 h.2) ((f h.0).left h.1 b rest h.3);
 }
 
 infixl 10 ◌>>=◌
@@ -139,12 +162,19 @@ pub either_whole : {A : Type 0} (P Q : Phrase) (b : Bool) (o r : Option (A × Li
 either_whole P Q b o r a tokens rest p q (inl h) = rw h.0 (p h.1)
 either_whole P Q b o r a tokens rest p q (inr h) = rw h.0 (q h.1)
 
+pub either_left : (P Q : Phrase) (b : Bool) (tokens rest : List Token)
+    → (P tokens rest → IsLeft tokens rest) → (Q tokens rest → IsLeft tokens rest)
+    → ((b ≡ true) × P tokens rest) ⊎ ((b ≡ false) × Q tokens rest) → IsLeft tokens rest
+either_left P Q b tokens rest p q (inl h) = p h.1
+either_left P Q b tokens rest p q (inr h) = q h.1
+
 abbrev pub when : {A : Type 0} → (List Token → Bool) → Rule A → Rule A → Rule A
 when test p q = record {
   holds = λ a tokens rest. ((test tokens ≡ true) × p.holds a tokens rest) ⊎ ((test tokens ≡ false) × q.holds a tokens rest);
   reads = λ tokens. cond (test tokens) (p.reads tokens) (q.reads tokens);
   sound = λ tokens a rest e. either_sound (p.holds a) (q.holds a) (test tokens) (p.reads tokens) (q.reads tokens) a tokens rest (p.sound tokens a rest) (q.sound tokens a rest) e;
   whole = λ tokens a rest h. either_whole (p.holds a) (q.holds a) (test tokens) (p.reads tokens) (q.reads tokens) a tokens rest (p.whole tokens a rest) (q.whole tokens a rest) h;
+  left = λ tokens a rest h. either_left (p.holds a) (q.holds a) (test tokens) tokens rest (p.left tokens a rest) (q.left tokens a rest) h;
 }
 
 -- where the test fails, nothing stands there

@@ -14,6 +14,11 @@ abbrev pub row : List Tree → Tree
 row [] = Absent
 row (t ∷ ts) = Part label.More t (row ts)
 
+-- the items of a row
+abbrev pub row_items : Tree → List Tree
+row_items (Part label.More t rest) = t ∷ row_items rest
+row_items tree = []
+
 abbrev pub optional : Option Tree → Tree
 optional None = Absent
 optional (Some t) = t

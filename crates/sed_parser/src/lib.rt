@@ -1,33 +1,43 @@
-//! Classes of the first form, read from their tokens.
+//! Units of the language, read from their tokens.
 //!
-//! A class of the first form has int properties and one method of assignments of sums. `first` gives the class that the
-//! tokens spell by the grammar of `specs/FirstForm`, and refuses tokens that spell none.
+//! `parse` gives the unit that the tokens derive by the grammar of `specs/Derives`, and a fault where they derive none.
+//! `first` gives the class of the first form that a unit shows, and refuses a unit that shows none.
 #![tactic(auto)]
 
+mod boxed;
+mod classes;
 mod expressions;
 mod form;
 mod halt;
 mod items;
 mod label;
-mod laws;
 mod leaves;
 mod naming;
 mod operators;
+mod parse_classes;
 mod parse_expressions;
 mod parse_leaves;
+mod parse_nesting;
+mod parse_statements;
+mod parse_steps;
 mod parser;
-mod reader;
+mod parsing;
 mod reading;
+mod statements;
 mod tables;
+#[cfg(test)]
+mod tests;
 
+pub use classes::{Class, Member, MemberForm, Unit};
 pub use expressions::{Expr, Link, Node, Step};
 pub use form::{First, FirstAssign, FirstProp, FirstRefusal, FirstTerm};
 pub use items::Items;
 pub use label::Label;
-pub use laws::class_is_one;
 pub use leaves::{
     Base, Facet, Ident, Init, InitValue, Literal, LiteralKind, Modifier, ModifierWord, Param, Size,
     TypeName, TypeRef,
 };
 pub use operators::{AssignOp, BinaryOp, PrefixOp, UpdateOp};
+pub use parsing::{ParseRefusal, parse, unit_is_one};
 pub use reading::first;
+pub use statements::{Case, ForFirst, ForHead, Form, Local, Stmt};

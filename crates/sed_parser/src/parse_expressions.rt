@@ -8,7 +8,6 @@ ghost use Rattle.sed_parser.specs.Halts.{Gives, Makes};
 use crate::Items;
 use crate::expressions::{Expr, Link, Node, Step};
 use crate::halt::Halt;
-use crate::leaves::Ident;
 use crate::operators::{AssignOp, PrefixOp, UpdateOp};
 use crate::parser::Parser;
 use sed_value::Prim;
@@ -99,74 +98,9 @@ fn assign(alloc: Global, at: usize, op: AssignOp, target: Expr, value: Expr) -> 
 }
 
 impl<'a> Parser<'a> {
-    #[tactic(auto, unfolding(crate::specs::Expressions::onward))]
-    fn onward(&mut self, inside: bool) -> Result<(), Halt>
-        ensures { Gives result self.new ((grammar.onward inside).reads self.old) }
-    {
-        if !self.goes(inside) {
-            return Err(Halt::Fault);
-        }
-        Ok(())
-    }
-
-    fn goes_mark(&self, inside: bool, text: &[u8]) -> bool
-        ensures { result ≡ grammar.goes_mark inside text.now self.now }
-    {
-        self.goes(inside) && self.is_mark(text)
-    }
-
-    fn is_leaf(&self) -> bool
-        ensures { result ≡ grammar.next_leaf self.now }
-    {
-        self.is_literal() || self.is_key(b"this")
-    }
-
-    fn is_operand(&self, inside: bool, level: usize) -> bool
-        ensures { result ≡ grammar.next_operand inside level self.now }
-    {
-        self.goes(inside) && self.is_binary(level)
-    }
-
-    fn is_access(&self, inside: bool) -> bool
-        ensures { result ≡ grammar.next_access inside self.now }
-    {
-        self.goes(inside) && (self.is_mark(b".") || self.is_mark(b"["))
-    }
-
-    #[tactic(auto, unfolding(crate::specs::Expressions::leaf))]
-    fn leaf(&mut self, alloc: Global) -> Result<Expr, Halt>
-        ensures { Gives result self.new (grammar.leaf.reads self.old) }
-    {
-        if self.is_literal() {
-            let literal = self.literal(alloc)?;
-            return Ok(Expr {
-                at: literal.at,
-                node: Node::Literal(literal),
-            });
-        }
-        let at = self.start();
-        self.key(b"this")?;
-        Ok(Expr {
-            at,
-            node: Node::This,
-        })
-    }
-
-    #[tactic(auto, unfolding(crate::specs::Expressions::super_name))]
-    fn super_name(&mut self, alloc: Global, inside: bool) -> Result<Ident, Halt>
-        ensures { Gives result self.new ((grammar.super_name inside).reads self.old) }
-    {
-        self.key(b"super")?;
-        self.mark(b".")?;
-        self.onward(inside)?;
-        let name = self.ident(alloc)?;
-        self.onward(inside)?;
-        Ok(name)
-    }
-
-    // An expression one construct deeper, where there is room.
+    /// An expression one construct deeper, where there is room.
     #[cycle(parsing)]
-    fn deeper(
+    pub fn deeper(
         &mut self,
         alloc: Global,
         room: usize,

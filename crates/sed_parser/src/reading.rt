@@ -1,210 +1,367 @@
-// A class of the first form, by descent along its grammar.
-ghost use Rattle.std.specs.Prelude.{◌≡◌, IfOk, IsErrOf, List, Option};
-ghost use Rattle.sed_lexer.specs.Token.{Token};
+// A class of the first form, read from its unit.
+ghost use Rattle.std.specs.Prelude.{◌≡◌, IfOk, IsErrOf, Option, Some, [], ◌∷◌};
 ghost use Rattle.sed_parser.specs.declared.form.First.{First as ClassOfFirstForm};
-ghost use Rattle.sed_parser.specs.FirstForm.{IsFirst};
-ghost use Rattle.sed_parser.specs.Reading as reading;
-ghost use Rattle.sed_parser.specs.Gives.{Gives, Answers};
+ghost use Rattle.sed_parser.specs.FirstForm as form;
+ghost use Rattle.sed_parser.specs.Answers.{Answers};
 
+use crate::classes::{Class, Member, MemberForm, Unit};
+use crate::expressions::{Expr, Link, Node, Step};
+use crate::leaves::{
+    Base, Facet, Ident, Init, InitValue, Literal, LiteralKind, Modifier, ModifierWord, TypeName,
+    TypeRef,
+};
 use crate::naming::is_well_named;
-use crate::reader::Reader;
+use crate::operators::{AssignOp, BinaryOp};
+use crate::statements::{Form, Stmt};
 use crate::{First, FirstAssign, FirstProp, FirstRefusal, FirstTerm, Items};
-use sed_lexer::Tokens;
-use sed_value::Word;
+use sed_value::{Prim, Word, read_decimal};
 use std::alloc::Global;
+
+// The greatest decimal of the first form.
+const GREATEST: u64 = 2_147_483_647;
 
 const MOST_PROPERTIES: usize = 63;
 
 const MOST_ASSIGNMENTS: usize = 50;
 
-const MOST_TERMS: usize = 16;
+const MOST_ADDED: usize = 15;
 
-#[tactic(auto, unfolding(crate::specs::Reading::config_at))]
-fn config(reader: &mut Reader) -> Result<bool, FirstRefusal>
-    ensures { Gives result reader.new (reading.config_at reader.old) }
-{
-    if !reader.is_next(b"@") {
-        return Ok(false);
-    }
-    reader.pass(b"@")?;
-    reader.pass(b"config")?;
-    Ok(true)
+// A part of a unit that may show a part of a class of the first form.
+trait Part: Drop {
+    type Shown: Drop;
+
+    /// What it shows.
+    ghost shown: { Self → Option Self.Shown };
+
+    fn read(&self, alloc: Global) -> Result<Self::Shown, FirstRefusal>
+        ensures { Answers result (shown self.now) };
 }
 
-#[tactic(auto, unfolding(crate::specs::Reading::initial_at))]
-fn initial(reader: &mut Reader) -> Result<i32, FirstRefusal>
-    ensures { Gives result reader.new (reading.initial_at reader.old) }
+// What each of them shows, where there are at most so many.
+fn at_most<P: Part>(
+    alloc: Global,
+    parts: &[P],
+    most: usize,
+) -> Result<Items<P::Shown>, FirstRefusal>
+    ensures { Answers result (form.at_most most P.shown parts.now) }
 {
-    if !reader.is_next(b"=") {
-        return Ok(0);
+    if parts.len() > most {
+        return Err(FirstRefusal::NotFirst);
     }
-    reader.pass(b"=")?;
-    let number = reader.decimal()?;
-    Ok(number as i32)
+    let mut all = Vec::new(alloc);
+    for part in parts {
+        let next = part.read(alloc)?;
+        all.push(next)?;
+    }
+    Ok(Items::new(all))
 }
 
-#[tactic(auto, unfolding(crate::specs::Reading::property_at))]
-fn property(reader: &mut Reader) -> Result<FirstProp, FirstRefusal>
-    ensures { Gives result reader.new (reading.property_at reader.old) }
+fn word(id: &Ident) -> Option<Word>
+    ensures { result ≡ form.word_of id.now }
 {
-    let config = config(reader)?;
-    reader.pass(b"property")?;
-    reader.pass(b"int")?;
-    let name = reader.identifier()?;
-    let value = initial(reader)?;
-    reader.end()?;
-    Ok(FirstProp {
+    Word::read(id.bytes.as_slice())
+}
+
+fn decimal(literal: &Literal) -> Option<i32>
+    ensures { result ≡ form.decimal_of literal.now }
+{
+    if !matches!(literal.kind, LiteralKind::Integer) {
+        return None;
+    }
+    let number = read_decimal(literal.bytes.as_slice(), GREATEST)?;
+    Some(number as i32)
+}
+
+fn term(e: &Expr) -> Option<FirstTerm>
+    ensures { result ≡ form.term_of e.now }
+{
+    match &e.node {
+        Node::Name(id) => {
+            let name = word(id)?;
+            Some(FirstTerm::Name(name))
+        }
+        Node::Literal(literal) => {
+            let number = decimal(literal)?;
+            Some(FirstTerm::Number(number))
+        }
+        _ => None,
+    }
+}
+
+impl Part for Link {
+    type Shown = FirstTerm;
+
+    ghost shown = { form.added_of };
+
+    fn read(&self, _: Global) -> Result<FirstTerm, FirstRefusal> {
+        match &self.step {
+            Step::Operand(BinaryOp::Add, e) => term(e).ok_or(FirstRefusal::NotFirst),
+            _ => Err(FirstRefusal::NotFirst),
+        }
+    }
+}
+
+#[tactic(auto, using(crate::proofs::Shown::rows))]
+fn sum(alloc: Global, e: &Expr) -> Result<Items<FirstTerm>, FirstRefusal>
+    ensures { Answers result (form.sum_of e.now) }
+{
+    match &e.node {
+        Node::Chain(first, links) => {
+            let first = term(first).ok_or(FirstRefusal::NotFirst)?;
+            let others = at_most(alloc, links, MOST_ADDED)?;
+            with_first(first, others)
+        }
+        _ => {
+            let only = term(e).ok_or(FirstRefusal::NotFirst)?;
+            one(alloc, only)
+        }
+    }
+}
+
+fn with_first(first: FirstTerm, others: Items<FirstTerm>) -> Result<Items<FirstTerm>, FirstRefusal>
+    ensures { Answers result (Some (first ∷ others)) }
+{
+    let mut all = others.into_vec();
+    all.insert(0, first)?;
+    Ok(Items::new(all))
+}
+
+fn one(alloc: Global, term: FirstTerm) -> Result<Items<FirstTerm>, FirstRefusal>
+    ensures { Answers result (Some (term ∷ [])) }
+{
+    let mut all = Vec::new(alloc);
+    all.push(term)?;
+    Ok(Items::new(all))
+}
+
+fn target(e: &Expr) -> Option<Word>
+    ensures { result ≡ form.target_of e.now }
+{
+    match &e.node {
+        Node::Name(id) => word(id),
+        _ => None,
+    }
+}
+
+fn assigned(alloc: Global, e: &Expr) -> Result<FirstAssign, FirstRefusal>
+    ensures { Answers result (form.assigned_of e.now) }
+{
+    match &e.node {
+        Node::Assign(AssignOp::Set, to, value) => {
+            let target = target(to).ok_or(FirstRefusal::NotFirst)?;
+            let terms = sum(alloc, value)?;
+            Ok(FirstAssign { target, terms })
+        }
+        _ => Err(FirstRefusal::NotFirst),
+    }
+}
+
+impl Part for Stmt {
+    type Shown = FirstAssign;
+
+    ghost shown = { form.assignment_of };
+
+    fn read(&self, alloc: Global) -> Result<FirstAssign, FirstRefusal> {
+        match &self.form {
+            Form::Evaluate(e) => assigned(alloc, e),
+            _ => Err(FirstRefusal::NotFirst),
+        }
+    }
+}
+
+fn config(facets: &[Facet]) -> Option<bool>
+    ensures { result ≡ form.config_of facets.now }
+{
+    match facets {
+        [] => Some(false),
+        [facet] => {
+            if facet.value.is_none() && facet.name.bytes.as_slice() == b"config".as_slice() {
+                Some(true)
+            } else {
+                None
+            }
+        }
+        _ => None,
+    }
+}
+
+fn is_property_word(word: ModifierWord) -> bool
+    ensures { result ≡ form.is_property_word word }
+{
+    matches!(word, ModifierWord::Property)
+}
+
+fn is_override_word(word: ModifierWord) -> bool
+    ensures { result ≡ form.is_override_word word }
+{
+    matches!(word, ModifierWord::Override)
+}
+
+fn is_property(modifiers: &[Modifier]) -> bool
+    ensures { result ≡ form.is_one form.is_property_word modifiers.now }
+{
+    match modifiers {
+        [only] => is_property_word(only.word),
+        _ => false,
+    }
+}
+
+fn is_override(modifiers: &[Modifier]) -> bool
+    ensures { result ≡ form.is_one form.is_override_word modifiers.now }
+{
+    match modifiers {
+        [only] => is_override_word(only.word),
+        _ => false,
+    }
+}
+
+fn is_int(kind: &TypeRef) -> bool
+    ensures { result ≡ form.is_int kind.now.base kind.now.size }
+{
+    matches!(kind.base, Base::Primitive(Prim::Int)) && kind.size.is_none()
+}
+
+fn is_void(kind: &TypeRef) -> bool
+    ensures { result ≡ form.is_void kind.now.base kind.now.size }
+{
+    matches!(kind.base, Base::Void) && kind.size.is_none()
+}
+
+fn initial(init: &Init) -> Option<i32>
+    ensures { result ≡ form.initial_of init.now.value }
+{
+    match &init.value {
+        InitValue::Literal(literal) => decimal(literal),
+        _ => None,
+    }
+}
+
+fn value(rest: &MemberForm) -> Option<i32>
+    ensures { result ≡ form.value_of rest.now }
+{
+    match rest {
+        MemberForm::Field(None) => Some(0),
+        MemberForm::Field(Some(init)) => initial(init),
+        MemberForm::Method(_, _) => None,
+    }
+}
+
+fn property(member: &Member) -> Option<FirstProp>
+    ensures { result ≡ form.property_of member.now }
+{
+    if !is_property(member.modifiers.as_slice()) || !is_int(&member.kind) {
+        return None;
+    }
+    let config = config(member.facets.as_slice())?;
+    let name = word(&member.name)?;
+    let value = value(&member.form)?;
+    Some(FirstProp {
         name,
         config,
         value,
     })
 }
 
-#[tactic(auto, unfolding(crate::specs::Reading::term_at))]
-fn term(reader: &mut Reader) -> Result<FirstTerm, FirstRefusal>
-    ensures { Gives result reader.new (reading.term_at reader.old) }
-{
-    if reader.is_integer() {
-        let number = reader.decimal()?;
-        return Ok(FirstTerm::Number(number as i32));
+impl Part for Member {
+    type Shown = FirstProp;
+
+    ghost shown = { form.property_of };
+
+    fn read(&self, _: Global) -> Result<FirstProp, FirstRefusal> {
+        property(self).ok_or(FirstRefusal::NotFirst)
     }
-    let name = reader.identifier()?;
-    Ok(FirstTerm::Name(name))
 }
 
-fn sum(alloc: Global, reader: &mut Reader) -> Result<Items<FirstTerm>, FirstRefusal>
-    ensures { Gives result reader.new (reading.sum_at 16 reader.old) }
+fn body(alloc: Global, rest: &MemberForm) -> Result<Items<FirstAssign>, FirstRefusal>
+    ensures { Answers result (form.body_of rest.now) }
 {
-    let mut terms = Vec::new(alloc);
-    for _ in 0..MOST_TERMS {
-        let next = term(reader)?;
-        terms.push(next)?;
-        if !reader.goes_on(b"+") {
-            return Ok(Items::new(terms));
+    match rest {
+        MemberForm::Method(params, Some(body)) => {
+            if !params.as_slice().is_empty() {
+                return Err(FirstRefusal::NotFirst);
+            }
+            at_most(alloc, body.as_slice(), MOST_ASSIGNMENTS)
         }
-        reader.pass_on_line(b"+")?;
-    }
-    Err(FirstRefusal::NotFirst)
-}
-
-#[tactic(auto, unfolding(crate::specs::Reading::assignment_at))]
-fn assignment(alloc: Global, reader: &mut Reader) -> Result<FirstAssign, FirstRefusal>
-    ensures { Gives result reader.new (reading.assignment_at reader.old) }
-{
-    let target = reader.identifier()?;
-    reader.pass_on_line(b"=")?;
-    let terms = sum(alloc, reader)?;
-    reader.end()?;
-    Ok(FirstAssign { target, terms })
-}
-
-// What stands several times in a row.
-trait Item: Drop {
-    /// What reading gives at a place.
-    ghost item_at: { List Token → Option (Self × List Token) };
-
-    fn read(alloc: Global, reader: &mut Reader) -> Result<Self, FirstRefusal>
-        ensures { Gives result reader.new (item_at reader.old) };
-}
-
-impl Item for FirstProp {
-    ghost item_at = { reading.property_at };
-
-    fn read(_: Global, reader: &mut Reader) -> Result<FirstProp, FirstRefusal> {
-        property(reader)
+        _ => Err(FirstRefusal::NotFirst),
     }
 }
 
-impl Item for FirstAssign {
-    ghost item_at = { reading.assignment_at };
-
-    fn read(alloc: Global, reader: &mut Reader) -> Result<FirstAssign, FirstRefusal> {
-        assignment(alloc, reader)
-    }
+fn is_execute(member: &Member) -> bool
+    ensures { result ≡ form.is_execute member.now }
+{
+    member.facets.as_slice().is_empty()
+        && is_override(member.modifiers.as_slice())
+        && is_void(&member.kind)
+        && member.name.bytes.as_slice() == b"execute".as_slice()
 }
 
-// Items up to a token that stops them, at most so many.
-fn items<T: Item>(
-    alloc: Global,
-    reader: &mut Reader,
-    stop: &[u8],
-    most: usize,
-) -> Result<Items<T>, FirstRefusal>
-    ensures { Gives result reader.new (reading.items_at T.item_at stop.now most reader.old) }
+fn execute(alloc: Global, member: &Member) -> Result<Items<FirstAssign>, FirstRefusal>
+    ensures { Answers result (form.execute_of member.now) }
 {
-    let mut items = Vec::new(alloc);
-    for _ in 0..most {
-        if reader.is_next(stop) {
-            return Ok(Items::new(items));
-        }
-        let next = T::read(alloc, reader)?;
-        items.push(next)?;
-    }
-    if reader.is_next(stop) {
-        return Ok(Items::new(items));
-    }
-    Err(FirstRefusal::NotFirst)
-}
-
-#[tactic(auto, unfolding(crate::specs::Reading::head_at))]
-fn head(reader: &mut Reader) -> Result<Word, FirstRefusal>
-    ensures { Gives result reader.new (reading.head_at reader.old) }
-{
-    reader.pass(b"class")?;
-    let name = reader.identifier()?;
-    reader.pass(b"extends")?;
-    reader.pass(b"Component")?;
-    reader.pass(b"{")?;
-    Ok(name)
-}
-
-#[tactic(auto, unfolding(crate::specs::Reading::execute_at))]
-fn execute(alloc: Global, reader: &mut Reader) -> Result<Items<FirstAssign>, FirstRefusal>
-    ensures { Gives result reader.new (reading.execute_at reader.old) }
-{
-    reader.pass(b"override")?;
-    reader.pass(b"void")?;
-    reader.pass(b"execute")?;
-    reader.pass(b"(")?;
-    reader.pass(b")")?;
-    reader.pass(b"{")?;
-    let body = items(alloc, reader, b"}", MOST_ASSIGNMENTS)?;
-    reader.pass(b"}")?;
-    Ok(body)
-}
-
-#[tactic(auto, unfolding(crate::specs::Reading::class_of))]
-fn class(alloc: Global, tokens: &Tokens) -> Result<First, FirstRefusal>
-    ensures { Answers result (reading.class_of tokens.now) }
-{
-    let mut reader = Reader::new(tokens);
-    let class = head(&mut reader)?;
-    let props = items(alloc, &mut reader, b"override", MOST_PROPERTIES)?;
-    let body = execute(alloc, &mut reader)?;
-    reader.pass(b"}")?;
-    if !reader.is_end() {
+    if !is_execute(member) {
         return Err(FirstRefusal::NotFirst);
     }
-    Ok(First { class, props, body })
+    body(alloc, &member.form)
 }
 
-// The class that reading gives, where its names are right.
-fn read_first(alloc: Global, tokens: &Tokens) -> Result<First, FirstRefusal>
-    ensures { Answers result (reading.first_of tokens.now) }
+fn is_component(base: &Option<TypeName>) -> bool
+    ensures { result ≡ form.is_component base.now }
 {
-    let first = class(alloc, tokens)?;
+    match base {
+        Some(name) => { name.kit.is_none() && name.id.bytes.as_slice() == b"Component".as_slice() }
+        None => false,
+    }
+}
+
+fn is_plain(class: &Class) -> bool
+    ensures { result ≡ form.is_plain class.now }
+{
+    class.facets.as_slice().is_empty()
+        && class.modifiers.as_slice().is_empty()
+        && is_component(&class.base)
+}
+
+// The class that a class of a unit shows.
+fn class(alloc: Global, class: &Class) -> Result<First, FirstRefusal>
+    ensures { Answers result (form.class_of class.now) }
+{
+    if !is_plain(class) {
+        return Err(FirstRefusal::NotFirst);
+    }
+    let Some(name) = word(&class.name) else {
+        return Err(FirstRefusal::NotFirst);
+    };
+    let Some((last, others)) = class.members.as_slice().split_last() else {
+        return Err(FirstRefusal::NotFirst);
+    };
+    let props = at_most(alloc, others, MOST_PROPERTIES)?;
+    let body = execute(alloc, last)?;
+    Ok(First {
+        class: name,
+        props,
+        body,
+    })
+}
+
+fn only_class(alloc: Global, classes: &[Class]) -> Result<First, FirstRefusal>
+    ensures { Answers result (form.only_class classes.now) }
+{
+    match classes {
+        [only] => class(alloc, only),
+        _ => Err(FirstRefusal::NotFirst),
+    }
+}
+
+/// The class of the first form that the unit shows. `NotFirst` exactly where it shows none.
+pub fn first(alloc: Global, unit: &Unit) -> Result<First, FirstRefusal>
+    ensures found { IfOk result (λ f. form.IsFirst f unit.now) }
+    // No other class is.
+    ensures only { IfOk result (λ f. (g : ClassOfFirstForm) → form.IsFirst g unit.now → g ≡ f) }
+    ensures not_first { IsErrOf result FirstRefusal.NotFirst → (g : ClassOfFirstForm) → form.IsFirst g unit.now → ⊥ }
+{
+    let first = only_class(alloc, unit.classes.as_slice())?;
     if !is_well_named(&first) {
         return Err(FirstRefusal::NotFirst);
     }
     Ok(first)
-}
-
-/// The class of the first form that the tokens spell. `NotFirst` exactly where they spell none.
-pub fn first(alloc: Global, tokens: &Tokens) -> Result<First, FirstRefusal>
-    ensures found { IfOk result (λ f. IsFirst f tokens.now) }
-    // No other class is.
-    ensures only { IfOk result (λ f. (g : ClassOfFirstForm) → IsFirst g tokens.now → g ≡ f) }
-    ensures not_first { IsErrOf result FirstRefusal.NotFirst → (g : ClassOfFirstForm) → IsFirst g tokens.now → ⊥ }
-{
-    read_first(alloc, tokens)
 }

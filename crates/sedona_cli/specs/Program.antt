@@ -1,9 +1,11 @@
 -- What the program answers.
-use Rattle.std.specs.Prelude.{◌≡◌, ◌⊎◌, ℕ, List, [], ◌∷◌, ◌++◌, Option, Some, IfSome, IsSomeAnd, codes}
+use Rattle.std.specs.Prelude.{◌≡◌, ◌⊎◌, ◌<◌, ℕ, List, [], ◌∷◌, ◌++◌, length, Option, Some, IfSome, IsSomeAnd, codes}
 use Rattle.std.specs.Fmt.{decimal}
-use Rattle.sed_lexer.specs.Token.{Token}
+use Rattle.sed_lexer.specs.Token.{Token, token_at}
 use Rattle.sed_lexer.specs.Lexes.{Lexes, FaultsAt}
+use Rattle.sed_parser.specs.Derives.{Derives}
 use Rattle.sed_parser.specs.FirstForm.{IsFirst}
+use Rattle.sed_parser.specs.declared.classes.Unit.{Unit as TheUnit}
 use Rattle.sed_parser.specs.declared.form.First.{First}
 use Rattle.sed_outside.specs.Cause.{Rose}
 use Rattle.sed_outside.specs.Files.{Contents}
@@ -11,18 +13,35 @@ use Rattle.sed_outside.specs.Sink.{with_text, PutsFront}
 use Rattle.sedona_cli.specs.Command.{Command, Cycles, command_of}
 use Rattle.sedona_cli.specs.Text.{line_end, text_after}
 
+-- The text has tokens, and they derive this unit.
+unfoldable pub IsUnit : List ℕ → TheUnit → Type 0
+IsUnit text unit = (tokens : List Token) × Lexes text tokens × Derives tokens unit
+
 -- The text is of the first form, and this is its class.
 abbrev pub IsClass : List ℕ → First → Type 0
-IsClass text f = (tokens : List Token) × Lexes text tokens × IsFirst f tokens
+IsClass text f = (unit : TheUnit) × IsUnit text unit × IsFirst f unit
 
 abbrev pub IsOfFirstForm : List ℕ → Type 0
 IsOfFirstForm text = (f : First) × IsClass text f
 
--- Why a text is refused, as it is printed: `AT lex` where no token begins at a place, and `0 form` where it has tokens and
--- they spell no class of the first form.
+-- The place is that of a token, or the end of the text.
+abbrev pub IsPlace : List ℕ → List Token → ℕ → Type 0
+IsPlace text tokens at = ((i : ℕ) × (i < length tokens) × (at ≡ (token_at tokens i).start)) ⊎ (at ≡ length text)
+
+-- The text has tokens that derive no unit.
+abbrev pub HasNoUnit : List ℕ → ℕ → Type 0
+HasNoUnit text at = (tokens : List Token) × Lexes text tokens × ((unit : TheUnit) → Derives tokens unit → ⊥) × IsPlace text tokens at
+
+-- The text has a unit that is not of the first form.
+abbrev pub HasOtherForm : List ℕ → Type 0
+HasOtherForm text = (unit : TheUnit) × IsUnit text unit × ((f : First) → IsFirst f unit → ⊥)
+
+-- Why a text is refused, as it is printed: `AT lex` where no token begins at a place, `AT parse` where its tokens derive no
+-- unit, and `0 form` where its unit is not of the first form.
 abbrev pub IsWhy : List ℕ → List ℕ → Type 0
 IsWhy text why = ((at : ℕ) × FaultsAt text at × (why ≡ decimal at ++ codes " lex"))
-    ⊎ ((tokens : List Token) × Lexes text tokens × (IsOfFirstForm text → ⊥) × (why ≡ codes "0 form"))
+    ⊎ ((at : ℕ) × HasNoUnit text at × (why ≡ decimal at ++ codes " parse"))
+    ⊎ (HasOtherForm text × (why ≡ codes "0 form"))
 
 -- The text is refused, and of why it is this holds.
 abbrev pub RefusedFor : List ℕ → (List ℕ → Type 0) → Type 0

@@ -4,12 +4,12 @@ ghost use Rattle.sed_parser.specs.declared.form.First.{First};
 ghost use Rattle.sedona_cli.specs.Program.{IsClass};
 
 use sed_lexer::tokens_are_one;
-use sed_parser::class_is_one;
+use sed_parser::unit_is_one;
 
 /// A text has at most one class of the first form, and so prints one text.
 pub fn class_of_text_is_one()
     ensures { (text : List ℕ) (f other : First) → IsClass text f → IsClass text other → f ≡ other }
 {
     tokens_are_one();
-    class_is_one();
+    unit_is_one();
 }

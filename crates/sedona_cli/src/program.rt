@@ -2,22 +2,54 @@
 ghost use Rattle.std.specs.Prelude.{◌≡◌, ◌≢◌, ◌⊎◌, ◌↔◌, ◌++◌, ℕ, List, Some, None, [], ◌∷◌, IfOk, IfErr, true};
 ghost use Rattle.std.specs.List.{list_all};
 ghost use Rattle.sed_parser.specs.Naming.{is_known_assignment};
+ghost use Rattle.sed_parser.specs.declared.classes.Unit.{Unit as TheUnit};
 ghost use Rattle.sed_outside.specs.Cause.{Rose};
 ghost use Rattle.sed_outside.specs.Sink.{with_text, PutsFront};
 ghost use Rattle.sedona_cli.specs.Refused.{IsRefusal, words_of};
 ghost use Rattle.sedona_cli.specs.Command.{texts, command_of};
 ghost use Rattle.sedona_cli.specs.Text.{text_after, line_end};
-ghost use Rattle.sedona_cli.specs.Program.{IsOneOf, IsClass, IsOfFirstForm, OnCycles, RefusedFor, IsTold, GaveSome, PrintsSome, Puts, usage_line, refused_line, file_fault_line, memory_line};
+ghost use Rattle.sedona_cli.specs.Program.{IsOneOf, IsUnit, IsClass, IsPlace, IsOfFirstForm, OnCycles, RefusedFor, IsTold, GaveSome, PrintsSome, Puts, usage_line, refused_line, file_fault_line, memory_line};
 
 use crate::command::read_words;
 use crate::component::{Component, run};
 use crate::printing::{component_text, line_with_file};
 use crate::refusal::{TextRefusal, Why};
 use crate::status::Status;
-use sed_lexer::{LexRefusal, lex};
+use sed_lexer::{LexRefusal, Tokens, lex};
 use sed_outside::{FileFault, Files, Sink};
-use sed_parser::{First, FirstRefusal, first};
+use sed_parser::{First, FirstRefusal, ParseRefusal, Unit, first, parse};
 use std::alloc::{AllocError, Global};
+
+// The place where a token begins, or the end of the text where there is no token of this number.
+fn place_of(text: &[u8], tokens: &Tokens, token: usize) -> usize
+    ensures { IsPlace text.now tokens.now result }
+{
+    if token < tokens.len() {
+        tokens.start(token)
+    } else {
+        text.len()
+    }
+}
+
+// The unit of a text.
+#[tactic(auto, unfolding(crate::specs::Program::IsUnit))]
+fn unit_of(alloc: Global, text: &[u8]) -> Result<Unit, TextRefusal>
+    ensures found { IfOk result (λ u. IsUnit text.now u) }
+    ensures only { IfOk result (λ u. (v : TheUnit) → IsUnit text.now v → v ≡ u) }
+    ensures refused { IfErr result (IsRefusal text.now) }
+{
+    match lex(alloc, text) {
+        Ok(tokens) => match parse(alloc, &tokens) {
+            Ok(unit) => Ok(unit),
+            Err(ParseRefusal::Fault { token }) => {
+                Err(TextRefusal::Refused(Why::Parse(place_of(text, &tokens, token))))
+            }
+            Err(ParseRefusal::Memory) => Err(TextRefusal::Memory),
+        },
+        Err(LexRefusal::Fault { at }) => Err(TextRefusal::Refused(Why::Lex(at))),
+        Err(LexRefusal::Memory) => Err(TextRefusal::Memory),
+    }
+}
 
 // The class of a text of the first form.
 fn class_of(alloc: Global, text: &[u8]) -> Result<First, TextRefusal>
@@ -25,14 +57,14 @@ fn class_of(alloc: Global, text: &[u8]) -> Result<First, TextRefusal>
     ensures known { IfOk result (λ f. list_all (is_known_assignment f.props) f.body ≡ true) }
     ensures refused { IfErr result (IsRefusal text.now) }
 {
-    match lex(alloc, text) {
-        Ok(tokens) => match first(alloc, &tokens) {
-            Ok(class) => Ok(class),
-            Err(FirstRefusal::NotFirst) => Err(TextRefusal::Refused(Why::Form)),
-            Err(FirstRefusal::Memory) => Err(TextRefusal::Memory),
-        },
-        Err(LexRefusal::Fault { at }) => Err(TextRefusal::Refused(Why::Lex(at))),
-        Err(LexRefusal::Memory) => Err(TextRefusal::Memory),
+    let unit = match unit_of(alloc, text) {
+        Ok(unit) => unit,
+        Err(refusal) => return Err(refusal),
+    };
+    match first(alloc, &unit) {
+        Ok(class) => Ok(class),
+        Err(FirstRefusal::NotFirst) => Err(TextRefusal::Refused(Why::Form)),
+        Err(FirstRefusal::Memory) => Err(TextRefusal::Memory),
     }
 }
 

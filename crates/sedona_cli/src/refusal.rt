@@ -9,7 +9,9 @@ use std::alloc::{AllocError, Global};
 pub enum Why {
     /// Cut into tokens, it goes on at this place, and nothing begins there.
     Lex(usize),
-    /// Its tokens spell no class of the first form.
+    /// Its tokens derive no unit, which shows at this place.
+    Parse(usize),
+    /// Its unit is not of the first form.
     Form,
 }
 
@@ -29,6 +31,7 @@ impl Why {
     {
         match self {
             Why::Lex(at) => format!(in alloc; "{at} lex"),
+            Why::Parse(at) => format!(in alloc; "{at} parse"),
             Why::Form => String::from_str(alloc, "0 form"),
         }
     }

@@ -45,10 +45,10 @@ const ROWS: [(&str, &str, u8, &str); 17] = [
     (RAMP, "cycles f 3 4", 1, "usage\n"),
     (RAMP, "check f 3", 1, "usage\n"),
     (UNKNOWN_NAME, "cycles f 1", 2, "refused f 0 form\n"),
-    (SECOND_LINE, "cycles f 1", 2, "refused f 0 form\n"),
+    (SECOND_LINE, "cycles f 1", 2, "refused f 77 parse\n"),
     ("class A { /*", "cycles f 1", 2, "refused f 10 lex\n"),
     ("0x", "cycles f 1", 2, "refused f 0 lex\n"),
-    ("class A {", "cycles f 1", 2, "refused f 0 form\n"),
+    ("class A {", "cycles f 1", 2, "refused f 9 parse\n"),
     (RAMP, "cycles g 1", 3, "file fault g\n"),
 ];
 

@@ -1,0 +1,274 @@
+// Statements with no other one within them, and the parts of the others.
+ghost use Rattle.std.specs.Prelude.{◌≡◌, true, false};
+ghost use Rattle.sed_parser.specs.Statements as grammar;
+ghost use Rattle.sed_parser.specs.Expressions as expressions;
+ghost use Rattle.sed_parser.specs.Halts.{Gives, Makes};
+
+use crate::expressions::Expr;
+use crate::halt::Halt;
+use crate::leaves::Ident;
+use crate::parser::Parser;
+use crate::statements::{ForFirst, ForHead, Form, Local, Stmt};
+use std::alloc::Global;
+
+// The level of any expression.
+const WHOLE: usize = 13;
+
+impl<'a> Parser<'a> {
+    // The identifier of a local is not the first on its line.
+    fn on_line(&mut self) -> Result<(), Halt>
+        ensures { Gives result self.new (grammar.on_line.reads self.old) }
+    {
+        if self.is_first() {
+            return Err(Halt::Fault);
+        }
+        Ok(())
+    }
+
+    #[tactic(auto, unfolding(crate::specs::Statements::local_head))]
+    fn local_head(&mut self, alloc: Global) -> Result<Ident, Halt>
+        ensures { Gives result self.new (grammar.local_head.reads self.old) }
+    {
+        let _kind = self.type_of(alloc)?;
+        self.on_line()?;
+        self.ident(alloc)
+    }
+
+    // Whether a local stands here.
+    fn is_local(&self, alloc: Global) -> Result<bool, Halt>
+        ensures { Makes result (grammar.next_local self.now) }
+    {
+        let mut ahead = self.again();
+        match ahead.local_head(alloc) {
+            Ok(_) => Ok(true),
+            Err(Halt::Fault) => Ok(false),
+            Err(Halt::Memory) => Err(Halt::Memory),
+        }
+    }
+
+    #[tactic(auto, unfolding(crate::specs::Statements::local_value))]
+    fn local_value(&mut self, alloc: Global, room: usize) -> Result<Option<Expr>, Halt>
+        ensures { Gives result self.new ((grammar.local_value (expressions.expression room 13 false)).reads self.old) }
+    {
+        if !self.is_mark(b"=") {
+            return Ok(None);
+        }
+        self.mark(b"=")?;
+        let e = self.expression(alloc, room, WHOLE, false)?;
+        Ok(Some(e))
+    }
+
+    #[tactic(auto, unfolding(crate::specs::Statements::local))]
+    fn local(&mut self, alloc: Global, room: usize) -> Result<Local, Halt>
+        ensures { Gives result self.new ((grammar.local (expressions.expression room 13 false)).reads self.old) }
+    {
+        let at = self.start();
+        let kind = self.type_of(alloc)?;
+        self.on_line()?;
+        let name = self.ident(alloc)?;
+        let value = self.local_value(alloc, room)?;
+        Ok(Local {
+            at,
+            kind,
+            name,
+            value,
+        })
+    }
+
+    // The same within brackets.
+    #[tactic(auto, unfolding(crate::specs::Statements::local_value))]
+    fn inner_value(&mut self, alloc: Global, room: usize) -> Result<Option<Expr>, Halt>
+        ensures { Gives result self.new ((grammar.local_value (expressions.deeper room 13 true)).reads self.old) }
+    {
+        if !self.is_mark(b"=") {
+            return Ok(None);
+        }
+        self.mark(b"=")?;
+        let e = self.deeper(alloc, room, WHOLE, true)?;
+        Ok(Some(e))
+    }
+
+    #[tactic(auto, unfolding(crate::specs::Statements::local))]
+    fn inner_local(&mut self, alloc: Global, room: usize) -> Result<Local, Halt>
+        ensures { Gives result self.new ((grammar.local (expressions.deeper room 13 true)).reads self.old) }
+    {
+        let at = self.start();
+        let kind = self.type_of(alloc)?;
+        self.on_line()?;
+        let name = self.ident(alloc)?;
+        let value = self.inner_value(alloc, room)?;
+        Ok(Local {
+            at,
+            kind,
+            name,
+            value,
+        })
+    }
+
+    #[tactic(auto, unfolding(crate::specs::Statements::return_value))]
+    fn return_value(&mut self, alloc: Global, room: usize) -> Result<Option<Expr>, Halt>
+        ensures { Gives result self.new ((grammar.return_value room).reads self.old) }
+    {
+        if self.is_mark(b";") || self.may_end() {
+            return Ok(None);
+        }
+        let e = self.expression(alloc, room, WHOLE, false)?;
+        Ok(Some(e))
+    }
+
+    #[tactic(auto, unfolding(crate::specs::Statements::valued))]
+    fn valued(&mut self, alloc: Global, room: usize) -> Result<Stmt, Halt>
+        ensures { Gives result self.new ((grammar.valued room).reads self.old) }
+    {
+        let at = self.start();
+        if self.is_key(b"return") {
+            self.key(b"return")?;
+            let value = self.return_value(alloc, room)?;
+            self.end()?;
+            return Ok(Stmt {
+                at,
+                form: Form::Return(value),
+            });
+        }
+        if self.is_local(alloc)? {
+            let local = self.local(alloc, room)?;
+            self.end()?;
+            return Ok(Stmt {
+                at,
+                form: Form::Local(local),
+            });
+        }
+        let e = self.expression(alloc, room, WHOLE, false)?;
+        self.end()?;
+        Ok(Stmt {
+            at,
+            form: Form::Evaluate(e),
+        })
+    }
+
+    #[tactic(auto, unfolding(crate::specs::Statements::plain))]
+    pub fn plain(&mut self, alloc: Global, room: usize) -> Result<Stmt, Halt>
+        ensures { Gives result self.new ((grammar.plain room).reads self.old) }
+    {
+        let at = self.start();
+        if self.is_mark(b";") {
+            self.mark(b";")?;
+            return Ok(Stmt {
+                at,
+                form: Form::Empty,
+            });
+        }
+        if self.is_key(b"break") {
+            self.key(b"break")?;
+            self.end()?;
+            return Ok(Stmt {
+                at,
+                form: Form::Break,
+            });
+        }
+        if self.is_key(b"continue") {
+            self.key(b"continue")?;
+            self.end()?;
+            return Ok(Stmt {
+                at,
+                form: Form::Continue,
+            });
+        }
+        self.valued(alloc, room)
+    }
+
+    #[tactic(auto, unfolding(crate::specs::Statements::condition))]
+    pub fn condition(&mut self, alloc: Global, room: usize) -> Result<Expr, Halt>
+        ensures { Gives result self.new ((grammar.condition room).reads self.old) }
+    {
+        self.mark(b"(")?;
+        let e = self.deeper(alloc, room, WHOLE, true)?;
+        self.mark(b")")?;
+        Ok(e)
+    }
+
+    #[tactic(auto, unfolding(crate::specs::Statements::for_first))]
+    fn for_first(&mut self, alloc: Global, room: usize) -> Result<ForFirst, Halt>
+        ensures { Gives result self.new ((grammar.for_first room).reads self.old) }
+    {
+        if self.is_mark(b";") {
+            return Ok(ForFirst::Nothing);
+        }
+        if self.is_local(alloc)? {
+            let local = self.inner_local(alloc, room)?;
+            return Ok(ForFirst::Local(local));
+        }
+        let e = self.deeper(alloc, room, WHOLE, true)?;
+        Ok(ForFirst::Evaluate(e))
+    }
+
+    #[tactic(auto, unfolding(crate::specs::Statements::for_start))]
+    fn for_start(&mut self, alloc: Global, room: usize) -> Result<ForFirst, Halt>
+        ensures { Gives result self.new ((grammar.for_start room).reads self.old) }
+    {
+        self.key(b"for")?;
+        self.mark(b"(")?;
+        let first = self.for_first(alloc, room)?;
+        self.mark(b";")?;
+        Ok(first)
+    }
+
+    #[tactic(auto, unfolding(crate::specs::Statements::perhaps))]
+    fn perhaps(&mut self, alloc: Global, room: usize, stop: &[u8]) -> Result<Option<Expr>, Halt>
+        ensures { Gives result self.new ((grammar.perhaps room stop.now).reads self.old) }
+    {
+        if self.is_mark(stop) {
+            return Ok(None);
+        }
+        let e = self.deeper(alloc, room, WHOLE, true)?;
+        Ok(Some(e))
+    }
+
+    #[tactic(auto, unfolding(crate::specs::Statements::for_part))]
+    fn for_part(&mut self, alloc: Global, room: usize, stop: &[u8]) -> Result<Option<Expr>, Halt>
+        ensures { Gives result self.new ((grammar.for_part room stop.now).reads self.old) }
+    {
+        let e = self.perhaps(alloc, room, stop)?;
+        self.mark(stop)?;
+        Ok(e)
+    }
+
+    #[tactic(auto, unfolding(crate::specs::Statements::for_head))]
+    pub fn for_head(&mut self, alloc: Global, room: usize) -> Result<ForHead, Halt>
+        ensures { Gives result self.new ((grammar.for_head room).reads self.old) }
+    {
+        let first = self.for_start(alloc, room)?;
+        let condition = self.for_part(alloc, room, b";")?;
+        let last = self.for_part(alloc, room, b")")?;
+        Ok(ForHead {
+            first,
+            condition,
+            last,
+        })
+    }
+
+    #[tactic(auto, unfolding(crate::specs::Statements::case_label))]
+    pub fn case_label(&mut self, alloc: Global, room: usize) -> Result<Option<Expr>, Halt>
+        ensures { Gives result self.new ((grammar.case_label room).reads self.old) }
+    {
+        if self.is_key(b"case") {
+            self.key(b"case")?;
+            let e = self.expression(alloc, room, WHOLE, false)?;
+            return Ok(Some(e));
+        }
+        self.key(b"default")?;
+        Ok(None)
+    }
+
+    pub fn is_statement(&self) -> bool
+        ensures { result ≡ grammar.next_statement self.now }
+    {
+        !(self.is_mark(b"}") || self.is_key(b"case") || self.is_key(b"default"))
+    }
+
+    pub fn is_case(&self) -> bool
+        ensures { result ≡ grammar.next_case self.now }
+    {
+        self.is_key(b"case") || self.is_key(b"default")
+    }
+}

@@ -1,0 +1,77 @@
+// The parts of expressions with no expression within them.
+ghost use Rattle.std.specs.Prelude.{◌≡◌};
+ghost use Rattle.sed_parser.specs.Expressions as grammar;
+ghost use Rattle.sed_parser.specs.Halts.{Gives};
+
+use crate::expressions::{Expr, Node};
+use crate::halt::Halt;
+use crate::leaves::Ident;
+use crate::parser::Parser;
+use std::alloc::Global;
+
+impl<'a> Parser<'a> {
+    #[tactic(auto, unfolding(crate::specs::Expressions::onward))]
+    pub fn onward(&mut self, inside: bool) -> Result<(), Halt>
+        ensures { Gives result self.new ((grammar.onward inside).reads self.old) }
+    {
+        if !self.goes(inside) {
+            return Err(Halt::Fault);
+        }
+        Ok(())
+    }
+
+    pub fn goes_mark(&self, inside: bool, text: &[u8]) -> bool
+        ensures { result ≡ grammar.goes_mark inside text.now self.now }
+    {
+        self.goes(inside) && self.is_mark(text)
+    }
+
+    pub fn is_leaf(&self) -> bool
+        ensures { result ≡ grammar.next_leaf self.now }
+    {
+        self.is_literal() || self.is_key(b"this")
+    }
+
+    pub fn is_operand(&self, inside: bool, level: usize) -> bool
+        ensures { result ≡ grammar.next_operand inside level self.now }
+    {
+        self.goes(inside) && self.is_binary(level)
+    }
+
+    pub fn is_access(&self, inside: bool) -> bool
+        ensures { result ≡ grammar.next_access inside self.now }
+    {
+        self.goes(inside) && (self.is_mark(b".") || self.is_mark(b"["))
+    }
+
+    #[tactic(auto, unfolding(crate::specs::Expressions::leaf))]
+    pub fn leaf(&mut self, alloc: Global) -> Result<Expr, Halt>
+        ensures { Gives result self.new (grammar.leaf.reads self.old) }
+    {
+        if self.is_literal() {
+            let literal = self.literal(alloc)?;
+            return Ok(Expr {
+                at: literal.at,
+                node: Node::Literal(literal),
+            });
+        }
+        let at = self.start();
+        self.key(b"this")?;
+        Ok(Expr {
+            at,
+            node: Node::This,
+        })
+    }
+
+    #[tactic(auto, unfolding(crate::specs::Expressions::super_name))]
+    pub fn super_name(&mut self, alloc: Global, inside: bool) -> Result<Ident, Halt>
+        ensures { Gives result self.new ((grammar.super_name inside).reads self.old) }
+    {
+        self.key(b"super")?;
+        self.mark(b".")?;
+        self.onward(inside)?;
+        let name = self.ident(alloc)?;
+        self.onward(inside)?;
+        Ok(name)
+    }
+}
