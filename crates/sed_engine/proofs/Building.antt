@@ -123,8 +123,11 @@ field class f v = record { class = record { 0 = class }; name = codes "f"; form 
 abbrev pub int_field : Field
 int_field = field 5 (form.Prim prim.Int) (kept.Int (pos 0))
 
+abbrev pub method_of : ℕ → List ℕ → List Kind → Kind → Stmt → Method
+method_of class name params result body = record { class = record { 0 = class }; name = name; is_static = false; is_virtual = true; params = params; result = result; body = Some body }
+
 abbrev pub method : ℕ → List ℕ → Kind → Stmt → Method
-method class name result body = record { class = record { 0 = class }; name = name; is_static = false; is_virtual = true; params = []; result = result; body = Some body }
+method class name result body = method_of class name [] result body
 
 abbrev pub execute : ℕ → Stmt → Method
 execute class body = method class (codes "execute") kind.Void body

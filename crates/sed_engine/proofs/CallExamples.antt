@@ -17,14 +17,14 @@ use Rattle.sed_engine.specs.declared.call.Root.TheVariants.{Execute, Callback}
 use Rattle.sed_engine.specs.declared.call.Callback.TheVariants.{Start}
 use Rattle.sed_typed.specs.Initial.{initial}
 use Rattle.sed_engine.specs.Root.{calls_with, root}
-use Rattle.sed_engine.proofs.Building.{Pointer, none, one, int, chain, by, this, set_y, y_is, block, int_field, class_info, program_of, method, execute, run, outcome, done, trapped}
+use Rattle.sed_engine.proofs.Building.{Pointer, none, one, int, chain, by, this, set_y, y_is, block, int_field, class_info, program_of, method, method_of, execute, run, outcome, done, trapped}
 
 -- int f(int n) { return n == 0 ? 0 : f(n - 1) }, method 1; n is local 1
 countdown : Pointer → Method
 countdown p =
     let n : Expr = expr.Local kind.Int 1 in
     let below : Expr = chain p n (by op.Subtract (int 1)) in
-    method 5 (codes "f") kind.Int
+    method_of 5 (codes "f") (kind.Int ∷ []) kind.Int
     (stmt.Return (Some (expr.Choose' p (chain p n (link.Binary (binary.Compare comparison.Equal width.Int) (int 0))) p (int 0) p
     (chain p this (link.Invoke' kind.Int 1 (one p) (more_of-Expr below end_of-Expr))))))
 

@@ -1,22 +1,20 @@
 -- With more turns a run that did not spend them ends the same, with as many more left.
-use Rattle.std.proofs.Common.{◌≡◌, ℕ, zero, suc, ◌+◌, ◌-◌, ◌==◌, Bool, false, if◌then◌else◌, List, Option, Some, None, Result, Ok, Err, slice_get, refl, sym, ap, ◌∙◌, subst, arith}
-use Rattle.std.specs.Option.{option_map_or}
+use Rattle.std.proofs.Common.{◌≡◌, ℕ, zero, suc, ◌+◌, ◌-◌, ◌==◌, Bool, true, false, if◌then◌else◌, List, Option, Some, None, Result, Ok, Err, slice_get, refl, sym, ap, ◌∙◌, subst, arith}
 use Rattle.sed_value.specs.declared.value.Value.{Value}
-use Rattle.sed_value.specs.declared.value.Value.TheVariants as kept
 use Rattle.sed_typed.specs.declared.kind.Kind.{Kind}
 use Rattle.sed_typed.specs.declared.statement.Stmt.{Stmt}
 use Rattle.sed_typed.specs.declared.program.Method.{Method}
 use Rattle.sed_typed.specs.declared.program.Program.{Program}
 use Rattle.sed_typed.specs.Contents.{Contents, Path, value_at}
-use Rattle.sed_engine.specs.declared.trap.Trap.{Trap}
 use Rattle.sed_engine.specs.declared.trap.Trap.TheVariants.{ZeroDivisor, NullReference, OutOfRange, TurnsSpent, TooDeep}
-use Rattle.sed_engine.specs.Values.{Val, Nothing, Base, Component, Statics, Spot, read_as, stored_as}
-use Rattle.sed_engine.specs.State.{Shared, State, End, gives, after, then_do}
-use Rattle.sed_engine.specs.Steps.{contents_of, kept_at, bytes_of, written_at, turn_of, take_turn}
+use Rattle.sed_engine.specs.Stops.{Stop, Traps, Untyped, there}
+use Rattle.sed_engine.specs.Values.{Val, Base, Component, Statics, Spot, is_alike}
+use Rattle.sed_engine.specs.State.{Shared, State, End, gives, answers, after, then_do}
+use Rattle.sed_engine.specs.Steps.{contents_of, load, replace, store, written_at, turn_of, take_turn}
 use Rattle.sed_engine.specs.Turns.{more_shared}
 use Rattle.sed_engine.specs.Expressions.{Setting, Called, Calls, back}
 use Rattle.sed_engine.specs.Statements.{Flow, Round, Again, Over, Answer, after_round, loop, rounds, exec}
-use Rattle.sed_engine.specs.Root.{called, answered, run_body, run_method, calls_with}
+use Rattle.sed_engine.specs.Root.{called, answered, untyped, is_frame_of, run_body, run_method, calls_with}
 use Rattle.sed_engine.proofs.Related.{Closed, of_stmt}
 
 abbrev pub more : ℕ → State → State
@@ -26,13 +24,14 @@ abbrev pub more_end : {A : Type 0} → ℕ → End A → End A
 more_end k e = record { result = e.result; state = more k e.state }
 
 -- the turns were not spent
-abbrev pub Unspent : {A : Type 0} → Result A Trap → Type 0
+abbrev pub Unspent : {A : Type 0} → Result A Stop → Type 0
 Unspent (Ok v) = Unit {0}
-Unspent (Err ZeroDivisor) = Unit {0}
-Unspent (Err NullReference) = Unit {0}
-Unspent (Err OutOfRange) = Unit {0}
-Unspent (Err TurnsSpent) = ⊥
-Unspent (Err TooDeep) = Unit {0}
+Unspent (Err (Traps ZeroDivisor)) = Unit {0}
+Unspent (Err (Traps NullReference)) = Unit {0}
+Unspent (Err (Traps OutOfRange)) = Unit {0}
+Unspent (Err (Traps TurnsSpent)) = ⊥
+Unspent (Err (Traps TooDeep)) = Unit {0}
+Unspent (Err Untyped) = Unit {0}
 
 -- of two steps, the second with k turns more
 pub record Alike (k : ℕ) (A : Type 0) (f g : State → End A) : Type 0 where
@@ -41,15 +40,16 @@ pub record Alike (k : ℕ) (A : Type 0) (f g : State → End A) : Type 0 where
 pub record Same (k : ℕ) (A : Type 0) (f : State → End A) : Type 0 where
   pub ends : (s : State) → Unspent (f s).result → f (more k s) ≡ more_end k (f s)
 
-front : {A B : Type 0} (r : Result A Trap) (t : State) (h : A → State → End B) → Unspent (after r t h).result → Unspent r
+front : {A B : Type 0} (r : Result A Stop) (t : State) (h : A → State → End B) → Unspent (after r t h).result → Unspent r
 front (Ok v) t h u = tt
-front (Err ZeroDivisor) t h u = tt
-front (Err NullReference) t h u = tt
-front (Err OutOfRange) t h u = tt
-front (Err TurnsSpent) t h u = u
-front (Err TooDeep) t h u = tt
+front (Err (Traps ZeroDivisor)) t h u = tt
+front (Err (Traps NullReference)) t h u = tt
+front (Err (Traps OutOfRange)) t h u = tt
+front (Err (Traps TurnsSpent)) t h u = u
+front (Err (Traps TooDeep)) t h u = tt
+front (Err Untyped) t h u = tt
 
-step : {A B : Type 0} (k : ℕ) (r : Result A Trap) (t : State) (h h' : A → State → End B) → ((a : A) → Alike k B (h a) (h' a)) → Unspent (after r t h).result →
+step : {A B : Type 0} (k : ℕ) (r : Result A Stop) (t : State) (h h' : A → State → End B) → ((a : A) → Alike k B (h a) (h' a)) → Unspent (after r t h).result →
     after r (more k t) h' ≡ more_end k (after r t h)
 step k (Ok v) t h h' same u = (same v).ends t u
 step k (Err x) t h h' same u = refl
@@ -73,12 +73,22 @@ contents_more : (base : Base) (k : ℕ) (s : Shared) → contents_of base (more_
 contents_more Component k s = refl
 contents_more Statics k s = refl
 
-kept_more : (spot : Spot) (k : ℕ) (s : Shared) → kept_at spot (more_shared k s) ≡ kept_at spot s
-kept_more spot k s = ap (λ (m : Contents). option_map_or (λ v. v) (value_at m spot.path) kept.Nothing) (contents_more spot.base k s)
+load_same : (spot : Spot) (k : ℕ) → Same k Value (load spot)
+load_same spot k = record { ends = λ s u. ap (λ (m : Contents). answers (there (value_at m spot.path)) (more k s)) (contents_more spot.base k s.shared) }
 
 written_more : (base : Base) (path : Path) (v : Value) (k : ℕ) (s : Shared) → written_at base path v (more_shared k s) ≡ more_shared k (written_at base path v s)
 written_more Component path v k s = refl
 written_more Statics path v k s = refl
+
+write_same : (b : Bool) (spot : Spot) (new : Value) (k : ℕ) →
+    Same k (Unit {0}) (if b then replace spot new else answers (Err Untyped))
+write_same true spot new k = record {
+  ends = λ s u. ap (λ (t : Shared). gives tt (record { shared = t; locals = s.locals })) (written_more spot.base spot.path new k s.shared);
+}
+write_same false spot new k = record { ends = λ s u. refl }
+
+store_same : (spot : Spot) (new : Value) (k : ℕ) → Same k (Unit {0}) (store spot new)
+store_same spot new k = then_same (load_same spot k) (λ old. write_same (is_alike old new) spot new k)
 
 turn_more : (contents statics : Contents) (moment : _) (n k : ℕ) (locals : List Val) → Unspent (turn_of n) →
     (let s : State = record { shared = record { contents = contents; statics = statics; turns = n; moment = moment }; locals = locals } in take_turn (more k s) ≡ more_end k (take_turn s))
@@ -87,7 +97,7 @@ turn_more contents statics moment (suc n) k locals u =
     let some : (suc n + k == 0) ≡ false = grind arith in
     let here : (suc n == 0) ≡ false = grind arith in
     let less : suc n + k - 1 ≡ suc n - 1 + k = omega arith in
-    let R : Bool → ℕ → End (Unit {0}) = λ b m. record { result = if b then Err TurnsSpent else Ok tt; state = record { shared = record { contents = contents; statics = statics; turns = m; moment = moment }; locals = locals } } in
+    let R : Bool → ℕ → End (Unit {0}) = λ b m. record { result = if b then Err (Traps TurnsSpent) else Ok tt; state = record { shared = record { contents = contents; statics = statics; turns = m; moment = moment }; locals = locals } } in
     ap (λ (b : Bool). R b (suc n + k - 1)) some ∙ ap (R false) less ∙ ap (λ (b : Bool). R b (suc n - 1 + k)) (sym here)
 
 pub record CallsSame (k : ℕ) (c : Calls) : Type 0 where
@@ -118,30 +128,24 @@ closed : (k : ℕ) (w : Setting) → CallsSame k w.calls → Closed (Same k) w
 closed k w calls = record {
   follow = then_same;
   answer = λ r. record { ends = λ s u. refl };
-  of_read_local = λ kind i. record { ends = λ s u. refl };
-  of_this = record { ends = λ s u. refl };
-  of_write_local = λ i v. record { ends = λ s u. refl };
-  of_read_spot = λ spot. record { ends = λ s u. ap (λ (v : Value). gives (read_as v) (more k s)) (kept_more spot k s.shared) };
-  of_write_spot = λ p spot v. record {
-    ends = λ s u. ap (λ (t : Shared). gives (read_as (stored_as p v)) (record { shared = t; locals = s.locals })) (written_more spot.base spot.path (stored_as p v) k s.shared);
-  };
-  of_read_bytes = λ spot. record { ends = λ s u. ap (λ (v : Value). gives (bytes_of v) (more k s)) (kept_more spot k s.shared) };
-  of_write_bytes = λ spot bytes. record {
-    ends = λ s u. ap (λ (t : Shared). gives Nothing (record { shared = t; locals = s.locals })) (written_more spot.base spot.path (kept.Buf bytes) k s.shared);
-  };
+  of_locals = λ f. record { ends = λ s u. refl };
+  of_new_locals = λ v locals. record { ends = λ s u. refl };
+  of_load = λ spot. load_same spot k;
+  of_store = λ spot new. store_same spot new k;
   of_moment = record { ends = λ s u. refl };
   of_turn = record { ends = λ s u. turn_more s.shared.contents s.shared.statics s.shared.moment s.shared.turns k s.locals u };
   of_calls = λ m frame. record { ends = λ s u. ap (λ (c : Called). back c s.locals) (calls.ends m frame s.shared u) };
   of_rounds = rounds_same;
 }
 
-answered_unspent : (kind : Kind) (r : Result Flow Trap) → Unspent (answered kind r) → Unspent r
+answered_unspent : (kind : Kind) (r : Result Flow Stop) → Unspent (answered kind r) → Unspent r
 answered_unspent kind (Ok v) u = tt
-answered_unspent kind (Err ZeroDivisor) u = tt
-answered_unspent kind (Err NullReference) u = tt
-answered_unspent kind (Err OutOfRange) u = tt
-answered_unspent kind (Err TurnsSpent) u = u
-answered_unspent kind (Err TooDeep) u = tt
+answered_unspent kind (Err (Traps ZeroDivisor)) u = tt
+answered_unspent kind (Err (Traps NullReference)) u = tt
+answered_unspent kind (Err (Traps OutOfRange)) u = tt
+answered_unspent kind (Err (Traps TurnsSpent)) u = u
+answered_unspent kind (Err (Traps TooDeep)) u = tt
+answered_unspent kind (Err Untyped) u = tt
 
 body_same : (k : ℕ) (w : Setting) → CallsSame k w.calls → (kind : Kind) (body : Option Stmt) (frame : List Val) (s : Shared) → Unspent (run_body w kind body frame s).result →
     run_body w kind body frame (more_shared k s) ≡ record { result = (run_body w kind body frame s).result; shared = more_shared k (run_body w kind body frame s).shared }
@@ -153,7 +157,13 @@ body_same k w calls kind (Some x) frame s u =
 method_same : (k : ℕ) (w : Setting) → CallsSame k w.calls → (m : Option Method) (frame : List Val) (s : Shared) → Unspent (run_method w m frame s).result →
     run_method w m frame (more_shared k s) ≡ record { result = (run_method w m frame s).result; shared = more_shared k (run_method w m frame s).shared }
 method_same k w calls None frame s u = refl
-method_same k w calls (Some m) frame s u = body_same k w calls m.result m.body frame s u
+method_same k w calls (Some m) frame s u = go (is_frame_of m frame) u
+  where
+    go : (b : Bool) → Unspent ((if b then run_body w m.result m.body else untyped) frame s).result →
+        (if b then run_body w m.result m.body else untyped) frame (more_shared k s)
+        ≡ record { result = ((if b then run_body w m.result m.body else untyped) frame s).result; shared = more_shared k ((if b then run_body w m.result m.body else untyped) frame s).shared }
+    go true u = body_same k w calls m.result m.body frame s u
+    go false u = refl
 
 -- a call that did not spend its turns ends the same with k more, and leaves k more
 pub calls_same : (k : ℕ) (program : Program) (class frames : ℕ) → CallsSame k (calls_with program class frames)

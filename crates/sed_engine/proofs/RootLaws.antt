@@ -1,42 +1,41 @@
 -- The laws of calls, for root calls.
-use Rattle.std.proofs.Common.{◌≡◌, ◌≤◌, ℕ, ◌+◌, map, Option, Some, None, Result, Ok, Err, refl, ap, ◌∙◌, arith}
-use Rattle.sed_value.specs.declared.value.Value.{Value}
-use Rattle.sed_typed.specs.declared.program.Program.{Program}
-use Rattle.sed_engine.specs.declared.trap.Trap.{Trap}
+use Rattle.std.proofs.Common.{◌≡◌, ◌≤◌, ℕ, ◌+◌, map, Option, Some, None, Result, Ok, Err, refl, ap, ◌∙◌}
+use Rattle.sed_engine.specs.Stops.{Stop}
 use Rattle.sed_engine.specs.Values.{Val}
 use Rattle.sed_engine.specs.State.{Shared}
-use Rattle.sed_engine.specs.Expressions.{Called}
-use Rattle.sed_engine.specs.Root.{RootEnd, run_root, end_of, root_frame, most_frames, calls_with}
+use Rattle.sed_engine.specs.Expressions.{Called, Calls}
+use Rattle.sed_engine.specs.Root.{RootEnd, root_end, start_root, end_of, root_frame}
 use Rattle.sed_engine.specs.Turns.{more_shared, LeavesAtMost, IsDone, with_more}
-use Rattle.sed_engine.proofs.KeepsFit.{Forms, FitsNow, calls_fit}
-use Rattle.sed_engine.proofs.Within.{Within, calls_keep}
-use Rattle.sed_engine.proofs.MoreTurns.{Unspent, calls_same}
+use Rattle.sed_engine.proofs.KeepsFit.{Forms, FitsNow, CallsFit}
+use Rattle.sed_engine.proofs.Within.{Within, within_self, CallsKeep}
+use Rattle.sed_engine.proofs.MoreTurns.{Unspent, CallsSame}
 
--- a root call as its parts: what the calls leave
-left_of : (r : Result Val Trap) (left turns : ℕ) → left ≤ turns → LeavesAtMost (end_of r left) turns
+started_within : (calls : Calls) → CallsKeep calls → (m : Result (Option ℕ) Stop) (argument : Result Val Stop) (s : Shared) → Within s (start_root calls m argument s).shared
+started_within calls keep (Ok None) (Ok v) s = within_self s
+started_within calls keep (Ok (Some m)) (Ok v) s = keep.keeps m (root_frame v) s
+started_within calls keep (Ok m) (Err stop) s = within_self s
+started_within calls keep (Err stop) v s = within_self s
+
+left_of : (r : Result Val Stop) (left turns : ℕ) → left ≤ turns → LeavesAtMost (end_of r left) turns
 left_of (Ok v) left turns h = h
-left_of (Err trap) left turns h = tt
+left_of (Err stop) left turns h = tt
 
-pub run_leaves : (program : Program) (class : ℕ) (m : Option ℕ) (argument : Value) (s : Shared) → LeavesAtMost (run_root program class m argument s).end s.turns
-run_leaves program class None argument s = let h : s.turns ≤ s.turns = omega arith in h
-run_leaves program class (Some m) argument s =
-    let c : Called = calls_with program class most_frames m (root_frame argument) s in
-    left_of c.result c.shared.turns s.turns ((calls_keep program class most_frames).keeps m (root_frame argument) s).turns
+pub run_leaves : (calls : Calls) → CallsKeep calls → (m : Result (Option ℕ) Stop) (argument : Result Val Stop) (s : Shared) → LeavesAtMost (root_end (start_root calls m argument s)).end s.turns
+run_leaves calls keep m argument s =
+    let c : Called = start_root calls m argument s in
+    left_of c.result c.shared.turns s.turns (started_within calls keep m argument s).turns
 
-pub run_keeps : (program : Program) (class : ℕ) (m : Option ℕ) (argument : Value) (s : Shared) →
-    (map (λ e. e.0) (run_root program class m argument s).contents ≡ map (λ e. e.0) s.contents) × (map (λ e. e.0) (run_root program class m argument s).statics ≡ map (λ e. e.0) s.statics)
-run_keeps program class None argument s = (refl, refl)
-run_keeps program class (Some m) argument s =
-    let h : Within s (calls_with program class most_frames m (root_frame argument) s).shared = (calls_keep program class most_frames).keeps m (root_frame argument) s in
-    (h.contents, h.statics)
+pub run_keeps : (calls : Calls) → CallsKeep calls → (m : Result (Option ℕ) Stop) (argument : Result Val Stop) (s : Shared) →
+    (map (λ e. e.0) (root_end (start_root calls m argument s)).contents ≡ map (λ e. e.0) s.contents) × (map (λ e. e.0) (root_end (start_root calls m argument s)).statics ≡ map (λ e. e.0) s.statics)
+run_keeps calls keep m argument s = ((started_within calls keep m argument s).contents, (started_within calls keep m argument s).statics)
 
-done_unspent : (r : Result Val Trap) (left : ℕ) → IsDone (end_of r left) → Unspent r
+done_unspent : (r : Result Val Stop) (left : ℕ) → IsDone (end_of r left) → Unspent r
 done_unspent (Ok v) left d = tt
-done_unspent (Err trap) left d = absurd d
+done_unspent (Err stop) left d = absurd d
 
-end_more : (r : Result Val Trap) (left k : ℕ) → end_of r (left + k) ≡ with_more k (end_of r left)
+end_more : (r : Result Val Stop) (left k : ℕ) → end_of r (left + k) ≡ with_more k (end_of r left)
 end_more (Ok v) left k = refl
-end_more (Err trap) left k = refl
+end_more (Err stop) left k = refl
 
 -- the parts of what a root call leaves, with more turns and without
 pub record EndsAlike (k : ℕ) (a b : RootEnd) : Type 0 where
@@ -44,21 +43,24 @@ pub record EndsAlike (k : ℕ) (a b : RootEnd) : Type 0 where
   pub statics : b.statics ≡ a.statics
   pub left : b.end ≡ with_more k a.end
 
-pub run_alike : (program : Program) (class k : ℕ) (m : Option ℕ) (argument : Value) (s : Shared) → IsDone (run_root program class m argument s).end →
-    EndsAlike k (run_root program class m argument s) (run_root program class m argument (more_shared k s))
-run_alike program class k None argument s d = record { contents = refl; statics = refl; left = refl }
-run_alike program class k (Some m) argument s d =
-    let c : Called = calls_with program class most_frames m (root_frame argument) s in
-    let same = (calls_same k program class most_frames).ends m (root_frame argument) s (done_unspent c.result c.shared.turns d) in
-    record {
-      contents = ap (λ (x : Called). x.shared.contents) same;
-      statics = ap (λ (x : Called). x.shared.statics) same;
-      left = ap (λ (x : Called). end_of x.result x.shared.turns) same ∙ end_more c.result c.shared.turns k;
-    }
+ends_alike : (k : ℕ) (c d : Called) → d ≡ record { result = c.result; shared = more_shared k c.shared } → EndsAlike k (root_end c) (root_end d)
+ends_alike k c d same = record {
+  contents = ap (λ (x : Called). x.shared.contents) same;
+  statics = ap (λ (x : Called). x.shared.statics) same;
+  left = ap (λ (x : Called). end_of x.result x.shared.turns) same ∙ end_more c.result c.shared.turns k;
+}
 
-pub run_fits : (forms : Forms) (program : Program) (class : ℕ) (m : Option ℕ) (argument : Value) (s : Shared) → FitsNow forms s →
-    FitsNow forms (record { contents = (run_root program class m argument s).contents; statics = (run_root program class m argument s).statics; turns = s.turns; moment = s.moment })
-run_fits forms program class None argument s fits = record { contents = fits.contents; statics = fits.statics }
-run_fits forms program class (Some m) argument s fits =
-    let h = (calls_fit forms program class most_frames).keeps m (root_frame argument) s fits in
-    record { contents = h.contents; statics = h.statics }
+pub run_alike : (k : ℕ) (calls : Calls) → CallsSame k calls → (m : Result (Option ℕ) Stop) (argument : Result Val Stop) (s : Shared) → IsDone (root_end (start_root calls m argument s)).end →
+    EndsAlike k (root_end (start_root calls m argument s)) (root_end (start_root calls m argument (more_shared k s)))
+run_alike k calls same (Ok None) (Ok v) s d = record { contents = refl; statics = refl; left = refl }
+run_alike k calls same (Ok (Some m)) (Ok v) s d =
+    let c : Called = calls m (root_frame v) s in
+    ends_alike k c (calls m (root_frame v) (more_shared k s)) (same.ends m (root_frame v) s (done_unspent c.result c.shared.turns d))
+run_alike k calls same (Ok m) (Err stop) s d = absurd d
+run_alike k calls same (Err stop) v s d = absurd d
+
+pub run_fits : (forms : Forms) (calls : Calls) → CallsFit forms calls → (m : Result (Option ℕ) Stop) (argument : Result Val Stop) (s : Shared) → FitsNow forms s → FitsNow forms (start_root calls m argument s).shared
+run_fits forms calls fit (Ok None) (Ok v) s fits = fits
+run_fits forms calls fit (Ok (Some m)) (Ok v) s fits = fit.keeps m (root_frame v) s fits
+run_fits forms calls fit (Ok m) (Err stop) s fits = fits
+run_fits forms calls fit (Err stop) v s fits = fits

@@ -1,19 +1,18 @@
 -- What every run keeps: turns do not grow, and no path comes or goes.
-use Rattle.std.proofs.Common.{◌≡◌, ◌≤◌, ℕ, zero, suc, List, [], ◌∷◌, map, Option, Some, None, Result, Ok, Err, slice_get, refl, ap, ◌∙◌, arith}
+use Rattle.std.proofs.Common.{◌≡◌, ◌≤◌, ℕ, zero, suc, Bool, true, false, if◌then◌else◌, List, [], ◌∷◌, map, Option, Some, None, Result, Ok, Err, slice_get, refl, ap, ◌∙◌, arith}
 use Rattle.sed_value.specs.declared.value.Value.{Value}
-use Rattle.sed_value.specs.declared.value.Value.TheVariants as kept
 use Rattle.sed_typed.specs.declared.kind.Kind.{Kind}
 use Rattle.sed_typed.specs.declared.statement.Stmt.{Stmt}
 use Rattle.sed_typed.specs.declared.program.Method.{Method}
 use Rattle.sed_typed.specs.declared.program.Program.{Program}
-use Rattle.sed_typed.specs.Contents.{Contents, Path, changed_at}
-use Rattle.sed_engine.specs.declared.trap.Trap.{Trap}
-use Rattle.sed_engine.specs.Values.{Val, Base, Component, Statics, stored_as, stored_over}
-use Rattle.sed_engine.specs.State.{Shared, State, End, after, then_do}
-use Rattle.sed_engine.specs.Steps.{written_at}
+use Rattle.sed_typed.specs.Contents.{Contents, Path, changed_at, value_at}
+use Rattle.sed_engine.specs.Stops.{Stop, Untyped, there}
+use Rattle.sed_engine.specs.Values.{Val, Base, Component, Statics, Spot, is_alike}
+use Rattle.sed_engine.specs.State.{Shared, State, End, answers, after, then_do}
+use Rattle.sed_engine.specs.Steps.{contents_of, replace, store_over, written_at}
 use Rattle.sed_engine.specs.Expressions.{Setting, Calls}
 use Rattle.sed_engine.specs.Statements.{Flow, Round, Again, Over, Answer, after_round, loop}
-use Rattle.sed_engine.specs.Root.{run_body, run_method, calls_with}
+use Rattle.sed_engine.specs.Root.{untyped, is_frame_of, run_body, run_method, calls_with}
 use Rattle.sed_engine.proofs.Related.{Closed, of_stmt}
 
 abbrev pub paths : Contents → List Path
@@ -33,7 +32,7 @@ within_then s t u a b = record { turns = omega (arith, a.turns, b.turns); conten
 pub record Keeps (A : Type 0) (f : State → End A) : Type 0 where
   pub keeps : (s : State) → Within s.shared (f s).state.shared
 
-after_keeps : {A B : Type 0} (r : Result A Trap) (s : Shared) (t : State) (h : A → State → End B) → ((a : A) → Keeps B (h a)) → Within s t.shared → Within s (after r t h).state.shared
+after_keeps : {A B : Type 0} (r : Result A Stop) (s : Shared) (t : State) (h : A → State → End B) → ((a : A) → Keeps B (h a)) → Within s t.shared → Within s (after r t h).state.shared
 after_keeps (Ok v) s t h each w = within_then s t.shared (h v t).state.shared w ((each v).keeps t)
 after_keeps (Err x) s t h each w = w
 
@@ -44,9 +43,18 @@ paths-changed_at : (m : Contents) (path : Path) (change : Value → Value) → p
 paths-changed_at [] path change = refl
 paths-changed_at (e ∷ es) path change = ap (λ (rest : List Path). e.0 ∷ rest) (paths-changed_at es path change)
 
-written_within : (base : Base) (path : Path) (v : Value) (s : Shared) → Within s (written_at base path v s)
-written_within Component path v s = record { turns = omega arith; contents = paths-changed_at s.contents path (stored_over v); statics = refl }
-written_within Statics path v s = record { turns = omega arith; contents = refl; statics = paths-changed_at s.statics path (stored_over v) }
+pub written_within : (base : Base) (path : Path) (v : Value) (s : Shared) → Within s (written_at base path v s)
+written_within Component path v s = record { turns = omega arith; contents = paths-changed_at s.contents path (λ _. v); statics = refl }
+written_within Statics path v s = record { turns = omega arith; contents = refl; statics = paths-changed_at s.statics path (λ _. v) }
+
+chosen : (b : Bool) (spot : Spot) (new : Value) (s : State) → Within s.shared ((if b then replace spot new else answers (Err Untyped)) s).state.shared
+chosen true spot new s = written_within spot.base spot.path new s.shared
+chosen false spot new s = within_self s.shared
+
+stored_within : (old : Option Value) (spot : Spot) (new : Value) (s : State) →
+    Within s.shared (then_do (answers (there old) s) (λ o s1. store_over spot new o s1)).state.shared
+stored_within None spot new s = within_self s.shared
+stored_within (Some old) spot new s = chosen (is_alike old new) spot new s
 
 pub record CallsKeep (c : Calls) : Type 0 where
   pub keeps : (m : ℕ) (frame : List Val) (s : Shared) → Within s (c m frame s).shared
@@ -65,13 +73,10 @@ closed : (w : Setting) → CallsKeep w.calls → Closed Keeps w
 closed w calls = record {
   follow = then_keeps;
   answer = λ r. record { keeps = λ s. within_self s.shared };
-  of_read_local = λ kind i. record { keeps = λ s. within_self s.shared };
-  of_this = record { keeps = λ s. within_self s.shared };
-  of_write_local = λ i v. record { keeps = λ s. within_self s.shared };
-  of_read_spot = λ spot. record { keeps = λ s. within_self s.shared };
-  of_write_spot = λ p spot v. record { keeps = λ s. written_within spot.base spot.path (stored_as p v) s.shared };
-  of_read_bytes = λ spot. record { keeps = λ s. within_self s.shared };
-  of_write_bytes = λ spot bytes. record { keeps = λ s. written_within spot.base spot.path (kept.Buf bytes) s.shared };
+  of_locals = λ f. record { keeps = λ s. within_self s.shared };
+  of_new_locals = λ v locals. record { keeps = λ s. within_self s.shared };
+  of_load = λ spot. record { keeps = λ s. within_self s.shared };
+  of_store = λ spot new. record { keeps = λ s. stored_within (value_at (contents_of spot.base s.shared) spot.path) spot new s };
   of_moment = record { keeps = λ s. within_self s.shared };
   of_turn = record { keeps = λ s. record { turns = omega arith; contents = refl; statics = refl } };
   of_calls = λ m frame. record { keeps = λ s. calls.keeps m frame s.shared };
@@ -84,7 +89,11 @@ body_keeps w calls kind (Some x) frame s = (of_stmt Keeps w (closed w calls) x).
 
 method_keeps : (w : Setting) → CallsKeep w.calls → (m : Option Method) (frame : List Val) (s : Shared) → Within s (run_method w m frame s).shared
 method_keeps w calls None frame s = within_self s
-method_keeps w calls (Some m) frame s = body_keeps w calls m.result m.body frame s
+method_keeps w calls (Some m) frame s = go (is_frame_of m frame)
+  where
+    go : (b : Bool) → Within s ((if b then run_body w m.result m.body else untyped) frame s).shared
+    go true = body_keeps w calls m.result m.body frame s
+    go false = within_self s
 
 -- calls leave no more turns than they were given, and keep every path
 pub calls_keep : (program : Program) (class frames : ℕ) → CallsKeep (calls_with program class frames)

@@ -1,9 +1,10 @@
 -- What expressions mean.
-use Rattle.std.specs.Prelude.{ℕ, ◌+◌, ◌-◌, pos, if◌then◌else◌, true, false, List, [], ◌∷◌, length, replicate, slice_get, slice_index, slice_index_or, slice_set, Option, Some, None, Result, Err}
-use Rattle.std.specs.Option.{option_map_or}
+use Rattle.std.specs.Prelude.{ℕ, ◌+◌, ◌-◌, pos, true, false, List, [], ◌∷◌, length, replicate, slice_get, slice_index, slice_index_or, slice_set, Option, Result, Err}
+use Rattle.std.specs.Option.{option_and_then}
 use Rattle.std.specs.Str.{bytes_eq}
 use Rattle.sed_typed.specs.declared.operators.TextCall.{TextCall as TextCall-type}
 use Rattle.sed_typed.specs.declared.operators.TextCall.TheVariants as text
+use Rattle.sed_typed.specs.declared.operators.Width.TheVariants as width
 use Rattle.sed_typed.specs.declared.program.Program.{Program}
 use Rattle.sed_typed.specs.declared.tree.Place.{Place}
 use Rattle.sed_typed.specs.declared.tree.Place.TheVariants as place
@@ -11,20 +12,20 @@ use Rattle.sed_typed.specs.declared.tree.Expr.{Expr, Row_of-Expr, end_of-Expr, m
 use Rattle.sed_typed.specs.declared.tree.Expr.TheVariants as expr
 use Rattle.sed_typed.specs.declared.tree.Link.{Link}
 use Rattle.sed_typed.specs.declared.tree.Link.TheVariants as link
-use Rattle.sed_typed.specs.Classes.{find, method_name}
+use Rattle.sed_typed.specs.Classes.{find}
 use Rattle.sed_typed.specs.Objects.{class_at, static_class_at}
-use Rattle.sed_engine.specs.declared.trap.Trap.{Trap}
 use Rattle.sed_engine.specs.declared.trap.Trap.TheVariants.{OutOfRange}
+use Rattle.sed_engine.specs.Stops.{Stop, Traps, there, map_ok}
 use Rattle.sed_engine.specs.Values.{Val, Nothing, Truth, Int, Long, Null, At, Literal, Base, Component, Statics, Spot, whole, truth, is_met, spot_of}
 use Rattle.sed_engine.specs.Operators.{arithmetic_of, binary_of, unary_of, given}
 use Rattle.sed_engine.specs.State.{Shared, State, End, gives, answers, then_do}
-use Rattle.sed_engine.specs.Steps.{read_spot, read_bytes, write_bytes, read_local, read_this, read_moment, take_turn}
+use Rattle.sed_engine.specs.Steps.{choose, read_spot, read_bytes, write_bytes, with_local, read_local, read_this, read_moment, take_turn}
 use Rattle.sed_engine.specs.Places.{Target, OfLocal, OfStatic, OfField, OfElement, static_spot, elements_of, element_spot, field_spot, fetch, put}
-use Rattle.sed_engine.specs.Texts.{index_within, characters, literal_bytes, with_character, filled}
+use Rattle.sed_engine.specs.Texts.{index_of, characters, literal_bytes, with_character, filled}
 
 -- what a call comes to
 pub record Called : Type 0 where
-  pub result : Result Val Trap
+  pub result : Result Val Stop
   pub shared : Shared
 
 -- of a method by its number, from the locals of its frame
@@ -40,7 +41,7 @@ pub record Setting : Type 0 where
 -- the operands from left to right, each put into the next local of a frame
 abbrev pub put_all : ℕ → List (State → End Val) → List Val → State → End (List Val)
 put_all i [] frame s = gives frame s
-put_all i (e ∷ es) frame s = then_do (e s) (λ v s1. put_all (i + 1) es (slice_set frame i v) s1)
+put_all i (e ∷ es) frame s = then_do (e s) (λ v s1. then_do (answers (with_local frame i v) s1) (λ more s2. put_all (i + 1) es more s2))
 
 -- room for a receiver and 64 locals
 abbrev pub new_frame : List Val
@@ -65,39 +66,32 @@ abbrev pub call_super : Setting → ℕ → List (State → End Val) → State �
 call_super w method args s =
     then_do (read_this s) (λ this s1. then_do (put_all 1 args (frame_of this) s1) (λ frame s2. call w method frame s2))
 
--- the class of the object at a place
+-- the class of the object at a place, in a root call on a component of this class
+abbrev pub class_from : Program → ℕ → Base → List ℕ → Option ℕ
+class_from program class Component path = class_at program path class
+class_from program class Statics path = static_class_at program path
+
 abbrev pub class_of : Setting → Spot → Option ℕ
-class_of w spot = base_class spot.base spot.path
-  where
-    base_class : Base → List ℕ → Option ℕ
-    base_class Component path = class_at w.program path w.class
-    base_class Statics path = static_class_at w.program path
+class_of w spot = class_from w.program w.class spot.base spot.path
 
 -- the method of this name that is nearest at or above the class of the object
-abbrev pub method_for : Setting → Spot → ℕ → ℕ
-method_for w spot method = of_class (class_of w spot)
-  where
-    of_class : Option ℕ → ℕ
-    of_class None = method
-    of_class (Some class) = option_map_or (λ m. m) (find w.program class (method_name w.program method)) method
+abbrev pub method_for : Setting → Spot → ℕ → Result ℕ Stop
+method_for w spot method =
+    there (option_and_then (λ class. option_and_then (λ m. find w.program class m.name) (slice_get w.program.methods method)) (class_of w spot))
 
 -- the arguments, then the test for null, then the turn
 abbrev pub invoke : Setting → Val → ℕ → List (State → End Val) → State → End Val
 invoke w receiver method args s =
-    then_do (put_all 1 args (frame_of receiver) s) (λ frame s1. then_do (answers (spot_of receiver) s1) (λ spot s2. call w (method_for w spot method) frame s2))
-
--- the text of this number
-abbrev pub text_of : Setting → ℕ → List ℕ
-text_of w n = option_map_or (λ t. t) (slice_get w.program.texts n) []
+    then_do (put_all 1 args (frame_of receiver) s) (λ frame s1. then_do (answers (spot_of receiver) s1) (λ spot s2. then_do (answers (method_for w spot method) s2) (λ m s3. call w m frame s3)))
 
 -- the bytes of a Str, or of a text literal as a Str; null traps
 abbrev pub text_bytes : Setting → Val → State → End (List ℕ)
-text_bytes w (Literal n) s = gives (literal_bytes (text_of w n)) s
+text_bytes w (Literal n) s = answers (map_ok literal_bytes (there (slice_get w.program.texts n))) s
 text_bytes w v s = then_do (answers (spot_of v) s) (λ spot s1. read_bytes spot s1)
 
 -- a Str that may be changed, which a text literal is not
-abbrev pub changeable : Val → Result Spot Trap
-changeable (Literal n) = Err OutOfRange
+abbrev pub changeable : Val → Result Spot Stop
+changeable (Literal n) = Err (Traps OutOfRange)
 changeable v = spot_of v
 
 abbrev pub operand : List Val → ℕ → Val
@@ -107,9 +101,9 @@ abbrev pub text_call : Setting → TextCall-type → Val → List Val → State 
 text_call w text.Length v args s =
     then_do (text_bytes w v s) (λ bytes s1. gives (Int (pos (length (characters bytes)))) s1)
 text_call w text.Get v args s =
-    then_do (text_bytes w v s) (λ bytes s1. then_do (answers (index_within (length bytes) (whole (operand args 0))) s1) (λ i s2. gives (Int (pos (slice_index bytes i))) s2))
+    then_do (text_bytes w v s) (λ bytes s1. then_do (answers (index_of (length bytes) (operand args 0)) s1) (λ i s2. gives (Int (pos (slice_index bytes i))) s2))
 text_call w text.Set v args s =
-    then_do (answers (changeable v) s) (λ spot s1. then_do (read_bytes spot s1) (λ bytes s2. then_do (answers (index_within (length bytes - 1) (whole (operand args 0))) s2) (λ i s3. write_bytes spot (with_character bytes i (whole (operand args 1))) s3)))
+    then_do (answers (changeable v) s) (λ spot s1. then_do (read_bytes spot s1) (λ bytes s2. then_do (answers (index_of (length bytes - 1) (operand args 0)) s2) (λ i s3. then_do (answers (whole width.Int (operand args 1)) s3) (λ c s4. write_bytes spot (with_character bytes i c) s4))))
 text_call w text.Equals v args s =
     then_do (text_bytes w v s) (λ a s1. then_do (text_bytes w (operand args 0) s1) (λ b s2. gives (truth (bytes_eq (characters a) (characters b))) s2))
 text_call w text.Copy v args s =
@@ -124,7 +118,7 @@ buf_size v s = then_do (buf_bytes v s) (λ bytes s1. gives (Int (pos (length byt
 
 abbrev pub buf_byte : Val → Val → State → End Val
 buf_byte v index s =
-    then_do (buf_bytes v s) (λ bytes s1. then_do (answers (index_within (length bytes) (whole index)) s1) (λ i s2. gives (Int (pos (slice_index bytes i))) s2))
+    then_do (buf_bytes v s) (λ bytes s1. then_do (answers (index_of (length bytes) index) s1) (λ i s2. gives (Int (pos (slice_index bytes i))) s2))
 
 -- what follows an operand, one link after the other
 abbrev pub in_chain : List (Val → State → End Val) → Val → State → End Val
@@ -143,8 +137,8 @@ abbrev mutual
   eval w (expr.Static p i) s = read_spot (static_spot i) s
   eval w (expr.StaticPart kind i) s = gives (At (static_spot i)) s
   eval w expr.Ticks s = read_moment s
-  eval w (expr.Unary' op p e) s = then_do (eval w e s) (λ v s1. gives (unary_of op v) s1)
-  eval w (expr.Choose' p c q a r b) s = then_do (eval w c s) (λ v s1. if is_met v then eval w a s1 else eval w b s1)
+  eval w (expr.Unary' op p e) s = then_do (eval w e s) (λ v s1. answers (unary_of op v) s1)
+  eval w (expr.Choose' p c q a r b) s = then_do (eval w c s) (λ v s1. choose v (eval w a) (eval w b) s1)
   eval w (expr.Set' place p e) s = then_do (locate w place s) (λ target s1. then_do (eval w e s1) (λ v s2. put target v s2))
   eval w (expr.Update' u place p e) s =
       then_do (locate w place s) (λ target s1. then_do (fetch target s1) (λ old s2. then_do (eval w e s2) (λ x s3. then_do (answers (arithmetic_of u.arithmetic u.width old x) s3) (λ v s4. then_do (put target v s4) (λ new s5. gives (given u.gives old new) s5)))))
@@ -162,11 +156,11 @@ abbrev mutual
   -- what is done with the value on the left
   pub meaning : Setting → Link → Val → State → End Val
   meaning w (link.Binary op e) v s = then_do (eval w e s) (λ x s1. answers (binary_of op v x) s1)
-  meaning w (link.And e) v s = if is_met v then then_do (eval w e s) (λ x s1. gives (truth (is_met x)) s1) else gives (truth false) s
-  meaning w (link.Or e) v s = if is_met v then gives (truth true) s else then_do (eval w e s) (λ x s1. gives (truth (is_met x)) s1)
+  meaning w (link.And e) v s = choose v (λ s1. then_do (eval w e s1) (λ x s2. answers (map_ok truth (is_met x)) s2)) (gives (truth false)) s
+  meaning w (link.Or e) v s = choose v (gives (truth true)) (λ s1. then_do (eval w e s1) (λ x s2. answers (map_ok truth (is_met x)) s2)) s
   meaning w (link.Field p i) v s = then_do (field_spot v i s) (λ spot s1. read_spot spot s1)
   meaning w (link.Part kind i) v s = then_do (field_spot v i s) (λ spot s1. gives (At spot) s1)
-  meaning w (link.Elements kind i) v s = gives (elements_of v i) s
+  meaning w (link.Elements kind i) v s = answers (elements_of v i) s
   meaning w (link.Element p count e) v s = then_do (eval w e s) (λ index s1. then_do (element_spot count v index s1) (λ spot s2. read_spot spot s2))
   meaning w link.Size v s = buf_size v s
   meaning w (link.Byte e) v s = then_do (eval w e s) (λ index s1. buf_byte v index s1)

@@ -1,4 +1,5 @@
 pub mod Traps
+pub mod Stops
 pub mod Values
 pub mod Operators
 pub mod Texts

@@ -1,5 +1,5 @@
 -- What the operators compute.
-use Rattle.std.specs.Prelude.{ℤ, pos, neg_ℤ, ◌+ℤ◌, ◌-ℤ◌, ◌*ℤ◌, int_lt, int_le, Bool, not, Option, Some, None, Result, Ok, Err, ◌==◌}
+use Rattle.std.specs.Prelude.{ℕ, ℤ, pos, neg_ℤ, ◌+ℤ◌, ◌-ℤ◌, ◌*ℤ◌, int_lt, int_le, Bool, not, Option, Some, None, Result, Ok, Err, ◌==◌}
 use Rattle.std.specs.Int.{Width as Bits, w8, w16, w32, w64, int_bit_and, int_bit_or, int_bit_xor, int_bit_not}
 use Rattle.std.specs.Ordering.{int_eq}
 use Rattle.sed_value.specs.Wrap.{wrap, low_bits}
@@ -16,8 +16,8 @@ use Rattle.sed_typed.specs.declared.operators.Unary.{Unary}
 use Rattle.sed_typed.specs.declared.operators.Unary.TheVariants as unary
 use Rattle.sed_typed.specs.declared.operators.Gives.{Gives}
 use Rattle.sed_typed.specs.declared.operators.Gives.TheVariants.{Old, New}
-use Rattle.sed_engine.specs.declared.trap.Trap.{Trap}
 use Rattle.sed_engine.specs.declared.trap.Trap.TheVariants.{ZeroDivisor}
+use Rattle.sed_engine.specs.Stops.{Stop, Traps, map_ok, and_then}
 use Rattle.sed_engine.specs.Values.{Val, Int, Long, whole, truth_of, truth, is_met, same_reference}
 
 abbrev pub bits_of : Width → Bits
@@ -30,11 +30,11 @@ number width.Int n = Int n
 number width.Long n = Long n
 
 -- what a division gives: there is none by zero
-abbrev pub divided : Option ℤ → Result ℤ Trap
+abbrev pub divided : Option ℤ → Result ℤ Stop
 divided (Some n) = Ok n
-divided None = Err ZeroDivisor
+divided None = Err (Traps ZeroDivisor)
 
-abbrev pub computed : Arithmetic → Bits → ℤ → ℤ → Result ℤ Trap
+abbrev pub computed : Arithmetic → Bits → ℤ → ℤ → Result ℤ Stop
 computed arithmetic.Add bits a b = Ok (wrap bits (a +ℤ b))
 computed arithmetic.Subtract bits a b = Ok (wrap bits (a -ℤ b))
 computed arithmetic.Multiply bits a b = Ok (wrap bits (a *ℤ b))
@@ -46,12 +46,21 @@ computed arithmetic.BitXor bits a b = Ok (int_bit_xor bits a b)
 computed arithmetic.ShiftLeft bits a b = Ok (shifted_left bits a b)
 computed arithmetic.ShiftRight bits a b = Ok (shifted_right bits a b)
 
-abbrev pub as_value : Width → Result ℤ Trap → Result Val Trap
-as_value w (Ok n) = Ok (number w n)
-as_value w (Err trap) = Err trap
+-- what is computed of two whole numbers of these widths, and of two truth values
+abbrev pub of_wholes : Width → Width → (ℤ → ℤ → Result Val Stop) → Val → Val → Result Val Stop
+of_wholes v w f a b = and_then (whole v a) (λ x. and_then (whole w b) (λ y. f x y))
 
-abbrev pub arithmetic_of : Arithmetic → Width → Val → Val → Result Val Trap
-arithmetic_of op w a b = as_value w (computed op (bits_of w) (whole a) (whole b))
+abbrev pub of_truths : (ℕ → ℕ → Result Val Stop) → Val → Val → Result Val Stop
+of_truths f a b = and_then (truth_of a) (λ x. and_then (truth_of b) (λ y. f x y))
+
+-- a shift count is an int, whatever the width
+abbrev pub right_width : Arithmetic → Width → Width
+right_width arithmetic.ShiftLeft w = width.Int
+right_width arithmetic.ShiftRight w = width.Int
+right_width op w = w
+
+abbrev pub arithmetic_of : Arithmetic → Width → Val → Val → Result Val Stop
+arithmetic_of op w a b = of_wholes w (right_width op w) (λ x y. map_ok (number w) (computed op (bits_of w) x y)) a b
 
 abbrev pub compared : Comparison → ℤ → ℤ → Bool
 compared comparison.Equal a b = int_eq a b
@@ -62,23 +71,23 @@ compared comparison.Greater a b = int_lt b a
 compared comparison.GreaterOrEqual a b = int_le b a
 
 -- of two operands that were evaluated
-abbrev pub binary_of : Binary → Val → Val → Result Val Trap
+abbrev pub binary_of : Binary → Val → Val → Result Val Stop
 binary_of (binary.Arithmetic op w) a b = arithmetic_of op w a b
-binary_of (binary.Compare op w) a b = Ok (truth (compared op (whole a) (whole b)))
-binary_of binary.SameTruth a b = Ok (truth (truth_of a == truth_of b))
-binary_of binary.OtherTruth a b = Ok (truth (not (truth_of a == truth_of b)))
-binary_of binary.SameReference a b = Ok (truth (same_reference a b))
-binary_of binary.OtherReference a b = Ok (truth (not (same_reference a b)))
+binary_of (binary.Compare op w) a b = of_wholes w w (λ x y. Ok (truth (compared op x y))) a b
+binary_of binary.SameTruth a b = of_truths (λ x y. Ok (truth (x == y))) a b
+binary_of binary.OtherTruth a b = of_truths (λ x y. Ok (truth (not (x == y)))) a b
+binary_of binary.SameReference a b = map_ok truth (same_reference a b)
+binary_of binary.OtherReference a b = map_ok (λ same. truth (not same)) (same_reference a b)
 
 -- `!x` is true exactly where x is false
-abbrev pub unary_of : Unary → Val → Val
-unary_of unary.Not v = truth (not (is_met v))
-unary_of (unary.Negate w) v = number w (wrap (bits_of w) (neg_ℤ (whole v)))
-unary_of (unary.Flip w) v = number w (int_bit_not (bits_of w) (whole v))
-unary_of unary.ToLong v = Long (whole v)
-unary_of unary.ToInt v = Int (wrap w32 (whole v))
-unary_of unary.LowByte v = Int (pos (low_bits w8 (whole v)))
-unary_of unary.LowShort v = Int (pos (low_bits w16 (whole v)))
+abbrev pub unary_of : Unary → Val → Result Val Stop
+unary_of unary.Not v = map_ok (λ met. truth (not met)) (is_met v)
+unary_of (unary.Negate w) v = map_ok (λ n. number w (wrap (bits_of w) (neg_ℤ n))) (whole w v)
+unary_of (unary.Flip w) v = map_ok (λ n. number w (int_bit_not (bits_of w) n)) (whole w v)
+unary_of unary.ToLong v = map_ok Long (whole width.Int v)
+unary_of unary.ToInt v = map_ok (λ n. Int (wrap w32 n)) (whole width.Long v)
+unary_of unary.LowByte v = map_ok (λ n. Int (pos (low_bits w8 n))) (whole width.Int v)
+unary_of unary.LowShort v = map_ok (λ n. Int (pos (low_bits w16 n))) (whole width.Int v)
 
 -- the value of a compound assignment
 abbrev pub given : Gives → Val → Val → Val

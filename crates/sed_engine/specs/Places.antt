@@ -1,11 +1,12 @@
 -- What may be assigned to, once its receiver and index are evaluated.
-use Rattle.std.specs.Prelude.{ℕ, [], ◌∷◌}
+use Rattle.std.specs.Prelude.{ℕ, [], ◌∷◌, Result, Ok, Err}
 use Rattle.sed_value.specs.declared.slot_type.Primitive.{Primitive}
 use Rattle.sed_typed.specs.declared.kind.Kind.{Kind}
-use Rattle.sed_engine.specs.Values.{Val, At, Null, Spot, Statics, whole, spot_of}
+use Rattle.sed_engine.specs.Stops.{Stop, Untyped}
+use Rattle.sed_engine.specs.Values.{Val, At, Null, Spot, Statics, spot_of}
 use Rattle.sed_engine.specs.State.{State, End, gives, answers, then_do}
 use Rattle.sed_engine.specs.Steps.{inside, read_spot, write_spot, read_local, write_local}
-use Rattle.sed_engine.specs.Texts.{index_within}
+use Rattle.sed_engine.specs.Texts.{index_of}
 
 -- a place to read or to store; neither null nor the index is tested yet
 pub data Target : Type 0 where
@@ -18,14 +19,15 @@ abbrev pub static_spot : ℕ → Spot
 static_spot i = record { base = Statics; path = i ∷ [] }
 
 -- the array or Buf of an object; null stays null until it is used
-abbrev pub elements_of : Val → ℕ → Val
-elements_of (At spot) i = At (inside spot i)
-elements_of v i = Null
+abbrev pub elements_of : Val → ℕ → Result Val Stop
+elements_of (At spot) i = Ok (At (inside spot i))
+elements_of Null i = Ok Null
+elements_of v i = Err Untyped
 
 -- an element of an array of so many: null is tested, then the index
 abbrev pub element_spot : ℕ → Val → Val → State → End Spot
 element_spot count array index s =
-    then_do (answers (spot_of array) s) (λ spot s1. then_do (answers (index_within count (whole index)) s1) (λ i s2. gives (inside spot i) s2))
+    then_do (answers (spot_of array) s) (λ spot s1. then_do (answers (index_of count index) s1) (λ i s2. gives (inside spot i) s2))
 
 -- a field of an object: null is tested
 abbrev pub field_spot : Val → ℕ → State → End Spot

@@ -2,13 +2,18 @@
 use Rattle.std.specs.Prelude.{ℕ, ◌-◌, ◌==◌, ℤ, pos, negsuc, nat_lt, not, if◌then◌else◌, List, [], ◌∷◌, ◌++◌, length, take, take_while, replicate, slice_set, Result, Ok, Err}
 use Rattle.std.specs.Int.{w8}
 use Rattle.sed_value.specs.Wrap.{low_bits}
-use Rattle.sed_engine.specs.declared.trap.Trap.{Trap}
+use Rattle.sed_typed.specs.declared.operators.Width.TheVariants as width
 use Rattle.sed_engine.specs.declared.trap.Trap.TheVariants.{OutOfRange}
+use Rattle.sed_engine.specs.Stops.{Stop, Traps, and_then}
+use Rattle.sed_engine.specs.Values.{Val, whole}
 
 -- an index, where it is at least 0 and below a length
-abbrev pub index_within : ℕ → ℤ → Result ℕ Trap
-index_within len (pos i) = if nat_lt i len then Ok i else Err OutOfRange
-index_within len (negsuc i) = Err OutOfRange
+abbrev pub index_within : ℕ → ℤ → Result ℕ Stop
+index_within len (pos i) = if nat_lt i len then Ok i else Err (Traps OutOfRange)
+index_within len (negsuc i) = Err (Traps OutOfRange)
+
+abbrev pub index_of : ℕ → Val → Result ℕ Stop
+index_of len v = and_then (whole width.Int v) (λ n. index_within len n)
 
 -- the characters of a Str: its bytes before the first 0
 abbrev pub characters : List ℕ → List ℕ

@@ -1,13 +1,12 @@
 //! Laws of the meaning of programs. Each is the contract of a function that does nothing.
-ghost use Rattle.std.specs.Prelude.{◌≡◌, ◌+◌, ℕ, ℤ, map, slice_get, IfSome};
+ghost use Rattle.std.specs.Prelude.{◌≡◌, ◌+◌, ℕ, ℤ, map};
 ghost use Rattle.sed_value.specs.declared.value.Value.{Value};
 ghost use Rattle.sed_typed.specs.declared.program.Program.{Program};
 ghost use Rattle.sed_typed.specs.Contents.{Contents};
 ghost use Rattle.sed_engine.specs.declared.call.Root.{Root as AnyRoot};
 ghost use Rattle.sed_engine.specs.Root.{root};
 ghost use Rattle.sed_engine.specs.Program.{meaning_of};
-ghost use Rattle.sed_engine.specs.Whole.{RootFits, KeepsLimits};
-ghost use Rattle.sed_typed.specs.SysTypes.{HasSysTypes};
+ghost use Rattle.sed_engine.specs.Whole.{IsWhole, RootEnds, RootFits};
 ghost use Rattle.sed_typed.specs.Typed.{Typed};
 ghost use Rattle.sed_engine.specs.Turns.{LeavesAtMost, IsDone, with_more};
 
@@ -43,9 +42,13 @@ pub fn what_is_left_fits()
     ensures { (program : Program) → RootFits (meaning_of program) }
 {}
 
-/// The code of a typed program keeps the limits, has the types of `sys`, and tells its data sizes.
-pub fn typed_programs_keep_their_schema()
-    ensures limits { (program : Program) → Typed program → KeepsLimits (meaning_of program).schema }
-    ensures sys { (program : Program) → Typed program → HasSysTypes (meaning_of program).schema.classes }
-    ensures sizes { (program : Program) → Typed program → (class : ℕ) → IfSome (slice_get (meaning_of program).schema.classes class) (λ c. c.size ≡ (meaning_of program).data_size class) }
+/// The code of a typed program is whole: what everything above a code relies on.
+pub fn typed_programs_are_whole()
+    ensures { (program : Program) → Typed program → IsWhole (meaning_of program) }
+{}
+
+/// A typed program never goes wrong: its root calls end normally or by one of the traps, so no step comes to what is not
+/// typed (`Untyped` in `specs/Stops`), which trap 0 would tell.
+pub fn typed_programs_never_go_wrong()
+    ensures { (program : Program) → Typed program → RootEnds (meaning_of program) }
 {}

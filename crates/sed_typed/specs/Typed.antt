@@ -1,16 +1,20 @@
 -- Typed programs.
-use Rattle.std.specs.Prelude.{ℕ, ◌≡◌, ◌≤◌, ◌<◌, true, false, IsTrue, All, IfSome, IsSomeAnd, if◌then◌else◌, List, [], ◌∷◌, ◌++◌, length, slice_get, sum_by, None}
+use Rattle.std.specs.Prelude.{ℕ, ◌≡◌, ◌≤◌, ◌<◌, true, false, IsTrue, All, IfSome, IsSomeAnd, if◌then◌else◌, List, [], ◌∷◌, ◌++◌, count_by, length, nat_lt, slice_get, sum_by, None, codes}
+use Rattle.std.specs.List.{list_all}
+use Rattle.std.specs.Str.{bytes_eq}
 use Rattle.sed_typed.specs.declared.kind.Kind.{Kind}
 use Rattle.sed_typed.specs.declared.kind.Kind.TheVariants as kind
 use Rattle.sed_typed.specs.declared.program.Method.{Method}
+use Rattle.sed_typed.specs.declared.schema.ActionArg.{ActionArg}
+use Rattle.sed_typed.specs.declared.schema.ActionArg.TheVariants as argument
 use Rattle.sed_typed.specs.declared.program.Program.{Program}
 use Rattle.sed_typed.specs.declared.statement.Stmt.{Stmt}
 use Rattle.sed_typed.specs.Classes.{fields as fields_of, find, method_name}
 use Rattle.sed_typed.specs.Sizes.{form_size, data_size}
-use Rattle.sed_typed.specs.TypedSchema.{HasKits, IsClass, HasSlots, IsField, LiesDeeper, HasMembers, is_abstract, is_below}
-use Rattle.sed_typed.specs.SysTypes.{virtual_class}
+use Rattle.sed_typed.specs.TypedSchema.{HasKits, IsClass, HasSlots, IsAction, IsField, LiesDeeper, HasMembers, is_abstract, is_below}
+use Rattle.sed_typed.specs.SysTypes.{virtual_class, component_class}
 use Rattle.sed_typed.specs.TypedStmt.{IsStmt}
-use Rattle.sed_typed.specs.Depth.{stmt_depth}
+use Rattle.sed_typed.specs.Depth.{body_depth}
 
 -- what a parameter or a local may be
 abbrev pub IsStorable : Kind → Type 0
@@ -37,7 +41,6 @@ pub record IsFrame (m : Method) (locals : List Kind) : Type 0 where
   pub others : List Kind
   pub order : locals ≡ receiver_of m ++ m.params ++ others
   pub storable : All IsStorable locals
-  pub most : length m.params ≤ 8
   pub most_locals : length (m.params ++ others) ≤ 64
 
 -- a body in a frame
@@ -45,12 +48,13 @@ pub record IsBody (program : Program) (m : Method) (body : Stmt) : Type 0 where
   pub locals : List Kind
   pub frame : IsFrame m locals
   pub typed : IsStmt (record { program = program; class = m.class.0; is_static = m.is_static; locals = locals; result = m.result }) (record { breaks = false; continues = false }) body
-  pub depth : stmt_depth body ≤ 64
+  pub depth : body_depth body ≤ 64
 
 -- a method of a class; only an instance method of a class at or below `Virtual` is virtual, and one without a body is
 pub record IsMethod (program : Program) (m : Method) : Type 0 where
   pub class : m.class.0 < length program.schema.classes
   pub params : All IsStorable m.params
+  pub params_most : length m.params ≤ 8
   pub result : IsResult m.result
   pub virtual : m.is_virtual ≡ true → (m.is_static ≡ false) × IsTrue (is_below program.schema.classes virtual_class m.class.0)
   pub no_body : m.body ≡ None → (m.is_virtual ≡ true) × (is_abstract program.schema.classes m.class.0 ≡ true)
@@ -61,6 +65,20 @@ abbrev pub HasBodies : Program → ℕ → Type 0
 HasBodies program class =
     is_abstract program.schema.classes class ≡ false → (m : ℕ) →
     IfSome (find program class (method_name program m)) (λ n. IsSomeAnd (slice_get program.methods n) (λ x. x.body ≡ None → ⊥))
+
+-- a method that a root call runs: each component has `execute`, and a callback only where `Component` has one of its name
+abbrev pub IsRoot : Program → ActionArg → ℕ → Type 0
+IsRoot program argument n = IsSomeAnd (slice_get program.methods n) (IsAction argument)
+
+pub record HasRoots (program : Program) : Type 0 where
+  pub execute : IsSomeAnd (find program component_class (codes "execute")) (IsRoot program argument.Void)
+  pub start : IfSome (find program component_class (codes "start")) (IsRoot program argument.Void)
+  pub stop : IfSome (find program component_class (codes "stop")) (IsRoot program argument.Void)
+  pub changed : IfSome (find program component_class (codes "changed")) (IsRoot program argument.Int)
+
+-- the bytes of a text literal
+abbrev pub IsText : List ℕ → Type 0
+IsText text = IsTrue (list_all (λ b. nat_lt b 256) text) × (length text ≤ 255)
 
 -- the statics together
 abbrev pub statics_size : Program → ℕ
@@ -73,10 +91,15 @@ pub record Typed (program : Program) : Type 0 where
   pub members : (class : ℕ) → class < length program.schema.classes → HasMembers program class
   pub fields : All (IsField program) program.fields
   pub statics : All (IsField program) program.statics
+  pub statics_apart : All (λ f. f.slot ≡ None) program.statics
+  -- texts with the same characters are one
+  pub texts_once : (text : List ℕ) → count_by (λ t. bytes_eq t text) program.texts ≤ 1
   -- objects lie inside one another to a depth, so none holds itself
   pub depth : ℕ → ℕ
   pub deeper : (class : ℕ) → All (λ f. LiesDeeper depth class f.form) (fields_of program class)
   pub methods : All (IsMethod program) program.methods
   pub bodies : (class : ℕ) → class < length program.schema.classes → HasBodies program class
+  pub roots : HasRoots program
   pub statics_most : statics_size program < 65536
+  pub texts : All IsText program.texts
   pub texts_most : length program.texts ≤ 4096

@@ -141,6 +141,10 @@ abbrev pub IsSuperCall : Program → ℕ → ℕ → Kind → List Kind → Type
 IsSuperCall program class m result args =
     IsInvocation program (base_of program.schema.classes class) m result args × IsSomeAnd (slice_get program.methods m) (λ x. x.body ≢ None)
 
+-- a local that may be stored in: the receiver stays
+abbrev pub IsNoReceiver : Context → ℕ → Type 0
+IsNoReceiver c i = c.is_static ≡ false → i ≢ 0
+
 -- ---- trees
 
 abbrev pub kinds_of : {n : _} → Row_of-Expr n → List Kind
@@ -168,7 +172,7 @@ abbrev mutual
   IsExpr c (expr.Chain' p e shape links) = IsExpr c e × AreLinks c (kind_of e) links
 
   pub IsPlace : Context → Place → Type 0
-  IsPlace c (place.Local k i) = slice_get c.locals i ≡ Some k
+  IsPlace c (place.Local k i) = (slice_get c.locals i ≡ Some k) × IsNoReceiver c i
   IsPlace c (place.Static p i) = static_form c.program i ≡ Some (form.Prim p)
   IsPlace c (place.Field' p q e i) = IsExpr c e × (field_form c.program (kind_of e) i ≡ Some (form.Prim p))
   IsPlace c (place.Element' p n q e r i) = IsExpr c e × IsExpr c i × (kind_of e ≡ kind.Array p n) × (kind_of i ≡ kind.Int)

@@ -1,7 +1,7 @@
 -- What a typed program's schema, classes and members keep.
 use Rattle.std.specs.Prelude.{ℕ, ◌≡◌, ◌≢◌, ◌==◌, ◌&&◌, ◌||◌, ◌+◌, ◌<◌, ◌≤◌, nat_lt, nat_le, Bool, true, false, IsTrue, All, IfSome, IsSomeAnd, List, [], ◌∷◌, ◌++◌, length, count_by, filter, slice_get, sum_by, None, codes}
 use Rattle.std.specs.List.{list_all, list_any}
-use Rattle.std.specs.Option.{option_map_or}
+use Rattle.std.specs.Option.{option_and_then, option_map_or}
 use Rattle.std.specs.Str.{bytes_eq}
 use Rattle.sed_value.specs.Names.{is_kit_name}
 use Rattle.sed_value.specs.Value.{is_of_type}
@@ -24,7 +24,7 @@ use Rattle.sed_typed.specs.declared.schema.SlotForm.{SlotForm}
 use Rattle.sed_typed.specs.declared.schema.SlotForm.TheVariants.{Prop, Action}
 use Rattle.sed_typed.specs.declared.schema.SlotInfo.{SlotInfo}
 use Rattle.sed_typed.specs.Classes.{base_of, lineage, slots as slots_of, fields as fields_of, find}
-use Rattle.sed_typed.specs.Sizes.{data_size}
+use Rattle.sed_typed.specs.Sizes.{data_size, config_size, runtime_size}
 use Rattle.sed_typed.specs.SysTypes.{HasSysTypes, component_class, app_class}
 
 -- ---- kits and types
@@ -36,11 +36,12 @@ types_at classes kit number = count_by (λ c. (c.kit == kit) && (c.number == num
 abbrev pub types_of : List ClassInfo → ℕ → ℕ
 types_of classes kit = count_by (λ c. c.kit == kit) classes
 
--- at most 16 kits, `sys` first; the types of each are numbered from 0, each once
+-- at most 16 kits, `sys` first, with names that differ; the types of each are numbered from 0, each once
 pub record HasKits (schema : Schema) : Type 0 where
   pub most : length schema.kits ≤ 16
   pub sys : IsSomeAnd (slice_get schema.kits 0) (λ kit. kit.name ≡ codes "sys")
   pub names : All (λ kit. IsTrue (is_kit_name kit.name)) schema.kits
+  pub names_once : (name : List ℕ) → count_by (λ kit. bytes_eq kit.name name) schema.kits ≤ 1
   pub known : All (λ c. c.kit < length schema.kits) schema.classes
   pub numbered : (kit number : ℕ) → number < types_of schema.classes kit → types_at schema.classes kit number ≡ 1
   pub types : (kit : ℕ) → types_of schema.classes kit ≤ 64
@@ -74,15 +75,18 @@ pub record HasBase (program : Program) (class base : ℕ) : Type 0 where
   pub slots : Begins (slots_of program.schema.classes base) (slots_of program.schema.classes class)
   pub size : data_size program base ≤ data_size program class
 
--- a class as its bases, fields and methods give it
+-- a class as its bases, fields and methods give it; `Obj` alone has no base
 pub record IsClass (program : Program) (class : ℕ) (info : ClassInfo) : Type 0 where
   pub name_free : is_reserved info.name ≡ false
   pub name_once : classes_named program.schema.classes info.kit info.name ≡ 1
+  pub based : info.base ≡ None → class ≡ 0
   pub base : IfSome (base_of program.schema.classes class) (HasBase program class)
   pub component : info.is_component ≡ is_below program.schema.classes component_class class
   pub size : info.size ≡ data_size program class
   pub size_most : info.size < 65536
   pub slots_most : length info.slots ≤ 64
+  pub config_most : config_size info.slots ≤ 400
+  pub runtime_most : runtime_size info.slots ≤ 400
 
 -- ---- slots
 
@@ -105,14 +109,15 @@ argument_kinds argument.Long = kind.Long ∷ []
 abbrev pub IsAction : ActionArg → Method → Type 0
 IsAction a m = (m.is_static ≡ false) × (m.is_virtual ≡ true) × (m.result ≡ kind.Void) × (m.params ≡ argument_kinds a)
 
--- a slot has one field, or a method
+-- a slot has one field, or a method; the application file keeps no action
 abbrev pub HasSlot : Program → ℕ → ℕ → SlotInfo → SlotForm → Type 0
 HasSlot program class n s (Prop t) = (f : Field) × (filter (in_slot n) (fields_of program class) ≡ f ∷ []) × IsProperty s t f
 HasSlot program class n s (Action a) =
-    (filter (in_slot n) (fields_of program class) ≡ []) × IsSomeAnd (find program class s.name) (λ m. IsSomeAnd (slice_get program.methods m) (IsAction a))
+    (filter (in_slot n) (fields_of program class) ≡ []) × IsSomeAnd (find program class s.name) (λ m. IsSomeAnd (slice_get program.methods m) (IsAction a)) × (s.config ≡ false)
 
 pub record HasSlots (program : Program) (class : ℕ) (info : ClassInfo) : Type 0 where
   pub each : (n : ℕ) → IfSome (slice_get info.slots n) (λ s. HasSlot program class n s s.form)
+  pub names : (name : List ℕ) → count_by (λ s. bytes_eq s.name name) info.slots ≤ 1
   pub components : 0 < length info.slots → info.is_component ≡ true
   pub within : All (λ f. IfSome f.slot (λ s. s.0 < length info.slots)) (fields_of program class)
 
@@ -133,7 +138,7 @@ is_initial (Object t) v = false
 -- what a field may be: a Buf is a property, and an inline object is of a class with fields, neither abstract nor a component
 abbrev pub IsForm : Program → Field → FieldForm → Type 0
 IsForm program f (Prim p) = Unit {0}
-IsForm program f (Str n) = (1 ≤ n) × (f.slot ≡ None)
+IsForm program f (Str n) = (1 ≤ n) × (n ≤ 255) × (f.slot ≡ None)
 IsForm program f (Buf n) = (1 ≤ n) × (n ≤ 128) × (f.slot ≢ None)
 IsForm program f (Array p n) = (1 ≤ n) × (f.slot ≡ None)
 IsForm program f (Object t) =
@@ -158,16 +163,32 @@ pub record IsField (program : Program) (f : Field) : Type 0 where
 
 -- ---- members
 
+-- how many fields and statics of a class have a name
+abbrev pub fields_named : Program → ℕ → List ℕ → ℕ
+fields_named program class name =
+    count_by (λ f. (f.class.0 == class) && bytes_eq f.name name) program.fields
+    + count_by (λ f. (f.class.0 == class) && bytes_eq f.name name) program.statics
+
 -- how many members of a class have a name
 abbrev pub members_named : Program → ℕ → List ℕ → ℕ
 members_named program class name =
-    count_by (λ f. (f.class.0 == class) && bytes_eq f.name name) program.fields
-    + count_by (λ f. (f.class.0 == class) && bytes_eq f.name name) program.statics
-    + count_by (λ m. (m.class.0 == class) && bytes_eq m.name name) program.methods
+    fields_named program class name + count_by (λ m. (m.class.0 == class) && bytes_eq m.name name) program.methods
 
 -- at and above a class
 abbrev pub members_above : Program → ℕ → List ℕ → ℕ
 members_above program class name = sum_by (λ c. members_named program c name) (lineage program.schema.classes class)
+
+abbrev pub fields_above : Program → ℕ → List ℕ → ℕ
+fields_above program class name = sum_by (λ c. fields_named program c name) (lineage program.schema.classes class)
+
+-- a method of a class that is virtual and overrides none above
+abbrev pub begins_virtual : Program → ℕ → Method → Bool
+begins_virtual program class m =
+    (m.class.0 == class) && m.is_virtual && option_map_or (λ _. false) (option_and_then (λ base. find program base m.name) (base_of program.schema.classes class)) true
+
+-- how many virtual methods a class has, inherited ones among them
+abbrev pub virtual_methods : Program → ℕ → ℕ
+virtual_methods program class = sum_by (λ c. count_by (begins_virtual program c) program.methods) (lineage program.schema.classes class)
 
 -- a method overrides one above that is virtual and has its signature
 pub record Overrides (m above : Method) : Type 0 where
@@ -185,4 +206,6 @@ pub record HasMembers (program : Program) (class : ℕ) : Type 0 where
   pub statics : All (λ f. f.class.0 ≡ class → members_above program class f.name ≡ 1) program.statics
   pub methods : All (λ m. m.class.0 ≡ class → IfSome (base_of program.schema.classes class) (λ base.
       IfSome (find program base m.name) (λ n. IfSome (slice_get program.methods n) (Overrides m)))) program.methods
+  pub methods_apart : All (λ m. m.class.0 ≡ class → fields_above program class m.name ≡ 0) program.methods
   pub methods_most : count_by (λ m. m.class.0 == class) program.methods ≤ 60
+  pub virtual_most : virtual_methods program class ≤ 255

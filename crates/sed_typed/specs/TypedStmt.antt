@@ -9,7 +9,7 @@ use Rattle.sed_typed.specs.declared.statement.Stmt.{Stmt, Row_of-Stmt, end_of-St
 use Rattle.sed_typed.specs.declared.statement.Stmt.TheVariants as stmt
 use Rattle.sed_typed.specs.declared.tree.Expr.{Expr}
 use Rattle.sed_typed.specs.Kinds.{kind_of}
-use Rattle.sed_typed.specs.TypedExpr.{Context, IsExpr, GoesTo}
+use Rattle.sed_typed.specs.TypedExpr.{Context, IsExpr, IsNoReceiver, GoesTo}
 
 -- what a statement stands in: `break` needs a loop or a switch, `continue` a loop
 pub record Around : Type 0 where
@@ -72,7 +72,7 @@ abbrev mutual
   pub IsStmt : Context → Around → Stmt → Type 0
   IsStmt c around stmt.Empty = Unit {0}
   IsStmt c around (stmt.Do e) = IsExpr c e
-  IsStmt c around (stmt.Local k i e) = (slice_get c.locals i ≡ Some k) × IsBegun c k e
+  IsStmt c around (stmt.Local k i e) = (slice_get c.locals i ≡ Some k) × IsBegun c k e × IsNoReceiver c i
   IsStmt c around (stmt.Block' shape all) = AreStmts c around all
   IsStmt c around (stmt.If' t p a q b) = IsCondition c t × IsStmt c around a × IsStmt c around b
   IsStmt c around (stmt.While' t p body) = IsCondition c t × IsStmt c in_loop body

@@ -1,5 +1,5 @@
 -- What an `add` and then a `set` leave, over plain maps.
-use Rattle.std.proofs.Common.{◌≡◌, ◌≢◌, ◌<◌, ℕ, Bool, true, false, cond, Option, Some, None, refl, sym, ap, subst, ◌∙◌, arith}
+use Rattle.std.proofs.Common.{◌≡◌, ◌≢◌, ◌+◌, ◌<◌, ℕ, Bool, true, false, cond, Option, Some, None, refl, sym, ap, subst, ◌∙◌, arith}
 use Rattle.std.specs.Prelude.{IsTrue, IfSome, IsSomeAnd}
 use Rattle.std.specs.FinMap as finite
 use Rattle.std.specs.Option.{option_map_or}
@@ -9,8 +9,9 @@ use Rattle.std.proofs.lemmas.Bool.Decides.{nat_tests}
 use Rattle.sed_value.specs.Value.{goes_to}
 use Rattle.sed_value.specs.declared.value.Value.{Value}
 use Rattle.sed_value.specs.declared.slot_type.SlotType.{SlotType}
-use Rattle.tiny_engine.specs.Tiny.{One, live_of}
-use Rattle.sed_engine.specs.Code.{Meaning, Object, Places, is_property, may_store, new_object, slot_type, slot_value, with_slot}
+use Rattle.tiny_engine.specs.Tiny.{One, Held, live_of, meaning_of}
+use Rattle.tiny_engine.proofs.TinyLemmas.{data_none}
+use Rattle.sed_engine.specs.Code.{Meaning, Object, Places, data_of, is_property, may_store, new_object, slot_type, slot_value, with_slot}
 
 tied_same : (p : ℕ) → eq_by_cmp nat_cmp p p ≡ true
 tied_same p = grind (arith, nat_tests)
@@ -82,3 +83,9 @@ module _ {m0 m1 m2 : Meaning} {before mid after : Places} {p class slot : ℕ} {
 -- an engine without a component is not full
 pub few_live : (one : Option One) → one ≡ None → finite.len (live_of one) < 4096
 few_live one e = subst (λ (o : Option One). finite.len (live_of o) < 4096) (sym e) (let h : finite.len (live_of None) ≡ 0 = finite.len-empty nat_cmp Object in omega (arith, h))
+
+-- an engine without a component is full for a folder only where its limit is below the folder's 4 bytes
+pub below_folder : (h : Held) (limit : ℕ) → h.one ≡ None → h.limit ≡ limit → h.limit < data_of (meaning_of h.schema) (live_of h.one) + (meaning_of h.schema).data_size 4 → limit < 4
+below_folder h limit empty is full =
+    let none : data_of (meaning_of h.schema) (live_of h.one) ≡ 0 = ap (λ (o : Option One). data_of (meaning_of h.schema) (live_of o)) empty ∙ data_none h.schema in
+    omega (arith, none, is, full)

@@ -1,11 +1,14 @@
 -- The code of `sys` alone is whole.
-use Rattle.std.proofs.Common.{◌≡◌, ℕ, zero, suc, ◌<◌, ◌≤◌, ◌==◌, [], ◌∷◌, length, Some, None, refl, sym, subst, lit≤, lit<, arith}
-use Rattle.std.specs.Prelude.{IfSome, All, slice_get, count_by}
+use Rattle.std.proofs.Common.{◌≡◌, ◌≢◌, ℕ, zero, suc, ◌<◌, ◌≤◌, ◌==◌, [], ◌∷◌, length, Some, None, refl, sym, subst, lit≤, lit<, arith}
+use Rattle.std.specs.Prelude.{IfSome, IsSome, All, slice_get, count_by}
 use Rattle.std.proofs.lemmas.List.Sums.{count_by-le-length}
 use Rattle.sed_typed.specs.declared.schema.ClassInfo.{ClassInfo}
 use Rattle.sed_typed.specs.declared.schema.Schema.{Schema}
 use Rattle.sed_typed.specs.Classes.{base_of}
-use Rattle.sed_engine.specs.Code.{Meaning, slot_type}
+use Rattle.sed_typed.specs.Sizes.{config_size, runtime_size}
+use Rattle.sed_typed.specs.Contents.{value_at}
+use Rattle.sed_engine.specs.declared.call.CallEnd.TheVariants.{Done, Trap}
+use Rattle.sed_engine.specs.Code.{Meaning, slot_type, slot_path}
 use Rattle.sed_engine.specs.Whole.{IsWhole, KeepsLimits, HasSysTypes, FollowsBase, slot_field, fields_of_slot}
 use Rattle.sed_engine.specs.Fits.{Fits}
 use Rattle.tiny_engine.specs.Sys.{sys_classes}
@@ -32,6 +35,8 @@ limits = record {
   types = λ kit. let h : count_by (λ c. c.kit == kit) sys_classes ≤ 5 = count_by-le-length (λ c. c.kit == kit) sys_classes in omega (arith, h);
   slots = slots_few;
   sizes = sizes_few;
+  config = config_few;
+  runtime = runtime_few;
 }
   where
     slots_few : All (λ (c : ClassInfo). length c.slots ≤ 64) sys_classes
@@ -49,6 +54,22 @@ limits = record {
     sizes_few (suc (suc (suc zero))) d h = lit< tt
     sizes_few (suc (suc (suc (suc zero)))) d h = lit< tt
     sizes_few (suc (suc (suc (suc (suc n))))) d h = absurd (omega arith)
+
+    config_few : All (λ (c : ClassInfo). config_size c.slots ≤ 400) sys_classes
+    config_few zero d h = lit≤ tt
+    config_few (suc zero) d h = lit≤ tt
+    config_few (suc (suc zero)) d h = lit≤ tt
+    config_few (suc (suc (suc zero))) d h = lit≤ tt
+    config_few (suc (suc (suc (suc zero)))) d h = lit≤ tt
+    config_few (suc (suc (suc (suc (suc n))))) d h = absurd (omega arith)
+
+    runtime_few : All (λ (c : ClassInfo). runtime_size c.slots ≤ 400) sys_classes
+    runtime_few zero d h = lit≤ tt
+    runtime_few (suc zero) d h = lit≤ tt
+    runtime_few (suc (suc zero)) d h = lit≤ tt
+    runtime_few (suc (suc (suc zero))) d h = lit≤ tt
+    runtime_few (suc (suc (suc (suc zero)))) d h = lit≤ tt
+    runtime_few (suc (suc (suc (suc (suc n))))) d h = absurd (omega arith)
 
 sys_types : HasSysTypes sys_classes
 sys_types = record {
@@ -88,6 +109,18 @@ slot_fields (suc (suc (suc (suc zero)))) zero = refl
 slot_fields (suc (suc (suc (suc zero)))) (suc n) = tt
 slot_fields (suc (suc (suc (suc (suc m))))) n = tt
 
+values : (class n : ℕ) → IfSome (slot_type code class n) (λ t. IsSome (value_at (code.initial class) (slot_path code class n)))
+values zero n = tt
+values (suc zero) n = tt
+values (suc (suc zero)) zero = refl
+values (suc (suc zero)) (suc n) = tt
+values (suc (suc (suc zero))) zero = refl
+values (suc (suc (suc zero))) (suc zero) = tt
+values (suc (suc (suc zero))) (suc (suc n)) = tt
+values (suc (suc (suc (suc zero)))) zero = refl
+values (suc (suc (suc (suc zero)))) (suc n) = tt
+values (suc (suc (suc (suc (suc m))))) n = tt
+
 first : (class : ℕ) → class < 5 → Fits code.fields (code.fields class) (code.initial class) (code.initial class)
 first zero h = record { paths = refl; values = refl }
 first (suc zero) h = record { paths = refl; values = refl }
@@ -96,6 +129,9 @@ first (suc (suc (suc zero))) h = record { paths = refl; values = refl }
 first (suc (suc (suc (suc zero)))) h = record { paths = refl; values = refl }
 first (suc (suc (suc (suc (suc n))))) h = absurd (omega arith)
 
+ends_well : (left : ℕ) → Done left ≢ Trap 0
+ends_well left e = let never : ⊥ = cc in never
+
 whole : IsWhole code
 whole = record {
   limits = limits;
@@ -103,9 +139,11 @@ whole = record {
   bases = bases;
   sizes = sizes;
   slot_fields = slot_fields;
+  values = values;
   first = first;
   first_statics = record { paths = refl; values = refl };
   roots = λ class contents statics which argument turns moment known fits statics_fit may. (fits, statics_fit);
+  ends = λ class contents statics which argument turns moment creatable fits statics_fit may long. ends_well turns;
 }
 
 pub sys_whole : (schema : Schema) → IsSys schema → IsWhole (meaning_of schema)

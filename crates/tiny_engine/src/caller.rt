@@ -1,5 +1,5 @@
 //! A caller that knows an engine by its trait alone, and its use at the tiny engine.
-ghost use Rattle.std.specs.Prelude.{◌≡◌, ◌≢◌, ◌↔◌, ℕ, ◌+◌, ◌<◌, false, IsTrue, IfOk, OnErr};
+ghost use Rattle.std.specs.Prelude.{◌≡◌, ◌≢◌, ◌↔◌, ℕ, ◌+◌, ◌<◌, ◌≤◌, false, IsTrue, IfOk, OnErr};
 ghost use Rattle.std.specs.FinMap as map;
 ghost use Rattle.sed_engine.specs.Code.{data_of, is_creatable, may_store, new_object, slot_value, with_slot};
 
@@ -39,8 +39,12 @@ pub fn make_with<E: Engine>(
 }
 
 /// Makes a folder with this `meta` in a new tiny engine, and gives what its `meta` then is.
+///
+/// `DataFull` comes only where the folder's 4 bytes pass the limit, and then no folder is made.
 pub fn meta_of_folder(alloc: Global, limit: u32, meta: i32) -> Result<i32, AddRefusal>
-    ensures { IfOk result (λ m. m ≡ meta) }
+    ensures value { IfOk result (λ m. m ≡ meta) }
+    ensures fits { IfOk result (λ m. 4 ≤ limit) }
+    ensures full { result ≡ Err AddRefusal.DataFull → limit < 4 }
 {
     let mut engine = match Tiny::new(alloc, limit) {
         Ok(engine) => engine,

@@ -1,24 +1,5 @@
-use Rattle.std.proofs.Common.{◌∙◌}
-use Rattle.sed_typed.specs.declared.program.Program.{Program}
-use Rattle.sed_engine.specs.Fits.{form_of}
-use Rattle.sed_engine.specs.Program.{meaning_of}
-use Rattle.sed_engine.specs.Code.{Meaning}
-use Rattle.sed_engine.specs.Root.{root_method}
-use Rattle.sed_engine.specs.State.{Shared}
-use Rattle.sed_engine.specs.Whole.{RootFits}
-use Rattle.sed_engine.proofs.KeepsFit.{Forms, FitsNow}
-use Rattle.sed_engine.proofs.RootLaws.{run_keeps, run_fits}
+use Rattle.sed_engine.proofs.RootsFit.{roots_fit}
 use Rattle.sed_engine.proofs.laws.what_is_left_fits.Goals as goal
 
-fits : (program : Program) → RootFits (meaning_of program)
-fits program class contents statics which argument turns moment known given given_statics may =
-    let m : Meaning = meaning_of program in
-    let s : Shared = record { contents = contents; statics = statics; turns = turns; moment = moment } in
-    let forms : Forms = record { contents = form_of m.fields (m.fields class); statics = form_of m.fields m.static_fields } in
-    let now : FitsNow forms s = record { contents = given.values; statics = given_statics.values } in
-    let left = run_fits forms program class (root_method program class which) argument s now in
-    let stay = run_keeps program class (root_method program class which) argument s in
-    (record { paths = stay.0 ∙ given.paths; values = left.contents }, record { paths = stay.1 ∙ given_statics.paths; values = left.statics })
-
 pub returns : goal.returns
-returns c program = fits program
+returns c program = roots_fit program

@@ -1,0 +1,180 @@
+-- Fields, statics and elements as expressions and places name them.
+use Rattle.std.proofs.Common.{◌≡◌, ℕ, Bool, true, if◌then◌else◌, List, [], ◌∷◌, ◌++◌, map, Option, Some, None, Ok, refl, sym, ap, subst, ◌∙◌}
+use Rattle.std.specs.Prelude.{nat_lt, slice_get}
+use Rattle.std.specs.Option.{option_and_then, option_map}
+use Rattle.std.proofs.lemmas.Option.{same_Some}
+use Rattle.sed_value.specs.declared.slot_type.Primitive.{Primitive}
+use Rattle.sed_typed.specs.declared.kind.Kind.{Kind}
+use Rattle.sed_typed.specs.declared.kind.Kind.TheVariants as kind
+use Rattle.sed_typed.specs.declared.number.TypeNo.{TypeNo}
+use Rattle.sed_typed.specs.declared.program.Field.{Field}
+use Rattle.sed_typed.specs.declared.program.FieldForm.{FieldForm}
+use Rattle.sed_typed.specs.declared.program.FieldForm.TheVariants as form
+use Rattle.sed_typed.specs.declared.program.Program.{Program}
+use Rattle.sed_typed.specs.Classes.{fields}
+use Rattle.sed_typed.specs.Kinds.{read_kind}
+use Rattle.sed_typed.specs.Objects.{form_class, field_class, object_class}
+use Rattle.sed_typed.specs.Typed.{Typed}
+use Rattle.sed_typed.specs.TypedExpr.{part_kind, elements_kind, first_kind, field_form, static_form}
+use Rattle.sed_engine.specs.Values.{Val, Null, At, Statics, Spot}
+use Rattle.sed_engine.specs.State.{State, gives, answers, then_do}
+use Rattle.sed_engine.specs.Steps.{inside}
+use Rattle.sed_engine.specs.Places.{Target, OfLocal, OfStatic, OfField, OfElement, static_spot, elements_of, element_spot, field_spot, fetch, put}
+use Rattle.sed_engine.specs.Texts.{index_of}
+use Rattle.sed_engine.specs.Fits.{form_at, form_below}
+use Rattle.sed_engine.specs.Program.{shape_of}
+use Rattle.sed_engine.specs.Expressions.{class_from}
+use Rattle.sed_engine.proofs.Below.{Itself, absent, field_below}
+use Rattle.sed_engine.proofs.FirstPaths.{shapes_of}
+use Rattle.sed_engine.proofs.Kinded.{form_from, HasKind, IsObject, index_is}
+use Rattle.sed_engine.proofs.Ready.{Ready, Frame, Holds, then_holds, gives_it, answers_it, read_holds, write_holds, read_local_holds, write_local_holds}
+use Rattle.sed_engine.proofs.Spots.{Concrete, form_at_is, form_further, class_further, form_in_object}
+
+-- what stands at a place: a form, and an object's class
+pub record StandsAt (program : Program) (class : ℕ) (spot : Spot) (f : FieldForm) : Type 0 where
+  pub form : form_from program class spot.base spot.path ≡ Some f
+  pub class_is : class_from program class spot.base spot.path ≡ form_class f
+
+-- a field by its form
+field_of : (all : List Field) (i : ℕ) (f : FieldForm) → option_map (λ x. x.form) (slice_get all i) ≡ Some f → (x : Field) × (slice_get all i ≡ Some x) × (x.form ≡ f)
+field_of all i f e = go (slice_get all i) refl e
+  where
+    go : (o : Option Field) → slice_get all i ≡ o → option_map (λ x. x.form) o ≡ Some f → (x : Field) × (slice_get all i ≡ Some x) × (x.form ≡ f)
+    go None is e = absent f e
+    go (Some x) is e = (x, is, same_Some x.form f e)
+
+pub field_there : (program : Program) → Typed program → (class : ℕ) (d : ℕ) (spot : Spot) (i : ℕ) (f : FieldForm) → IsObject program class d spot →
+    option_map (λ x. x.form) (slice_get (fields program d) i) ≡ Some f → StandsAt program class (inside spot i) f
+field_there program typed class d spot i f o e =
+    let x : (x : Field) × (slice_get (fields program d) i ≡ Some x) × (x.form ≡ f) = field_of (fields program d) i f e in
+    let here : slice_get (fields program o.at) i ≡ Some x.0 = field_below program typed d o.at i x.0 o.below x.1 in
+    record {
+      form = form_in_object program class spot.base spot.path i o.at o.is ∙ form_at_is (fields program o.at) i ∙ ap (option_map (λ (y : Field). y.form)) here ∙ ap (λ (g : FieldForm). Some g) x.2;
+      class_is = class_further program class spot.base spot.path i o.at o.is ∙ ap field_class here ∙ ap form_class x.2;
+    }
+
+form_nothing : (program : Program) (class i : ℕ) → form_from program class Statics (i ∷ []) ≡ form_at (map shape_of program.statics) i
+form_nothing program class i = go (form_at (map shape_of program.statics) i)
+  where
+    go : (o : Option FieldForm) → form_below (shapes_of program) [] o ≡ o
+    go None = refl
+    go (Some f) = refl
+
+class_there : (program : Program) (o : Option ℕ) → object_class program [] o ≡ o
+class_there program None = refl
+class_there program (Some c) = refl
+
+pub static_there : (program : Program) (class i : ℕ) (f : FieldForm) → static_form program i ≡ Some f → StandsAt program class (static_spot i) f
+static_there program class i f e =
+    let x : (x : Field) × (slice_get program.statics i ≡ Some x) × (x.form ≡ f) = field_of program.statics i f e in
+    record {
+      form = form_nothing program class i ∙ form_at_is program.statics i ∙ e;
+      class_is = class_there program (field_class (slice_get program.statics i)) ∙ ap field_class x.1 ∙ ap form_class x.2;
+    }
+
+-- a part, and an array or a Buf, is a value of its kind
+pub part_is : (program : Program) (class : ℕ) (spot : Spot) (f : FieldForm) (k : Kind) → StandsAt program class spot f → part_kind f ≡ Some k → HasKind program class k (At spot)
+part_is program class spot (form.Object t) k s e = subst (λ (x : Kind). HasKind program class x (At spot)) (same_Some (kind.Object t) k e) (record { at = t.0; is = s.class_is; below = Itself })
+part_is program class spot (form.Str n) k s e = subst (λ (x : Kind). HasKind program class x (At spot)) (same_Some kind.Text k e) (n, s.form)
+part_is program class spot (form.Prim p) k s e = absent k e
+part_is program class spot (form.Buf n) k s e = absent k e
+part_is program class spot (form.Array p n) k s e = absent k e
+
+pub elements_are : (program : Program) (class : ℕ) (spot : Spot) (f : FieldForm) (k : Kind) → StandsAt program class spot f → elements_kind f ≡ Some k → HasKind program class k (At spot)
+elements_are program class spot (form.Array p n) k s e = subst (λ (x : Kind). HasKind program class x (At spot)) (same_Some (kind.Array p n) k e) s.form
+elements_are program class spot (form.Buf n) k s e = subst (λ (x : Kind). HasKind program class x (At spot)) (same_Some (kind.Buf n) k e) s.form
+elements_are program class spot (form.Prim p) k s e = absent k e
+elements_are program class spot (form.Str n) k s e = absent k e
+elements_are program class spot (form.Object t) k s e = absent k e
+
+pub static_part_is : (program : Program) (class i : ℕ) (k : Kind) → option_and_then (λ f. first_kind (part_kind f) (elements_kind f)) (static_form program i) ≡ Some k → HasKind program class k (At (static_spot i))
+static_part_is program class i k e = go (static_form program i) refl e
+  where
+    of_form : (f : FieldForm) → StandsAt program class (static_spot i) f → (p q : Option Kind) → part_kind f ≡ p → elements_kind f ≡ q → first_kind p q ≡ Some k → HasKind program class k (At (static_spot i))
+    of_form f s (Some j) q a b e = part_is program class (static_spot i) f k s (a ∙ e)
+    of_form f s None q a b e = elements_are program class (static_spot i) f k s (b ∙ e)
+
+    go : (o : Option FieldForm) → static_form program i ≡ o → option_and_then (λ f. first_kind (part_kind f) (elements_kind f)) o ≡ Some k → HasKind program class k (At (static_spot i))
+    go None is e = absent k e
+    go (Some f) is e = of_form f (static_there program class i f is) (part_kind f) (elements_kind f) refl refl e
+
+-- of an array or a Buf only the kind is null's
+pub null_elements : (program : Program) (class : ℕ) (f : FieldForm) (k : Kind) → elements_kind f ≡ Some k → HasKind program class k Null
+null_elements program class (form.Array p n) k e = subst (λ (x : Kind). HasKind program class x Null) (same_Some (kind.Array p n) k e) tt
+null_elements program class (form.Buf n) k e = subst (λ (x : Kind). HasKind program class x Null) (same_Some (kind.Buf n) k e) tt
+null_elements program class (form.Prim p) k e = absent k e
+null_elements program class (form.Str n) k e = absent k e
+null_elements program class (form.Object t) k e = absent k e
+
+-- a form that stands inside what a kind is
+some_form : (o : Option FieldForm) (g : FieldForm → Option Kind) (k : Kind) → option_and_then g o ≡ Some k → (f : FieldForm) × (o ≡ Some f) × (g f ≡ Some k)
+some_form None g k e = absent k e
+some_form (Some f) g k e = (f, refl, e)
+
+module _ (program : Program) (typed : Typed program) (class : ℕ) (component : Concrete program class) (m : Frame) where
+  abbrev pub G : State → Type 0
+  G s = Ready program class m.own m.static m.locals s
+
+  abbrev Has : Kind → Val → Type 0
+  Has k v = HasKind program class k v
+
+  -- a field of an object
+  pub field_holds : (d : TypeNo) (v : Val) (i : ℕ) (f : FieldForm) → Has (kind.Object d) v → field_form program (kind.Object d) i ≡ Some f → Holds G Spot (λ spot. StandsAt program class spot f) (field_spot v i)
+  field_holds d Null i f h e = record { holds = λ s g. (g, tt) }
+  field_holds d (At spot) i f h e = record { holds = λ s g. (g, field_there program typed class d.0 spot i f h e) }
+  field_holds d v i f h e = absurd h
+
+  pub part_holds : (k : Kind) (v : Val) (i : ℕ) (part : Kind) → Has k v → option_and_then part_kind (field_form program k i) ≡ Some part → Holds G Val (Has part) (λ s. then_do (field_spot v i s) (λ spot s1. gives (At spot) s1))
+  part_holds (kind.Object d) v i part h e =
+      let f : (f : FieldForm) × (field_form program (kind.Object d) i ≡ Some f) × (part_kind f ≡ Some part) = some_form (field_form program (kind.Object d) i) part_kind part e in
+      then_holds (field_holds d v i f.0 h f.1) (λ spot s. gives_it (At spot) (part_is program class spot f.0 part s f.2))
+  part_holds k v i part h e = absent part e
+
+  pub elements_hold : (k : Kind) (v : Val) (i : ℕ) (part : Kind) → Has k v → option_and_then elements_kind (field_form program k i) ≡ Some part → Holds G Val (Has part) (answers (elements_of v i))
+  elements_hold (kind.Object d) v i part h e = go v h (some_form (field_form program (kind.Object d) i) elements_kind part e)
+    where
+      go : (v : Val) → Has (kind.Object d) v → (f : FieldForm) × (field_form program (kind.Object d) i ≡ Some f) × (elements_kind f ≡ Some part) → Holds G Val (Has part) (answers (elements_of v i))
+      go Null h f = answers_it (Ok Null) (null_elements program class f.0 part f.2)
+      go (At spot) h f = answers_it (Ok (At (inside spot i))) (elements_are program class (inside spot i) f.0 part (field_there program typed class d.0 spot i f.0 h f.1) f.2)
+      go v h f = absurd h
+  elements_hold k v i part h e = absent part e
+
+  -- an element of an array
+  element_at : (spot : Spot) (p : Primitive) (n i : ℕ) → form_from program class spot.base spot.path ≡ Some (form.Array p n) → nat_lt i n ≡ true → form_from program class spot.base (spot.path ++ i ∷ []) ≡ Some (form.Prim p)
+  element_at spot p n i e less = form_further program class spot.base spot.path i (form.Array p n) e ∙ ap (λ (b : Bool). if b then Some (form.Prim p) else None) less
+
+  pub element_holds : (p : Primitive) (n : ℕ) (v index : Val) → Has (kind.Array p n) v → Has kind.Int index → Holds G Spot (λ spot. form_from program class spot.base spot.path ≡ Some (form.Prim p)) (element_spot n v index)
+  element_holds p n Null index h k = record { holds = λ s g. (g, tt) }
+  element_holds p n (At spot) index h k = then_holds (answers_it (index_of n index) (index_is program class n index k)) (λ i less. gives_it (inside spot i) (element_at spot p n i h less))
+  element_holds p n v index h k = absurd h
+
+  -- ---- targets
+
+  -- a target of a kind
+  abbrev pub TargetHas : Kind → Target → Type 0
+  TargetHas k (OfLocal j i) = (j ≡ k) × (slice_get m.locals i ≡ Some j)
+  TargetHas k (OfStatic p i) = (read_kind p ≡ k) × (form_from program class Statics (i ∷ []) ≡ Some (form.Prim p))
+  TargetHas k (OfField p v i) = (read_kind p ≡ k) × ((d : TypeNo) × Has (kind.Object d) v × (field_form program (kind.Object d) i ≡ Some (form.Prim p)))
+  TargetHas k (OfElement p n v index) = (read_kind p ≡ k) × Has (kind.Array p n) v × Has kind.Int index
+
+  pub fetch_holds : (k : Kind) (t : Target) → TargetHas k t → Holds G Val (Has k) (fetch t)
+  fetch_holds k (OfLocal j i) h = subst (λ (x : Kind). Holds G Val (Has x) (fetch (OfLocal j i))) h.0 (read_local_holds program typed class component m i j h.1)
+  fetch_holds k (OfStatic p i) h = subst (λ (x : Kind). Holds G Val (Has x) (fetch (OfStatic p i))) h.0 (read_holds program typed class component m (static_spot i) p h.1)
+  fetch_holds k (OfField p v i) h =
+      subst (λ (x : Kind). Holds G Val (Has x) (fetch (OfField p v i))) h.0
+      (then_holds (field_holds h.1.0 v i (form.Prim p) h.1.1 h.1.2) (λ spot s. read_holds program typed class component m spot p s.form))
+  fetch_holds k (OfElement p n v index) h =
+      subst (λ (x : Kind). Holds G Val (Has x) (fetch (OfElement p n v index))) h.0
+      (then_holds (element_holds p n v index h.1 h.2) (λ spot s. read_holds program typed class component m spot p s))
+
+  pub put_holds : (k : Kind) (t : Target) (v : Val) → TargetHas k t → Has k v → Holds G Val (Has k) (put t v)
+  put_holds k (OfLocal j i) v h g =
+      subst (λ (x : Kind). Holds G Val (Has x) (put (OfLocal j i) v)) h.0 (write_local_holds program typed class component m i j v h.1 (subst (λ (x : Kind). Has x v) (sym h.0) g))
+  put_holds k (OfStatic p i) v h g =
+      subst (λ (x : Kind). Holds G Val (Has x) (put (OfStatic p i) v)) h.0 (write_holds program typed class component m (static_spot i) p v h.1 (subst (λ (x : Kind). Has x v) (sym h.0) g))
+  put_holds k (OfField p o i) v h g =
+      subst (λ (x : Kind). Holds G Val (Has x) (put (OfField p o i) v)) h.0
+      (then_holds (field_holds h.1.0 o i (form.Prim p) h.1.1 h.1.2) (λ spot s. write_holds program typed class component m spot p v s.form (subst (λ (x : Kind). Has x v) (sym h.0) g)))
+  put_holds k (OfElement p n o index) v h g =
+      subst (λ (x : Kind). Holds G Val (Has x) (put (OfElement p n o index) v)) h.0
+      (then_holds (element_holds p n o index h.1 h.2) (λ spot s. write_holds program typed class component m spot p v s (subst (λ (x : Kind). Has x v) (sym h.0) g)))

@@ -1,0 +1,232 @@
+-- Root calls of typed programs end normally or by a trap.
+use Rattle.std.proofs.Common.{◌≡◌, ◌≢◌, ◌<◌, ◌&&◌, not, ℕ, zero, suc, Bool, true, false, if◌then◌else◌, cond, List, [], ◌∷◌, ◌++◌, get_or, length, replicate, codes, Option, Some, None, Result, Ok, Err, refl, sym, ap, subst, ◌∙◌, arith}
+use Rattle.std.specs.Prelude.{IfSome, IsSomeAnd, is_some, ◌==◌, nat_lt, slice_get}
+use Rattle.std.specs.List.{position_or_len}
+use Rattle.std.specs.Option.{option_and_then, option_map, option_map_or}
+use Rattle.std.proofs.lemmas.Bool.{and_parts, and_from, lt-ltb}
+use Rattle.std.proofs.lemmas.List.Sums.{position_or_len_is}
+use Rattle.std.proofs.lemmas.Option.{slice_get_within}
+use Rattle.sed_value.specs.declared.value.Value.{Value}
+use Rattle.sed_value.specs.declared.value.Value.TheVariants as kept
+use Rattle.sed_typed.specs.declared.kind.Kind.{Kind}
+use Rattle.sed_typed.specs.declared.kind.Kind.TheVariants as kind
+use Rattle.sed_typed.specs.declared.program.Method.{Method}
+use Rattle.sed_typed.specs.declared.program.Program.{Program}
+use Rattle.sed_typed.specs.declared.schema.ActionArg.{ActionArg}
+use Rattle.sed_typed.specs.declared.schema.ActionArg.TheVariants as argument
+use Rattle.sed_typed.specs.declared.schema.ClassInfo.{ClassInfo}
+use Rattle.sed_typed.specs.declared.schema.SlotForm.{SlotForm}
+use Rattle.sed_typed.specs.declared.schema.SlotForm.TheVariants.{Prop, Action as OfAction}
+use Rattle.sed_typed.specs.declared.schema.SlotInfo.{SlotInfo}
+use Rattle.sed_typed.specs.Classes.{find, method_name, slot_name}
+use Rattle.sed_typed.specs.Schemas.{numbered, type_at}
+use Rattle.sed_typed.specs.SysTypes.{HasSysTypes, component_class}
+use Rattle.sed_typed.specs.Typed.{Typed, IsRoot, receiver_of}
+use Rattle.sed_typed.specs.TypedSchema.{IsClass, HasSlots, HasSlot, IsAction, argument_kinds}
+use Rattle.sed_engine.specs.declared.call.CallEnd.TheVariants as end
+use Rattle.sed_engine.specs.declared.call.Callback.TheVariants as callback
+use Rattle.sed_engine.specs.declared.call.Root.{Root}
+use Rattle.sed_engine.specs.declared.call.Root.TheVariants.{Execute, Action, Callback}
+use Rattle.sed_engine.specs.declared.trap.Trap.{Trap}
+use Rattle.sed_engine.specs.declared.trap.Trap.TheVariants.{ZeroDivisor, NullReference, OutOfRange, TurnsSpent, TooDeep}
+use Rattle.sed_engine.specs.Traps.{number_of}
+use Rattle.sed_engine.specs.Stops.{Stop, Traps, Untyped, there, map_ok, and_then}
+use Rattle.sed_engine.specs.Values.{Val, Nothing}
+use Rattle.sed_engine.specs.Code.{is_argument, action_takes, slot_form, may_call, is_creatable}
+use Rattle.sed_engine.specs.Program.{meaning_of}
+use Rattle.sed_engine.specs.State.{Shared}
+use Rattle.sed_engine.specs.Expressions.{Called, Calls}
+use Rattle.sed_engine.specs.Root.{method_at, callback_method, root_method, argument_of, root_frame, start_root, end_of, most_frames, calls_with}
+use Rattle.sed_engine.specs.Whole.{RootEnds}
+use Rattle.sed_engine.proofs.Below.{Below, Itself, below_of, no, of_some, FoundFor, found_below, found_above}
+use Rattle.sed_engine.proofs.CallSteps.{CallsSound}
+use Rattle.sed_engine.proofs.Frames.{FrameHas, no_locals}
+use Rattle.sed_engine.proofs.Kinded.{HasKind}
+use Rattle.sed_engine.proofs.Ranges.{Sound}
+use Rattle.sed_engine.proofs.Ready.{Fitting}
+use Rattle.sed_engine.proofs.Spots.{Concrete, found_body}
+use Rattle.sed_engine.proofs.TypedBodies.{calls_sound}
+
+-- ---- the class of a component
+
+-- a class of which components are made: a concrete one at or below `Component`
+pub record IsComponent (program : Program) (class : ℕ) : Type 0 where
+  pub concrete : Concrete program class
+  pub below : Below program.schema.classes component_class class
+
+not_true : (b : Bool) → not b ≡ true → b ≡ false
+not_true true h = sym h
+not_true false h = refl
+
+component_of : (program : Program) → Typed program → (class : ℕ) → is_creatable (meaning_of program) class ≡ true → IsComponent program class
+component_of program typed class h = go (slice_get program.schema.classes class) refl (typed.classes class) h
+  where
+    go : (o : Option ClassInfo) → slice_get program.schema.classes class ≡ o → IfSome o (IsClass program class) → option_map_or (λ c. c.is_component && not c.is_abstract) o false ≡ true → IsComponent program class
+    go None is k h = no h
+    go (Some info) is k h =
+        let parts : (info.is_component ≡ true) × (not info.is_abstract ≡ true) = and_parts info.is_component (not info.is_abstract) h in
+        record {
+          concrete = (slice_get_within program.schema.classes class info is, ap (λ (o : Option ClassInfo). option_map_or (λ c. c.is_abstract) o false) is ∙ not_true info.is_abstract parts.1);
+          below = below_of program.schema.classes component_class class (sym k.component ∙ parts.0);
+        }
+
+-- ---- the method of a root call
+
+-- a method that a root call may run with such an argument
+pub record RunsWith (program : Program) (class : ℕ) (a : ActionArg) (n : ℕ) : Type 0 where
+  pub method : Method
+  pub is : slice_get program.methods n ≡ Some method
+  pub instance : method.is_static ≡ false
+  pub takes : method.params ≡ argument_kinds a
+  pub above : Below program.schema.classes method.class.0 class
+  pub some : method.body ≡ None → ⊥
+
+runs_with : (program : Program) → Typed program → (class : ℕ) → Concrete program class → (a : ActionArg) (name : List ℕ) (n : ℕ) (x : Method) → find program class name ≡ Some n → slice_get program.methods n ≡ Some x →
+    x.is_static ≡ false → x.params ≡ argument_kinds a → RunsWith program class a n
+runs_with program typed class known a name n x found is instance takes =
+    let above : Below program.schema.classes x.class.0 class × (x.name ≡ name) = found_above program class n name x found is in
+    let named : method_name program n ≡ name = ap (λ (o : Option Method). option_map_or (λ m. m.name) o []) is ∙ above.1 in
+    record {
+      method = x;
+      is = is;
+      instance = instance;
+      takes = takes;
+      above = above.0;
+      some = found_body program typed class n n x known (ap (find program class) named ∙ found) is;
+    }
+
+-- a root call runs no method, or one that takes its argument
+abbrev RunsRoot : Program → ℕ → ActionArg → Option ℕ → Type 0
+RunsRoot program class a None = Unit {0}
+RunsRoot program class a (Some n) = RunsWith program class a n
+
+-- the nearest method of a name that a class at or above has for roots
+root_at : (program : Program) → Typed program → (class : ℕ) → Concrete program class → (above : ℕ) → Below program.schema.classes above class → (a : ActionArg) (name : List ℕ) →
+    IsSomeAnd (find program above name) (IsRoot program a) → Sound (RunsRoot program class a) (method_at program class name)
+root_at program typed class known above b a name h =
+    let n : (n : ℕ) × (find program above name ≡ Some n) × IsRoot program a n = of_some (find program above name) h in
+    let x : (x : Method) × (slice_get program.methods n.0 ≡ Some x) × IsAction a x = of_some (slice_get program.methods n.0) n.2 in
+    let f : FoundFor program class name x.0 = found_below program typed above class n.0 name x.0 b n.1 x.1 in
+    subst (λ (o : Option ℕ). Sound (RunsRoot program class a) (map_ok (λ m. Some m) (there o))) (sym f.found)
+    (runs_with program typed class known a name f.number f.method f.found f.is (f.same.static ∙ x.2.0) (f.same.params ∙ x.2.3))
+
+and_no : (a b : Bool) → b ≡ false → (a && b) ≡ false
+and_no true b e = e
+and_no false b e = refl
+
+-- `Component` is type 2 of kit 0
+component_number : (classes : List ClassInfo) → HasSysTypes classes → type_at classes 0 2 ≡ Some component_class
+component_number [] sys = absurd (omega (arith, sys.there))
+component_number (a ∷ []) sys = absurd (omega (arith, sys.there))
+component_number (a ∷ b ∷ []) sys = absurd (omega (arith, sys.there))
+component_number (a ∷ b ∷ c ∷ rest) sys =
+    let long : 2 < length (a ∷ b ∷ c ∷ rest) = omega (arith, sys.there) in
+    let at : position_or_len (λ (x : ClassInfo). (x.kit == 0) && (x.number == 2)) (a ∷ b ∷ c ∷ rest) ≡ 2 = position_or_len_is (λ (x : ClassInfo). (x.kit == 0) && (x.number == 2)) (a ∷ b ∷ c ∷ rest) 2 a (omega (arith, long)) before here in
+    ap (λ (n : ℕ). option_and_then numbered (cond (nat_lt n (length (a ∷ b ∷ c ∷ rest))) (Some n) None)) at
+    ∙ ap (λ (t : Bool). option_and_then numbered (cond t (Some 2) None)) (lt-ltb 2 (length (a ∷ b ∷ c ∷ rest)) long)
+  where
+    before : (k : ℕ) → k < 2 → ((get_or (a ∷ b ∷ c ∷ rest) k a).kit == 0 && ((get_or (a ∷ b ∷ c ∷ rest) k a).number == 2)) ≡ false
+    before zero h = and_no (a.kit == 0) (a.number == 2) (ap (λ (n : ℕ). n == 2) sys.object.number_is)
+    before (suc zero) h = and_no (b.kit == 0) (b.number == 2) (ap (λ (n : ℕ). n == 2) sys.virtual.number_is)
+    before (suc (suc k)) h = absurd (omega (arith, h))
+
+    here : 2 < length (a ∷ b ∷ c ∷ rest) → ((c.kit == 0) && (c.number == 2)) ≡ true
+    here h = and_from (c.kit == 0) (c.number == 2) (ap (λ (n : ℕ). n == 0) sys.component.kit) (ap (λ (n : ℕ). n == 2) sys.component.number_is)
+
+callback_at : (program : Program) → Typed program → (class : ℕ) → IsComponent program class → (a : ActionArg) (name : List ℕ) → IfSome (find program component_class name) (IsRoot program a) →
+    Sound (RunsRoot program class a) (callback_method program class name)
+callback_at program typed class c a name h =
+    subst (λ (o : Option ℕ). Sound (RunsRoot program class a) (and_then (there o) (λ (component : ℕ). if is_some (find program component name) then method_at program class name else Ok None)))
+    (sym (component_number program.schema.classes typed.kits.sys_types)) (go (find program component_class name) refl h)
+  where
+    go : (o : Option ℕ) → find program component_class name ≡ o → IfSome o (IsRoot program a) → Sound (RunsRoot program class a) (if is_some o then method_at program class name else Ok None)
+    go None e h = tt
+    go (Some n) e h = root_at program typed class c.concrete component_class c.below a name (subst (λ (o : Option ℕ). IsSomeAnd o (IsRoot program a)) (sym e) h)
+
+-- a root call has an argument of a kind, and what it runs takes it
+abbrev Starts : (program : Program) (class : ℕ) → Value → Result (Option ℕ) Stop → Type 0
+Starts program class v m = (a : ActionArg) × (is_argument a v ≡ true) × Sound (RunsRoot program class a) m
+
+action_at : (program : Program) → Typed program → (class slot : ℕ) → IsComponent program class → (v : Value) → action_takes (slot_form (meaning_of program) class slot) v ≡ true →
+    Starts program class v (method_at program class (slot_name program.schema.classes class slot))
+action_at program typed class slot c v h = of_info (slice_get program.schema.classes class) (typed.slots class) h
+  where
+    of_form : (s : SlotInfo) (f : SlotForm) → HasSlot program class slot s f → action_takes (Some f) v ≡ true → Starts program class v (method_at program class s.name)
+    of_form s (Prop t) has h = no h
+    of_form s (OfAction a) has h = (a, h, root_at program typed class c.concrete class Itself a s.name has.1)
+
+    of_slot : (o : Option SlotInfo) → IfSome o (λ s. HasSlot program class slot s s.form) → action_takes (option_map (λ s. s.form) o) v ≡ true → Starts program class v (method_at program class (option_map_or (λ s. s.name) o []))
+    of_slot None has h = no h
+    of_slot (Some s) has h = of_form s s.form has h
+
+    of_info : (o : Option ClassInfo) → IfSome o (HasSlots program class) → action_takes (option_map (λ s. s.form) (slice_get (option_map_or (λ info. info.slots) o []) slot)) v ≡ true →
+        Starts program class v (method_at program class (option_map_or (λ s. s.name) (slice_get (option_map_or (λ info. info.slots) o []) slot) []))
+    of_info None has h = no h
+    of_info (Some info) has h = of_slot (slice_get info.slots slot) (has.each slot) h
+
+root_is : (program : Program) → Typed program → (class : ℕ) → IsComponent program class → (which : Root) (v : Value) → may_call (meaning_of program) class which v ≡ true → Starts program class v (root_method program class which)
+root_is program typed class c Execute v h = (argument.Void, h, root_at program typed class c.concrete component_class c.below argument.Void (codes "execute") typed.roots.execute)
+root_is program typed class c (Action slot) v h = action_at program typed class slot.0 c v h
+root_is program typed class c (Callback callback.Start) v h = (argument.Void, h, callback_at program typed class c argument.Void (codes "start") typed.roots.start)
+root_is program typed class c (Callback callback.Stop) v h = (argument.Void, h, callback_at program typed class c argument.Void (codes "stop") typed.roots.stop)
+root_is program typed class c (Callback callback.Changed) v h = (argument.Int, h, callback_at program typed class c argument.Int (codes "changed") typed.roots.changed)
+
+-- ---- the argument
+
+argument_is : (program : Program) (class : ℕ) (a : ActionArg) (v : Value) → is_argument a v ≡ true → Sound (λ u. FrameHas program class (argument_kinds a) (u ∷ replicate 63 Nothing)) (argument_of v)
+argument_is program class argument.Void kept.Nothing h = (refl, no_locals program class 63)
+argument_is program class argument.Void v h = no h
+argument_is program class argument.Bool (kept.Bool t) h = (h, no_locals program class 63)
+argument_is program class argument.Bool v h = no h
+argument_is program class argument.Int (kept.Int n) h = (h, no_locals program class 63)
+argument_is program class argument.Int v h = no h
+argument_is program class argument.Long (kept.Long n) h = (h, no_locals program class 63)
+argument_is program class argument.Long v h = no h
+
+-- ---- the whole call
+
+any_value : (P : Val → Type 0) (r : Result Val Stop) → Sound P r → Sound (λ _. Unit {0}) r
+any_value P (Ok v) h = tt
+any_value P (Err (Traps t)) h = tt
+any_value P (Err Untyped) h = h
+
+-- the frame of a root call is one of its method
+frame_is : (program : Program) (class : ℕ) (a : ActionArg) (n : ℕ) (r : RunsWith program class a n) (v : Val) → FrameHas program class (argument_kinds a) (v ∷ replicate 63 Nothing) →
+    FrameHas program class (receiver_of r.method ++ r.method.params) (root_frame v)
+frame_is program class a n r v k =
+    let first : FrameHas program class ((kind.Object r.method.class ∷ []) ++ argument_kinds a) (root_frame v) = (record { at = class; is = refl; below = r.above }, k) in
+    let one : receiver_of r.method ≡ kind.Object r.method.class ∷ [] = ap (λ (b : Bool). if b then [] else kind.Object r.method.class ∷ []) r.instance in
+    subst (λ (ks : List Kind). FrameHas program class ks (root_frame v))
+    (ap (λ (ks : List Kind). (kind.Object r.method.class ∷ []) ++ ks) (sym r.takes) ∙ ap (λ (ks : List Kind). ks ++ r.method.params) (sym one)) first
+
+started : (program : Program) (class : ℕ) (calls : Calls) → CallsSound program class calls → (a : ActionArg) (m : Result (Option ℕ) Stop) (u : Result Val Stop) (s : Shared) → Fitting program class s →
+    Sound (RunsRoot program class a) m → Sound (λ v. FrameHas program class (argument_kinds a) (v ∷ replicate 63 Nothing)) u → Sound (λ _. Unit {0}) (start_root calls m u s).result
+started program class calls sound a (Ok None) (Ok v) s fitting h k = tt
+started program class calls sound a (Ok (Some n)) (Ok v) s fitting h k = any_value (HasKind program class h.method.result) (calls n (root_frame v) s).result (sound.sound n h.method (root_frame v) s h.is h.some (frame_is program class a n h v k) refl fitting).1
+started program class calls sound a (Ok m) (Err (Traps t)) s fitting h k = tt
+started program class calls sound a (Ok m) (Err Untyped) s fitting h k = absurd k
+started program class calls sound a (Err (Traps t)) u s fitting h k = tt
+started program class calls sound a (Err Untyped) u s fitting h k = absurd h
+
+trap_number : (t : Trap) → number_of t ≢ 0
+trap_number ZeroDivisor e = omega (arith, e)
+trap_number NullReference e = omega (arith, e)
+trap_number OutOfRange e = omega (arith, e)
+trap_number TurnsSpent e = omega (arith, e)
+trap_number TooDeep e = omega (arith, e)
+
+ended : (r : Result Val Stop) (left : ℕ) → Sound (λ _. Unit {0}) r → end_of r left ≢ end.Trap 0
+ended (Ok v) left h e = let never : ⊥ = cc in never
+ended (Err (Traps t)) left h e = trap_number t (let same : number_of t ≡ 0 = cc in same)
+ended (Err Untyped) left h e = absurd h
+
+pub roots_end : (program : Program) → Typed program → RootEnds (meaning_of program)
+roots_end program typed class contents statics which argument turns moment creatable fits statics_fit may long =
+    let s : Shared = record { contents = contents; statics = statics; turns = turns; moment = moment } in
+    let c : IsComponent program class = component_of program typed class creatable in
+    let calls : Calls = calls_with program class most_frames in
+    let fitting : Fitting program class s = record { fits = record { contents = fits.values; statics = statics_fit.values }; contents = fits.paths; statics = statics_fit.paths; moment = long } in
+    let starts : Starts program class argument (root_method program class which) = root_is program typed class c which argument may in
+    let e : Called = start_root calls (root_method program class which) (argument_of argument) s in
+    ended e.result e.shared.turns
+    (started program class calls (calls_sound program typed class c.concrete most_frames) starts.0 (root_method program class which) (argument_of argument) s fitting starts.2 (argument_is program class starts.0 argument starts.1))

@@ -1,0 +1,129 @@
+-- Kinds, depths and frames of small trees: what the rules give, and what they refuse.
+use Rattle.std.proofs.Common.{◌≡◌, ◌≤◌, pos, Bool, true, false, [], ◌∷◌, List, Some, None, codes, refl, arith}
+use Rattle.sed_value.specs.declared.slot_type.Primitive.TheVariants as prim
+use Rattle.sed_value.specs.declared.value.Value.TheVariants as kept
+use Rattle.sed_typed.specs.declared.kind.Kind.{Kind}
+use Rattle.sed_typed.specs.declared.kind.Kind.TheVariants as kind
+use Rattle.sed_typed.specs.declared.operators.Arithmetic.TheVariants as op
+use Rattle.sed_typed.specs.declared.operators.Binary.TheVariants as binary
+use Rattle.sed_typed.specs.declared.operators.Unary.TheVariants as unary
+use Rattle.sed_typed.specs.declared.operators.Width.TheVariants as width
+use Rattle.sed_typed.specs.declared.program.FieldForm.TheVariants as form
+use Rattle.sed_typed.specs.declared.statement.Stmt.TheVariants as stmt
+use Rattle.sed_typed.specs.declared.tree.Expr.{Expr, end_of-Expr, more_of-Expr}
+use Rattle.sed_typed.specs.declared.tree.Expr.TheVariants as expr
+use Rattle.sed_typed.specs.declared.tree.Link.TheVariants as link
+use Rattle.sed_typed.specs.Depth.{depth_of, stmt_depth}
+use Rattle.sed_typed.specs.Kinds.{kind_of}
+use Rattle.sed_typed.specs.Typed.{IsMethod}
+use Rattle.sed_typed.specs.TypedExpr.{Context, IsExpr, GoesTo, IsStaticCall, IsInvocation, IsSuperCall}
+use Rattle.sed_typed.specs.TypedSchema.{IsField}
+use Rattle.sed_typed.specs.TypedStmt.{IsReturned}
+use Rattle.sed_engine.proofs.Building.{Pointer, one, int, chain, by, y, y_is, field}
+use Rattle.sed_engine.proofs.Ramp.{nothing, void_method, ramp}
+
+-- in an instance method of the ramp, and in a static one, that gives this kind
+in_method : Bool → Kind → Pointer → Context
+in_method is_static result p = record { program = ramp p; class = 5; is_static = is_static; locals = kind.Object (record { 0 = 5 }) ∷ []; result = result }
+
+never_kind : {P : Type 0} → kind.Int ≡ kind.Long → P
+never_kind e = let never : ⊥ = cc in absurd never
+
+-- ---- kinds
+
+kind_of_ticks : kind_of expr.Ticks ≡ kind.Long
+kind_of_ticks = refl
+
+-- a class goes to the one above it, and not the other way
+to_base : (p : Pointer) → GoesTo (ramp p) (kind.Object (record { 0 = 5 })) (kind.Object (record { 0 = 2 }))
+to_base p = refl
+
+not_to_derived : (p : Pointer) → GoesTo (ramp p) (kind.Object (record { 0 = 2 })) (kind.Object (record { 0 = 5 })) → ⊥
+not_to_derived p h = let never : ⊥ = cc in never
+
+-- the count of a shift is an int: 1L << 1, and not 1 << 1L
+long_shift : Pointer → Expr
+long_shift p = chain p (expr.Long (pos 1)) (link.Binary (binary.Arithmetic op.ShiftLeft width.Long) (int 1))
+
+long_shift_is_typed : (p : Pointer) → IsExpr (in_method false kind.Void p) (long_shift p)
+unfolding in_method long_shift
+long_shift_is_typed p = (refl, ((refl, (refl, refl)), tt))
+
+shift_by_long : (p : Pointer) → IsExpr (in_method false kind.Void p) (chain p (int 1) (by op.ShiftLeft (expr.Long (pos 1)))) → ⊥
+shift_by_long p h = let count : kind.Long ≡ kind.Int = h.1.0.1.1 in let never : ⊥ = cc in never
+
+-- true ? 1 : 1L
+two_kinds : (p : Pointer) → IsExpr (in_method false kind.Void p) (expr.Choose' p (expr.Bool 1) p (int 1) p (expr.Long (pos 1))) → ⊥
+two_kinds p h = never_kind h.4
+
+-- `this` in a static method
+static_this : (p : Pointer) → IsExpr (in_method true kind.Void p) (expr.This (record { 0 = 5 })) → ⊥
+unfolding in_method
+static_this p h = let instance : true ≡ false = h.0 in let never : ⊥ = cc in never
+
+-- `return` without a value, where one is due
+returns_nothing : (p : Pointer) → IsReturned (in_method false kind.Int p) None → ⊥
+unfolding in_method
+returns_nothing p h = let result : kind.Int ≡ kind.Void = h in let never : ⊥ = cc in never
+
+-- ---- calls
+
+-- an argument too many
+with_argument : (p : Pointer) → IsInvocation (ramp p) (Some 5) 2 kind.Void (kind.Int ∷ []) → ⊥
+with_argument p h = h.1.1.takes
+
+-- a method that is not the nearest of its name
+not_the_nearest : (p : Pointer) → IsInvocation (ramp p) (Some 5) 0 kind.Void [] → ⊥
+not_the_nearest p h = let same : Some 2 ≡ Some 0 = h.0 in let never : ⊥ = cc in never
+
+-- an instance method that is called as a static one
+not_static : (p : Pointer) → IsStaticCall (ramp p) 2 kind.Void [] → ⊥
+not_static p h = let static : false ≡ true = h.0 in let never : ⊥ = cc in never
+
+super_call : (p : Pointer) → IsSuperCall (ramp p) 5 0 kind.Void []
+super_call p = ((refl, (refl, record { gives = refl; takes = tt })), λ e. let never : ⊥ = cc in never)
+
+-- `super` of an abstract method
+super_of_abstract : (p : Pointer) → IsSuperCall (record (ramp p) { methods = record (void_method 2 (codes "execute") (nothing p)) { body = None } ∷ [] }) 5 0 kind.Void [] → ⊥
+super_of_abstract p h = h.1 refl
+
+-- ---- depths
+
+-- -(-1), y = (y = 1), f(1), true ? 1 : 1: one for each; a chain nests no deeper than its deepest operand
+negated : (p : Pointer) → depth_of (expr.Unary' (unary.Negate width.Int) p (expr.Unary' (unary.Negate width.Int) p (int 1))) ≡ 2
+negated p = refl
+
+assigned : (p : Pointer) → depth_of (y_is p 1) ≡ 1
+assigned p = refl
+
+called : (p : Pointer) → depth_of (expr.Call' kind.Int 0 (one p) (more_of-Expr (int 1) end_of-Expr)) ≡ 1
+called p = refl
+
+chosen : (p : Pointer) → depth_of (expr.Choose' p (expr.Bool 1) p (int 1) p (y_is p 1)) ≡ 2
+chosen p = refl
+
+added : (p : Pointer) → depth_of (chain p (y p) (by op.Add (y_is p 1))) ≡ 1
+added p = refl
+
+looped : (p : Pointer) → stmt_depth (stmt.While' (expr.Bool 1) p (stmt.If' (expr.Bool 1) p stmt.Break p stmt.Empty)) ≡ 2
+looped p = refl
+
+-- ---- frames and fields
+
+nine : List Kind
+nine = kind.Int ∷ kind.Int ∷ kind.Int ∷ kind.Int ∷ kind.Int ∷ kind.Int ∷ kind.Int ∷ kind.Int ∷ kind.Int ∷ []
+
+nine_parameters : (p : Pointer) → IsMethod (ramp p) (record (void_method 5 (codes "f") (nothing p)) { params = nine }) → ⊥
+unfolding nine
+nine_parameters p is = let most : 9 ≤ 8 = is.params_most in omega (arith, most)
+
+empty_array : (p : Pointer) → IsField (ramp p) (field 5 (form.Array prim.Int 0) kept.Nothing) → ⊥
+empty_array p h = let some : 1 ≤ 0 = h.form.0 in omega (arith, some)
+
+-- a component inside an object
+component_inside : (p : Pointer) → IsField (ramp p) (field 5 (form.Object (record { 0 = 4 })) kept.Nothing) → ⊥
+component_inside p h = let none : true ≡ false = h.form.2 in let never : ⊥ = cc in never
+
+-- a Buf that is no property
+buf_alone : (p : Pointer) → IsField (ramp p) (field 5 (form.Buf 8) (kept.Buf [])) → ⊥
+buf_alone p h = h.form.2 refl
