@@ -3,7 +3,7 @@ use Rattle.std.proofs.Common.{◌≡◌, ◌<◌, ℕ, zero, suc, ◌==◌, ◌&
 use Rattle.std.specs.Prelude.{All, IfSome, IsSomeAnd, ⊤, position, slice_get}
 use Rattle.std.specs.List.{flat_map, list_any, position_or_len}
 use Rattle.std.specs.Str.{bytes_eq}
-use Rattle.std.proofs.lemmas.Bool.{eqb-true, ltb-true, and_parts}
+use Rattle.std.proofs.lemmas.Bool.{not-false, eqb-true, ltb-true, and_parts}
 use Rattle.std.proofs.lemmas.List.Elements.{All-get_or}
 use Rattle.std.proofs.lemmas.List.Sums.{prefix_len_stops}
 use Rattle.std.proofs.lemmas.Option.{MatchOption-at_some, cond_some, same_Some, none-some, slice_get_within, slice_get-get_or, get_or_from_slice_get}
@@ -96,10 +96,6 @@ pub record IsPassed {X : Type 0} (p : X → Bool) (xs : List X) (n : ℕ) : Type
   pub is : slice_get xs n ≡ Some value
   pub passes : p value ≡ true
 
-not_false : (b : Bool) → not b ≡ false → b ≡ true
-not_false true h = refl
-not_false false h = sym h
-
 pub position_passes : {X : Type 0} (p : X → Bool) (xs : List X) (n : ℕ) → position p xs ≡ Some n → IsPassed p xs n
 position_passes p [] n e = absent n e
 position_passes p (x ∷ xs) n e =
@@ -110,7 +106,7 @@ position_passes p (x ∷ xs) n e =
     record {
       value = get_or (x ∷ xs) at x;
       is = subst (λ (k : ℕ). slice_get (x ∷ xs) k ≡ Some (get_or (x ∷ xs) at x)) parts.1 here;
-      passes = not_false (p (get_or (x ∷ xs) at x)) (prefix_len_stops (λ y. not (p y)) (x ∷ xs) x inside);
+      passes = not-false (p (get_or (x ∷ xs) at x)) (prefix_len_stops (λ y. not (p y)) (x ∷ xs) x inside);
     }
 
 -- ---- methods

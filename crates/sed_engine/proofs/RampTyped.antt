@@ -1,9 +1,10 @@
 -- The program of the ramp is typed, so its code is whole.
-use Rattle.std.proofs.Common.{◌≡◌, ◌<◌, ◌≤◌, ◌==◌, ℕ, zero, suc, Bool, true, false, [], ◌∷◌, List, map, Some, None, refl, ap, lit<, lit≤, arith, cond, ◌+◌, ◌∙◌, codes}
+use Rattle.std.proofs.Common.{◌≡◌, ◌≢◌, pos, ◌<◌, ◌≤◌, ◌==◌, ℕ, zero, suc, Bool, true, false, [], ◌∷◌, List, map, Some, None, refl, ap, lit<, lit≤, arith, cond, ◌+◌, ◌∙◌, codes}
 use Rattle.std.specs.Prelude.{All, IfSome, IsSomeAnd, IsTrue, count_by, slice_get}
 use Rattle.sed_value.specs.Names.{is_kit_name}
 use Rattle.std.proofs.lemmas.Bool.Decides.{nat_tests}
 use Rattle.std.proofs.lemmas.List.Sums.{count_by-le-length, sum_by-cons}
+use Rattle.sed_value.specs.declared.value.Value.TheVariants as kept
 use Rattle.sed_typed.specs.declared.kind.Kind.TheVariants as kind
 use Rattle.sed_value.specs.declared.kit.KitRef.{KitRef}
 use Rattle.sed_typed.specs.declared.number.TypeNo.{TypeNo}
@@ -18,6 +19,9 @@ use Rattle.sed_typed.specs.Classes.{base_of, find, fields, slots as slots_of, me
 use Rattle.sed_typed.specs.SysTypes.{HasSysTypes}
 use Rattle.sed_typed.specs.TypedSchema.{HasKits, IsClass, HasSlot, HasSlots, IsField, HasMembers, Overrides, LiesDeeper, types_of, types_at}
 use Rattle.sed_typed.specs.Typed.{Typed, IsMethod, IsBody, IsFrame, IsStorable, HasBodies, IsText}
+use Rattle.sed_engine.specs.declared.call.CallEnd.TheVariants.{Trap}
+use Rattle.sed_engine.specs.declared.call.Root.TheVariants.{Execute}
+use Rattle.sed_engine.specs.Code.{root_of, new_object}
 use Rattle.sed_engine.specs.Program.{meaning_of}
 use Rattle.sed_engine.specs.Whole.{IsWhole}
 use Rattle.sed_engine.proofs.Building.{Pointer}
@@ -362,3 +366,9 @@ ramp_is_typed p = record {
 
 pub ramp_is_whole : (p : Pointer) → IsWhole (meaning_of (ramp p))
 ramp_is_whole p = whole_of (ramp p) (ramp_is_typed p)
+
+-- a root call on a new ramp, of which all that the law asks for holds
+pub ramp_ends : (p : Pointer) → (root_of (meaning_of (ramp p)) (new_object (meaning_of (ramp p)) 5) (meaning_of (ramp p)).initial_statics Execute kept.Nothing 10 (pos 0)).end ≢ Trap 0
+ramp_ends p =
+    let whole : IsWhole (meaning_of (ramp p)) = ramp_is_whole p in
+    whole.ends 5 ((meaning_of (ramp p)).initial 5) [] Execute kept.Nothing 10 (pos 0) refl (whole.first 5 (lit< tt)) whole.first_statics refl refl

@@ -3,7 +3,7 @@ use Rattle.std.proofs.Common.{◌≡◌, ◌≢◌, ◌<◌, ◌&&◌, not, ℕ,
 use Rattle.std.specs.Prelude.{IfSome, IsSomeAnd, is_some, ◌==◌, nat_lt, slice_get}
 use Rattle.std.specs.List.{position_or_len}
 use Rattle.std.specs.Option.{option_and_then, option_map, option_map_or}
-use Rattle.std.proofs.lemmas.Bool.{and_parts, and_from, lt-ltb}
+use Rattle.std.proofs.lemmas.Bool.{not-true, and_parts, and_from, lt-ltb}
 use Rattle.std.proofs.lemmas.List.Sums.{position_or_len_is}
 use Rattle.std.proofs.lemmas.Option.{slice_get_within}
 use Rattle.sed_value.specs.declared.value.Value.{Value}
@@ -54,10 +54,6 @@ pub record IsComponent (program : Program) (class : ℕ) : Type 0 where
   pub concrete : Concrete program class
   pub below : Below program.schema.classes component_class class
 
-not_true : (b : Bool) → not b ≡ true → b ≡ false
-not_true true h = sym h
-not_true false h = refl
-
 component_of : (program : Program) → Typed program → (class : ℕ) → is_creatable (meaning_of program) class ≡ true → IsComponent program class
 component_of program typed class h = go (slice_get program.schema.classes class) refl (typed.classes class) h
   where
@@ -66,7 +62,7 @@ component_of program typed class h = go (slice_get program.schema.classes class)
     go (Some info) is k h =
         let parts : (info.is_component ≡ true) × (not info.is_abstract ≡ true) = and_parts info.is_component (not info.is_abstract) h in
         record {
-          concrete = (slice_get_within program.schema.classes class info is, ap (λ (o : Option ClassInfo). option_map_or (λ c. c.is_abstract) o false) is ∙ not_true info.is_abstract parts.1);
+          concrete = (slice_get_within program.schema.classes class info is, ap (λ (o : Option ClassInfo). option_map_or (λ c. c.is_abstract) o false) is ∙ not-true info.is_abstract parts.1);
           below = below_of program.schema.classes component_class class (sym k.component ∙ parts.0);
         }
 

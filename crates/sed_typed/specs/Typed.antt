@@ -66,10 +66,11 @@ HasBodies program class =
     is_abstract program.schema.classes class ≡ false → (m : ℕ) →
     IfSome (find program class (method_name program m)) (λ n. IsSomeAnd (slice_get program.methods n) (λ x. x.body ≡ None → ⊥))
 
--- a method that a root call runs: each component has `execute`, and a callback only where `Component` has one of its name
+-- a method that a root call runs by its name, with such an argument
 abbrev pub IsRoot : Program → ActionArg → ℕ → Type 0
 IsRoot program argument n = IsSomeAnd (slice_get program.methods n) (IsAction argument)
 
+-- `Component` has `execute`, and a callback only of its form
 pub record HasRoots (program : Program) : Type 0 where
   pub execute : IsSomeAnd (find program component_class (codes "execute")) (IsRoot program argument.Void)
   pub start : IfSome (find program component_class (codes "start")) (IsRoot program argument.Void)
