@@ -11,11 +11,14 @@ use Rattle.sed_engine.specs.Stops.{Stop, Traps, Untyped, there}
 use Rattle.sed_engine.specs.Values.{Val, Base, Component, Statics, Spot, is_alike}
 use Rattle.sed_engine.specs.State.{Shared, State, End, gives, answers, after, then_do}
 use Rattle.sed_engine.specs.Steps.{contents_of, load, replace, store, written_at, turn_of, take_turn}
-use Rattle.sed_engine.specs.Turns.{more_shared}
 use Rattle.sed_engine.specs.Expressions.{Setting, Called, Calls, back}
 use Rattle.sed_engine.specs.Statements.{Flow, Round, Again, Over, Answer, after_round, loop, rounds, exec}
 use Rattle.sed_engine.specs.Root.{called, answered, untyped, is_frame_of, run_body, run_method, calls_with}
 use Rattle.sed_engine.proofs.Related.{Closed, of_stmt}
+
+-- the same with k turns more
+abbrev pub more_shared : ℕ → Shared → Shared
+more_shared k s = record { contents = s.contents; statics = s.statics; turns = s.turns + k; moment = s.moment }
 
 abbrev pub more : ℕ → State → State
 more k s = record { shared = more_shared k s.shared; locals = s.locals }

@@ -5,10 +5,10 @@ use Rattle.sed_engine.specs.Values.{Val}
 use Rattle.sed_engine.specs.State.{Shared}
 use Rattle.sed_engine.specs.Expressions.{Called, Calls}
 use Rattle.sed_engine.specs.Root.{RootEnd, root_end, start_root, end_of, root_frame}
-use Rattle.sed_engine.specs.Turns.{more_shared, LeavesAtMost, IsDone, with_more}
+use Rattle.sed_engine.specs.Turns.{LeavesAtMost, IsDone, with_more}
 use Rattle.sed_engine.proofs.KeepsFit.{Forms, FitsNow, CallsFit}
 use Rattle.sed_engine.proofs.Within.{Within, within_self, CallsKeep}
-use Rattle.sed_engine.proofs.MoreTurns.{Unspent, CallsSame}
+use Rattle.sed_engine.proofs.MoreTurns.{more_shared, Unspent, CallsSame}
 
 started_within : (calls : Calls) → CallsKeep calls → (m : Result (Option ℕ) Stop) (argument : Result Val Stop) (s : Shared) → Within s (start_root calls m argument s).shared
 started_within calls keep (Ok None) (Ok v) s = within_self s

@@ -2,10 +2,6 @@
 use Rattle.std.specs.Prelude.{ℕ, ◌+◌, ◌≤◌}
 use Rattle.sed_engine.specs.declared.call.CallEnd.{CallEnd}
 use Rattle.sed_engine.specs.declared.call.CallEnd.TheVariants.{Done, Trap}
-use Rattle.sed_engine.specs.State.{Shared}
-
-abbrev pub more_shared : ℕ → Shared → Shared
-more_shared k s = record { contents = s.contents; statics = s.statics; turns = s.turns + k; moment = s.moment }
 
 -- a call that ended normally left no more turns than these
 abbrev pub LeavesAtMost : CallEnd → ℕ → Type 0
