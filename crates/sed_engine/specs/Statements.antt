@@ -8,6 +8,7 @@ use Rattle.sed_typed.specs.declared.statement.Label.{Label}
 use Rattle.sed_typed.specs.declared.statement.Label.TheVariants.{Case, Default}
 use Rattle.sed_typed.specs.declared.statement.Stmt.{Stmt, Row_of-Stmt, end_of-Stmt, more_of-Stmt}
 use Rattle.sed_typed.specs.declared.statement.Stmt.TheVariants as stmt
+use Rattle.sed_typed.specs.TypedStmt.{is_default}
 use Rattle.sed_engine.specs.declared.trap.Trap.TheVariants.{TurnsSpent}
 use Rattle.sed_engine.specs.Stops.{Traps}
 use Rattle.sed_engine.specs.Values.{Val, Nothing, whole, truth, zero_of}
@@ -74,10 +75,6 @@ rounds one s = loop one (suc s.shared.turns) s
 abbrev pub is_case : ℤ → Label → Bool
 is_case n (Case c) = int_eq c n
 is_case n Default = false
-
-abbrev pub is_default : Label → Bool
-is_default (Case c) = false
-is_default Default = true
 
 -- the place of the label of a value, else that of `default`, else past all
 abbrev pub label_of : List Label → ℤ → ℕ

@@ -12,6 +12,7 @@ use Rattle.sed_typed.specs.declared.schema.Schema.{Schema}
 use Rattle.sed_typed.specs.Classes.{base_of, slots}
 use Rattle.sed_typed.specs.Contents.{Contents, Shape, value_at}
 use Rattle.sed_typed.specs.Sizes.{config_size, runtime_size}
+use Rattle.sed_typed.specs.TypedSchema.{Begins}
 pub use Rattle.sed_typed.specs.SysTypes.{HasSysTypes, IsSysType, meta_slot, save_slot}
 use Rattle.sed_engine.specs.declared.call.CallEnd.TheVariants.{Trap}
 use Rattle.sed_engine.specs.declared.call.Root.{Root as Root-type}
@@ -26,10 +27,6 @@ pub record KeepsLimits (schema : Schema) : Type 0 where
   pub sizes : All (λ c. c.size < 65536) schema.classes
   pub config : All (λ c. config_size c.slots ≤ 400) schema.classes
   pub runtime : All (λ c. runtime_size c.slots ≤ 400) schema.classes
-
--- one list begins with another
-abbrev pub Begins : {X : Type 0} → List X → List X → Type 0
-Begins {X} front whole = (rest : List X) × (whole ≡ front ++ rest)
 
 -- a class against its base: the base stands before it, and its slots and fields come first
 pub record FollowsBase (m : Meaning) (class base : ℕ) : Type 0 where
