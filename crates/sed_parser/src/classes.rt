@@ -1,6 +1,6 @@
 // Classes and their members.
 
-use crate::Items;
+use sed_value::Items;
 use crate::leaves::{Facet, Ident, Init, Modifier, Param, TypeName, TypeRef};
 use crate::statements::Stmt;
 

@@ -2,8 +2,7 @@
 ghost use Rattle.sed_parser.specs.declared.form.FirstRefusal.TheVariants.{Memory};
 ghost use Rattle.std.specs.Prelude.{◌≡◌};
 
-use crate::Items;
-use sed_value::Word;
+use sed_value::{Items, Word};
 use std::alloc::{AllocError, AllocFailed};
 use thiserror::Error;
 

@@ -1,7 +1,6 @@
 // The smallest parts of a unit: names, literals, types, facets, modifiers, parameters and initial values.
 
-use crate::Items;
-use sed_value::Prim;
+use sed_value::{Items, Prim};
 
 /// An identifier: the place of its first byte in the text, and its bytes. It may be of any length.
 #[derive(Drop)]

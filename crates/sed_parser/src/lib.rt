@@ -9,7 +9,6 @@ mod classes;
 mod expressions;
 mod form;
 mod halt;
-mod items;
 mod label;
 mod leaves;
 mod naming;
@@ -31,7 +30,6 @@ mod tests;
 pub use classes::{Class, Member, MemberForm, Unit};
 pub use expressions::{Expr, Link, Node, Step};
 pub use form::{First, FirstAssign, FirstProp, FirstRefusal, FirstTerm};
-pub use items::Items;
 pub use label::Label;
 pub use leaves::{
     Base, Facet, Ident, Init, InitValue, Literal, LiteralKind, Modifier, ModifierWord, Param, Size,

@@ -9,7 +9,7 @@ ghost use Rattle.sed_parser.specs.Next as next;
 ghost use Rattle.sed_parser.specs.Statements as statements;
 ghost use Rattle.sed_parser.specs.Halts.{Gives, Makes};
 
-use crate::Items;
+use sed_value::Items;
 use crate::classes::{Class, Member, MemberForm};
 use crate::halt::Halt;
 use crate::leaves::{Facet, Init, Modifier, Param, TypeName};

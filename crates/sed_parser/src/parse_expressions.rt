@@ -5,12 +5,11 @@ ghost use Rattle.sed_parser.specs.Tree as tree;
 ghost use Rattle.sed_parser.specs.declared.label.Label.TheVariants as label;
 ghost use Rattle.sed_parser.specs.Halts.{Gives, Makes};
 
-use crate::Items;
 use crate::expressions::{Expr, Link, Node, Step};
 use crate::halt::Halt;
 use crate::operators::{AssignOp, PrefixOp, UpdateOp};
 use crate::parser::Parser;
-use sed_value::Prim;
+use sed_value::{Items, Prim};
 use std::alloc::Global;
 
 // The levels of expressions that the parser names. Between them are those of the binary operators.

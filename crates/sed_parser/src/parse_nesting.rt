@@ -5,7 +5,7 @@ ghost use Rattle.sed_parser.specs.Tree as tree;
 ghost use Rattle.sed_parser.specs.declared.label.Label.TheVariants as label;
 ghost use Rattle.sed_parser.specs.Halts.{Gives};
 
-use crate::Items;
+use sed_value::Items;
 use crate::boxed::Boxed;
 use crate::expressions::Expr;
 use crate::halt::Halt;

@@ -5,7 +5,6 @@ ghost use Rattle.sed_parser.specs.Leaves as grammar;
 ghost use Rattle.sed_parser.specs.Next as next;
 ghost use Rattle.sed_parser.specs.Halts.{Gives};
 
-use crate::Items;
 use crate::halt::Halt;
 use crate::leaves::{Ident, Literal, LiteralKind, ModifierWord};
 use crate::operators::{AssignOp, BinaryOp, PrefixOp, UpdateOp};
@@ -13,7 +12,7 @@ use crate::tables::{
     assignment_of, binary_of, leads_on, literal_kind, modifier_of, prefix_of, prim_of, update_of,
 };
 use sed_lexer::{TokenKind, Tokens};
-use sed_value::Prim;
+use sed_value::{Items, Prim};
 use std::alloc::Global;
 use std::marker::Model;
 

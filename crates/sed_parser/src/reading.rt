@@ -13,8 +13,8 @@ use crate::leaves::{
 use crate::naming::is_well_named;
 use crate::operators::{AssignOp, BinaryOp};
 use crate::statements::{Form, Stmt};
-use crate::{First, FirstAssign, FirstProp, FirstRefusal, FirstTerm, Items};
-use sed_value::{Prim, Word, read_decimal};
+use crate::{First, FirstAssign, FirstProp, FirstRefusal, FirstTerm};
+use sed_value::{Items, Prim, Word, read_decimal};
 use std::alloc::Global;
 
 // The greatest decimal of the first form.

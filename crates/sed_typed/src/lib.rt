@@ -7,7 +7,6 @@
 //! expressions, every engine, and the compiler stand on it.
 #![tactic(auto)]
 
-pub mod items;
 pub mod kind;
 pub mod number;
 pub mod operators;
@@ -17,7 +16,6 @@ pub mod statement;
 pub mod text;
 pub mod tree;
 
-pub use items::Items;
 pub use kind::Kind;
 pub use number::{SlotNo, TypeNo};
 pub use operators::{Arithmetic, Binary, Comparison, Gives, TextCall, Unary, Update, Width};

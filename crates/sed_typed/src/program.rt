@@ -1,12 +1,11 @@
 //! Programs.
 
-use crate::items::Items;
 use crate::kind::Kind;
 use crate::number::{SlotNo, TypeNo};
 use crate::schema::Schema;
 use crate::statement::Stmt;
 use crate::text::Bytes255;
-use sed_value::{Prim, Value, Word};
+use sed_value::{Items, Prim, Value, Word};
 
 /// What a field holds.
 #[derive(Clone, Copy, Debug, PartialEq, Eq)]

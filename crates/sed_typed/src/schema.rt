@@ -3,9 +3,8 @@ ghost use Rattle.std.specs.Prelude.{◌≡◌, ◌==◌, ◌&&◌, position};
 ghost use Rattle.std.specs.Option.{option_map};
 ghost use Rattle.sed_typed.specs.Schemas.{type_at};
 
-use crate::items::Items;
 use crate::number::TypeNo;
-use sed_value::{KitRef, SlotType, Word};
+use sed_value::{Items, KitRef, SlotType, Word};
 
 /// The argument of an action.
 #[derive(Clone, Copy, Debug, PartialEq, Eq)]
@@ -90,7 +89,7 @@ mod tests {
             is_abstract: false,
             is_component: false,
             size: 0,
-            slots: Items::from_vec(Vec::new(alloc)),
+            slots: Items::new(Vec::new(alloc)),
         })
     }
 
@@ -104,8 +103,8 @@ mod tests {
             class(alloc, 1, 1)?,
         ]?;
         let schema = Schema {
-            kits: Items::from_vec(Vec::new(alloc)),
-            classes: Items::from_vec(classes),
+            kits: Items::new(Vec::new(alloc)),
+            classes: Items::new(classes),
         };
         let rows = [
             (0, 0, Some(TypeNo(0))),

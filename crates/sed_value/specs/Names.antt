@@ -2,9 +2,6 @@
 use Rattle.std.specs.Prelude.{ℕ, Bool, false, ◌==◌, ◌&&◌, ◌||◌, nat_le, List, [], ◌∷◌, length}
 use Rattle.std.specs.List.{list_all}
 use Rattle.sed_value.specs.Characters.{is_letter, is_letter_or_digit, is_word_byte}
-use Rattle.sed_value.specs.declared.word.TheConstants.{LONGEST_WORD}
-use Rattle.sed_value.specs.declared.name.TheConstants.{LONGEST_NAME}
-use Rattle.sed_value.specs.declared.kit.TheConstants.{LONGEST_KIT_NAME}
 
 -- a first byte of one kind, then any number of bytes of another
 abbrev pub is_first_then : (ℕ → Bool) → (ℕ → Bool) → List ℕ → Bool
@@ -17,13 +14,13 @@ is_identifier bytes = is_first_then (λ byte. is_letter byte || (byte == 95)) is
 
 -- an identifier that is short enough to be declared
 abbrev pub is_word : List ℕ → Bool
-is_word bytes = is_identifier bytes && nat_le (length bytes) LONGEST_WORD
+is_word bytes = is_identifier bytes && nat_le (length bytes) 31
 
 -- a component's name: a letter, then letters, digits or `_`
 abbrev pub is_name : List ℕ → Bool
-is_name bytes = is_first_then is_letter is_word_byte bytes && nat_le (length bytes) LONGEST_NAME
+is_name bytes = is_first_then is_letter is_word_byte bytes && nat_le (length bytes) 31
 
 -- a kit's name: a letter, then letters or digits
 abbrev pub is_kit_name : List ℕ → Bool
 is_kit_name bytes =
-    is_first_then is_letter is_letter_or_digit bytes && nat_le (length bytes) LONGEST_KIT_NAME
+    is_first_then is_letter is_letter_or_digit bytes && nat_le (length bytes) 24

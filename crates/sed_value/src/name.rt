@@ -8,9 +8,9 @@ use crate::in_place::InPlace;
 use std::marker::Model;
 
 /// How many characters a component's name has at most.
-pub const LONGEST_NAME: usize = 7;
+pub const LONGEST_NAME: usize = 31;
 
-/// A component's name, of 1 to 7 characters: a letter, then letters, digits or `_`.
+/// A component's name, of 1 to 31 characters: a letter, then letters, digits or `_`.
 ///
 /// Contracts see it as its bytes, and it compares by them.
 #[derive(Clone, Copy, Debug, PartialEq, Eq, PartialOrd, Ord)]

@@ -3,8 +3,8 @@ ghost use Rattle.std.specs.Prelude.{◌≡◌, [], ◌∷◌, IfOk, IsTrue};
 ghost use Rattle.sed_value.specs.Names.{is_word};
 ghost use Rattle.tiny_engine.specs.Sys.{class_of, meta_slot, save_slot, sys_classes};
 
-use sed_typed::{ActionArg, ClassInfo, Items, SlotForm, SlotInfo, TypeNo};
-use sed_value::{Prim, SlotType, Word};
+use sed_typed::{ActionArg, ClassInfo, SlotForm, SlotInfo, TypeNo};
+use sed_value::{Items, Prim, SlotType, Word};
 use std::alloc::{AllocError, Global};
 
 // A class of kit 0.
@@ -26,7 +26,7 @@ fn class(
         is_abstract,
         is_component,
         size: if is_component { 4 } else { 0 },
-        slots: Items::from_vec(slots),
+        slots: Items::new(slots),
     }
 }
 

@@ -10,8 +10,8 @@ ghost use Rattle.tiny_engine.specs.Tiny.{meaning_of, live_of, int_or, IsSys};
 
 use crate::sys;
 use sed_engine::{AddRefusal, CallEnd, Engine, Place, Root};
-use sed_typed::{Items, Schema, SlotNo, TypeNo};
-use sed_value::{Prim, SlotBuf, SlotType, Value};
+use sed_typed::{Schema, SlotNo, TypeNo};
+use sed_value::{Items, Prim, SlotBuf, SlotType, Value};
 use std::alloc::{AllocError, Global};
 use std::marker::Model;
 
@@ -49,8 +49,8 @@ impl Tiny {
         ensures sys { IfOk result (λ t. IsSys t.schema) }
     {
         let schema = Schema {
-            kits: Items::from_vec(Vec::new(alloc)),
-            classes: Items::from_vec(sys::classes(alloc)?),
+            kits: Items::new(Vec::new(alloc)),
+            classes: Items::new(sys::classes(alloc)?),
         };
         Ok(Tiny {
             schema,

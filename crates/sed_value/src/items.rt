@@ -1,11 +1,11 @@
-//! A list of a program's parts.
+//! Lists that trees and records hold.
 ghost use Rattle.std.specs.Prelude.{◌≡◌, ◌==◌, length};
 
 use std::marker::Model;
 
-/// Items in order. Contracts see them as a list.
+/// Items in their order. Contracts see a list.
 ///
-/// It is made from a vector and gives it back; neither takes memory.
+/// It is made from a vector and gives it back.
 #[derive(Drop)]
 pub struct Items<T> {
     all: Vec<T>,
@@ -20,14 +20,14 @@ impl<T> Model for Items<T> {
 }
 
 impl<T> Items<T> {
-    /// The items of a vector.
-    pub fn from_vec(all: Vec<T>) -> Items<T>
+    /// The items of a vector. Takes no memory.
+    pub fn new(all: Vec<T>) -> Items<T>
         ensures { result ≡ all.items }
     {
         Items { all }
     }
 
-    /// The vector with the items.
+    /// The vector with the items. Takes no memory.
     pub fn into_vec(self) -> Vec<T>
         ensures { result.items ≡ self }
     {
