@@ -4,6 +4,7 @@ pub mod Decimal
 pub mod InPlace
 pub mod Names
 pub mod Refusal
+pub mod Shown
 pub mod SlotType
 pub mod Value
 pub mod Wrap

@@ -2,9 +2,11 @@
 ghost use Rattle.std.specs.Prelude.{◌≡◌, if◌then◌else◌, Some, None, IsTrue};
 ghost use Rattle.sed_value.specs.Characters.{is_letter, is_letter_or_digit};
 ghost use Rattle.sed_value.specs.Names.{is_kit_name, is_first_then};
+ghost use Rattle.sed_value.specs.Shown.{quoted};
 
 use crate::characters::{are_letters_or_digits, is_letter};
 use crate::in_place::InPlace;
+use std::fmt;
 use std::marker::Model;
 
 /// How many characters a kit's name has at most.
@@ -13,7 +15,7 @@ pub const LONGEST_KIT_NAME: usize = 24;
 /// A kit's name, of 1 to 24 characters: a letter, then letters or digits.
 ///
 /// Contracts see it as its bytes, and it compares by them.
-#[derive(Clone, Copy, Debug, PartialEq, Eq, PartialOrd, Ord)]
+#[derive(Clone, Copy, PartialEq, Eq, PartialOrd, Ord)]
 pub struct KitName {
     text: InPlace<LONGEST_KIT_NAME>,
 }
@@ -51,6 +53,15 @@ impl KitName {
         ensures form { IsTrue (is_kit_name self.now) }
     {
         self.text.as_bytes()
+    }
+}
+
+/// Shows its characters in double quotes.
+impl fmt::Debug for KitName {
+    ghost debug_output = { λ name. Some (quoted name) };
+
+    fn fmt<W: fmt::Write>(&self, f: &mut fmt::Formatter<W>) -> fmt::Result {
+        self.text.fmt(f)
     }
 }
 

@@ -2,9 +2,11 @@
 ghost use Rattle.std.specs.Prelude.{◌≡◌, if◌then◌else◌, Some, None, IsTrue};
 ghost use Rattle.sed_value.specs.Characters.{is_letter, is_word_byte};
 ghost use Rattle.sed_value.specs.Names.{is_name, is_first_then};
+ghost use Rattle.sed_value.specs.Shown.{quoted};
 
 use crate::characters::{are_word_bytes, is_letter};
 use crate::in_place::InPlace;
+use std::fmt;
 use std::marker::Model;
 
 /// How many characters a component's name has at most.
@@ -13,7 +15,7 @@ pub const LONGEST_NAME: usize = 31;
 /// A component's name, of 1 to 31 characters: a letter, then letters, digits or `_`.
 ///
 /// Contracts see it as its bytes, and it compares by them.
-#[derive(Clone, Copy, Debug, PartialEq, Eq, PartialOrd, Ord)]
+#[derive(Clone, Copy, PartialEq, Eq, PartialOrd, Ord)]
 pub struct Name {
     text: InPlace<LONGEST_NAME>,
 }
@@ -51,6 +53,15 @@ impl Name {
         ensures form { IsTrue (is_name self.now) }
     {
         self.text.as_bytes()
+    }
+}
+
+/// Shows its characters in double quotes.
+impl fmt::Debug for Name {
+    ghost debug_output = { λ name. Some (quoted name) };
+
+    fn fmt<W: fmt::Write>(&self, f: &mut fmt::Formatter<W>) -> fmt::Result {
+        self.text.fmt(f)
     }
 }
 

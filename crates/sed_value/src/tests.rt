@@ -79,13 +79,13 @@ fn names(rt: HostRuntime) {
     let texts: [(&str, bool, bool, bool); 10] = [
         ("a", true, true, true),
         ("feedwat", true, true, true),
-        ("feedwate", true, false, true),
+        ("feedwate", true, true, true),
         ("", false, false, false),
         ("7up", false, false, false),
         ("_low", true, false, false),
         ("in_1", true, true, false),
         ("in-1", false, false, false),
-        ("abcdefghijklmnopqrstuvwxyzabcde", true, false, false),
+        ("abcdefghijklmnopqrstuvwxyzabcde", true, true, false),
         ("abcdefghijklmnopqrstuvwxyzabcdef", false, false, false),
     ];
     for (text, is_word, is_name, is_kit_name) in texts {

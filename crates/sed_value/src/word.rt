@@ -1,9 +1,11 @@
 //! Identifiers in place.
 ghost use Rattle.std.specs.Prelude.{◌≡◌, if◌then◌else◌, Some, None, IsTrue};
 ghost use Rattle.sed_value.specs.Names.{is_word, is_identifier};
+ghost use Rattle.sed_value.specs.Shown.{quoted};
 
 use crate::characters::{are_word_bytes, is_letter};
 use crate::in_place::InPlace;
+use std::fmt;
 use std::marker::Model;
 
 /// How many characters a word has at most.
@@ -12,7 +14,7 @@ pub const LONGEST_WORD: usize = 31;
 /// An identifier of 1 to 31 characters: a letter or `_`, then letters, digits or `_`.
 ///
 /// Contracts see it as its bytes, and it compares by them.
-#[derive(Clone, Copy, Debug, PartialEq, Eq, PartialOrd, Ord)]
+#[derive(Clone, Copy, PartialEq, Eq, PartialOrd, Ord)]
 pub struct Word {
     text: InPlace<LONGEST_WORD>,
 }
@@ -50,6 +52,15 @@ impl Word {
         ensures form { IsTrue (is_word self.now) }
     {
         self.text.as_bytes()
+    }
+}
+
+/// Shows its characters in double quotes.
+impl fmt::Debug for Word {
+    ghost debug_output = { λ word. Some (quoted word) };
+
+    fn fmt<W: fmt::Write>(&self, f: &mut fmt::Formatter<W>) -> fmt::Result {
+        self.text.fmt(f)
     }
 }
 
