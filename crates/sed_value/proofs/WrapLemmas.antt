@@ -3,7 +3,7 @@ use Rattle.std.proofs.Common.{◌≡◌, ℕ, suc, ◌+◌, ◌*◌, ◌-◌, �
 use Rattle.std.specs.Int.{Width, w8, w16, w32, w64, w128, int_wrap, cast_signed, cast_unsigned}
 use Rattle.std.proofs.lemmas.Int.{int_wrap-add_right, int_wrap_fits, to_z_pos, ints}
 use Rattle.std.proofs.lemmas.Nat.{pow_pos, div-add-mod'}
-use Rattle.std.proofs.Math.Nat.{mod-eq_of_lt, mul-mod_left, mod-lt, add-mul}
+use Rattle.std.proofs.Math.Nat.{mod-eq_of_lt, mul-mod_left, mod-lt, add-mul, add-mul-mod_self_right}
 use Rattle.std.proofs.lemmas.Bool.{cases_lt}
 use Rattle.std.proofs.Math.Facts.{to_z-neg}
 use mir.Val.{bits, hbits}
@@ -80,3 +80,23 @@ wrap-only width number other fits (j, k, equal) =
     ∙ sym (wrap-add_multiple width other j)
     ∙ ap (int_wrap width) equal
     ∙ wrap-add_multiple width number k
+
+-- two numbers below 2 to the width's bits that are equal modulo it are the same
+low-only : (width : Width) (low other : ℕ) → low < 2 ^ bits width → other < 2 ^ bits width
+    → IsEqualModulo width (pos other) (pos low) → other ≡ low
+low-only width low other below other_below (j, k, equal) =
+    let same : other + j * 2 ^ bits width ≡ low + k * 2 ^ bits width = omega (arith, ints, equal) in
+    sym (add-mul-mod_self_right other j (2 ^ bits width) ∙ mod-eq_of_lt other_below)
+    ∙ ap (λ (n : ℕ). n % 2 ^ bits width) same
+    ∙ add-mul-mod_self_right low k (2 ^ bits width)
+    ∙ mod-eq_of_lt below
+
+IsEqualModulo-sym : (width : Width) (a b : ℤ) → IsEqualModulo width a b → IsEqualModulo width b a
+IsEqualModulo-sym width a b (j, k, equal) = (k, j, sym equal)
+
+pub low_bits-only : (width : Width) (number : ℤ) (other : ℕ) → other < 2 ^ bits width → IsEqualModulo width (pos other) number
+    → other ≡ low_bits width number
+low_bits-only width number other below equal =
+    low-only width (low_bits width number) other (low_bits-below width number) below
+    (IsEqualModulo-trans width (pos other) number (pos (low_bits width number)) equal
+    (IsEqualModulo-sym width (pos (low_bits width number)) number (low_bits-equal width number)))

@@ -1,5 +1,5 @@
 //! What `wrap` and `low_bits` mean.
-ghost use Rattle.std.specs.Prelude.{◌≡◌, ◌^◌, ◌<◌, ℤ, pos, FitsSigned};
+ghost use Rattle.std.specs.Prelude.{◌≡◌, ℕ, ◌^◌, ◌<◌, ℤ, pos, FitsSigned};
 ghost use Rattle.std.specs.Int.{Width};
 ghost use Rattle.sed_value.specs.Wrap.{wrap, low_bits, IsEqualModulo};
 ghost use mir.Val.{bits};
@@ -13,9 +13,11 @@ pub fn wrap_is_exact()
         → IsEqualModulo width other number → other ≡ wrap width number }
 {}
 
-/// A law for provers: at each width, the low bits of a whole number are below 2 to the width's bits, and equal
-/// the number modulo that.
+/// A law for provers: at each width, the low bits of a whole number are below 2 to the width's bits, equal the
+/// number modulo that, and are the only number that does both.
 pub fn low_bits_are_exact()
     ensures fit { (width : Width) (number : ℤ) → low_bits width number < 2 ^ bits width }
     ensures equal { (width : Width) (number : ℤ) → IsEqualModulo width (pos (low_bits width number)) number }
+    ensures only { (width : Width) (number : ℤ) (other : ℕ) → other < 2 ^ bits width
+        → IsEqualModulo width (pos other) number → other ≡ low_bits width number }
 {}
