@@ -3,3 +3,8 @@ pub mod Files
 pub mod Sink
 pub mod Named
 pub mod Failing
+pub mod Bounded
+pub mod MemFiles
+pub mod MemSink
+pub mod OutSink
+pub mod Reading

@@ -1,5 +1,6 @@
 //! Calls that fail by number, as those of the memory forms.
-ghost use Rattle.std.specs.Prelude.{◌≡◌, ◌+◌, ◌-◌, ◌^◌, ◌↔◌, min, Contains, IsTrue};
+ghost use Rattle.std.specs.Prelude.{◌≡◌, ◌↔◌, IsTrue};
+ghost use Rattle.sed_outside.specs.Failing.{begins_with, FailsNow, after_call};
 
 use std::marker::Model;
 
@@ -21,17 +22,15 @@ impl Model for FailingCalls {
 impl FailingCalls {
     /// The calls of these numbers fail, and the next call is the first. It takes no memory.
     pub fn new(numbers: Vec<usize>) -> FailingCalls
-        ensures numbers { result.numbers ≡ numbers.items }
-        ensures next { result.next ≡ 0 }
+        ensures { result ≡ begins_with numbers.items }
     {
         FailingCalls { numbers, next: 0 }
     }
 
     /// Whether the next call is one that fails. It counts that call; after 2^64 - 1 calls the number stands still.
     pub fn fails_now(&mut self) -> bool
-        ensures fails { IsTrue result ↔ Contains self.old.numbers self.old.next }
-        ensures next { self.new.next ≡ min (self.old.next + 1) (2 ^ 64 - 1) }
-        ensures numbers { self.new.numbers ≡ self.old.numbers }
+        ensures fails { IsTrue result ↔ FailsNow self.old }
+        ensures next { self.new ≡ after_call self.old }
     {
         let call = self.next;
         self.next = call.saturating_add(1);

@@ -7,6 +7,7 @@
 //! the system's files and a writer. Every crate that reads, writes or prints stands on these traits.
 #![tactic(auto)]
 
+mod bounded_text;
 mod failing_calls;
 mod files;
 mod mem_files;

@@ -1,8 +1,10 @@
 //! Files in memory.
-ghost use Rattle.std.specs.Prelude.{◌≡◌, List, ℕ, Some, IsErr, OnErr, OnOk, ⊤};
+ghost use Rattle.std.specs.Prelude.{◌≡◌, ◌⊎◌, List, ℕ, Some, IsErr, IsErrOf, OnErr, OnOk, ⊤};
 ghost use Rattle.sed_outside.specs.Files.{IsUnreadable, KeepsCounts, ReadsFile, KeepsOthers, WritesFile};
 ghost use Rattle.sed_outside.specs.Cause.{HasCause};
 ghost use Rattle.sed_outside.specs.Named.{contents_of, count_of};
+ghost use Rattle.sed_outside.specs.Failing.{begins_with, FailsNow, after_call};
+ghost use Rattle.sed_outside.specs.MemFiles.{contents_in, plan_of};
 
 use crate::failing_calls::FailingCalls;
 use crate::files::{FileFault, Files, LARGEST_FILE};
@@ -25,6 +27,8 @@ impl MemFiles {
         ensures files { ⟦<MemFiles as Files>⟧.known result ≡ Some (contents_of files.items) }
         ensures reads { (name : List ℕ) → ⟦<MemFiles as Files>⟧.failed_reads result name ≡ 0 }
         ensures writes { (name : List ℕ) → ⟦<MemFiles as Files>⟧.failed_writes result name ≡ 0 }
+        ensures contents { contents_in result ≡ contents_of files.items }
+        ensures fails { plan_of result ≡ begins_with fails.items }
     {
         let alloc = *files.allocator();
         MemFiles {
@@ -57,6 +61,7 @@ fn read_file(files: &[(String, Vec<u8>)], name: &str, into: &mut Vec<u8>) -> Res
     ensures ok { OnOk result (ReadsFile (Some (contents_of files.now)) name.now into.old.items into.new.items) }
     ensures unreadable { IsUnreadable (contents_of files.now name.now) → IsErr result }
     ensures err { OnErr result (into.new.items ≡ into.old.items) }
+    ensures failed { IsErrOf result FileFault.Failed → IsUnreadable (contents_of files.now name.now) }
 {
     match named::find(files, name) {
         Some(bytes) if bytes.len() <= LARGEST_FILE => match into.extend_from_slice(bytes) {
@@ -71,6 +76,7 @@ fn read_file(files: &[(String, Vec<u8>)], name: &str, into: &mut Vec<u8>) -> Res
 fn write_file(files: &mut Vec<(String, Vec<u8>)>, name: &str, bytes: &[u8]) -> Result<(), Memory>
     ensures ok { OnOk result (contents_of files.new.items name.now ≡ Some bytes.now) }
     ensures others { KeepsOthers (Some (contents_of files.old.items)) (Some (contents_of files.new.items)) name.now }
+    ensures err { OnErr result (files.new.items ≡ files.old.items) }
 {
     let alloc = *files.allocator();
     match Vec::from_slice(alloc, bytes) {
@@ -80,13 +86,28 @@ fn write_file(files: &mut Vec<(String, Vec<u8>)>, name: &str, bytes: &[u8]) -> R
 }
 
 impl Files for MemFiles {
-    ghost known = { λ m. Some (contents_of m.files.items) };
+    ghost known = { λ m. Some (contents_in m) };
 
     ghost failed_reads = { λ m. count_of m.failed_reads.items };
 
     ghost failed_writes = { λ m. count_of m.failed_writes.items };
 
-    fn read(&mut self, name: &str, into: &mut Vec<u8>) -> Result<(), FileFault> {
+    /// As every read, and: the call is counted; it fails where its number is among those that fail, and else answers
+    /// `Failed` only for a file that no read gives.
+    fn read(&mut self, name: &str, into: &mut Vec<u8>) -> Result<(), FileFault>
+        ensures ok { OnOk result (ReadsFile (Some (contents_in self.old)) name.now into.old.items into.new.items) }
+        ensures unreadable { IsUnreadable (contents_in self.old name.now) → IsErr result }
+        ensures err { OnErr result (into.new.items ≡ into.old.items) }
+        ensures files { contents_in self.new ≡ contents_in self.old }
+
+        ensures calls { plan_of self.new ≡ after_call (plan_of self.old) }
+        ensures planned { FailsNow (plan_of self.old) → IsErr result }
+        ensures failed { IsErrOf result FileFault.Failed → FailsNow (plan_of self.old) ⊎ IsUnreadable (contents_in self.old name.now) }
+
+        ensures cause { HasCause (⟦<MemFiles as Files>⟧.failed_reads self.old name.now) (⟦<MemFiles as Files>⟧.failed_reads self.new name.now) (IsErrOf result FileFault.Failed) }
+        ensures counts { KeepsCounts ⊤ (⟦<MemFiles as Files>⟧.failed_reads self.old) (⟦<MemFiles as Files>⟧.failed_reads self.new) name.now (IsErrOf result FileFault.Failed) }
+        ensures writes { ⟦<MemFiles as Files>⟧.failed_writes self.new ≡ ⟦<MemFiles as Files>⟧.failed_writes self.old }
+    {
         if self.calls.fails_now() {
             return Err(counted(&mut self.failed_reads, name));
         }
@@ -96,7 +117,21 @@ impl Files for MemFiles {
         }
     }
 
-    fn write(&mut self, name: &str, bytes: &[u8]) -> Result<(), FileFault> {
+    /// As every write, and: the call is counted, and `Failed` comes only where its number is among those that fail. A
+    /// write that is refused changes no file.
+    fn write(&mut self, name: &str, bytes: &[u8]) -> Result<(), FileFault>
+        ensures ok { OnOk result (contents_in self.new name.now ≡ Some bytes.now) }
+        ensures others { KeepsOthers (Some (contents_in self.old)) (Some (contents_in self.new)) name.now }
+        ensures err { OnErr result (contents_in self.new ≡ contents_in self.old) }
+
+        ensures calls { plan_of self.new ≡ after_call (plan_of self.old) }
+        ensures planned { FailsNow (plan_of self.old) → IsErr result }
+        ensures failed { IsErrOf result FileFault.Failed → FailsNow (plan_of self.old) }
+
+        ensures cause { HasCause (⟦<MemFiles as Files>⟧.failed_writes self.old name.now) (⟦<MemFiles as Files>⟧.failed_writes self.new name.now) (IsErrOf result FileFault.Failed) }
+        ensures counts { KeepsCounts ⊤ (⟦<MemFiles as Files>⟧.failed_writes self.old) (⟦<MemFiles as Files>⟧.failed_writes self.new) name.now (IsErrOf result FileFault.Failed) }
+        ensures reads { ⟦<MemFiles as Files>⟧.failed_reads self.new ≡ ⟦<MemFiles as Files>⟧.failed_reads self.old }
+    {
         if self.calls.fails_now() {
             return Err(counted(&mut self.failed_writes, name));
         }

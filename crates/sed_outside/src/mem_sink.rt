@@ -1,6 +1,12 @@
 //! A sink in memory.
-ghost use Rattle.std.specs.Prelude.{◌≡◌, Some, [], IfOk};
+ghost use Rattle.std.specs.Prelude.{◌≡◌, ◌≤◌, ◌+◌, ◌++◌, take, length, Some, [], IfOk, IsOk, IsErr, OnOk, OnErr};
+ghost use Rattle.sed_outside.specs.Bounded.{room_left};
+ghost use Rattle.sed_outside.specs.Cause.{HasCause};
+ghost use Rattle.sed_outside.specs.Failing.{begins_with, FailsNow, after_call};
+ghost use Rattle.sed_outside.specs.MemSink.{held_in, plan_of};
+ghost use Rattle.sed_outside.specs.Sink.{PutsFront};
 
+use crate::bounded_text::BoundedText;
 use crate::failing_calls::FailingCalls;
 use crate::sink::{Sink, SinkFault};
 use sed_value::Memory;
@@ -9,8 +15,7 @@ use std::alloc::Global;
 /// A sink in memory with a room, and with puts that fail by number. It tells its text.
 #[derive(Drop)]
 pub struct MemSink {
-    text: Vec<u8>,
-    room: usize,
+    held: BoundedText,
     calls: FailingCalls,
     faults: u64,
 }
@@ -21,15 +26,17 @@ impl MemSink {
     pub fn new(alloc: Global, room: usize, fails: Vec<usize>) -> Result<MemSink, Memory>
         ensures text { IfOk result (λ sink. ⟦<MemSink as Sink>⟧.text sink ≡ Some []) }
         ensures faults { IfOk result (λ sink. ⟦<MemSink as Sink>⟧.faults sink ≡ 0) }
+        ensures empty { IfOk result (λ sink. (held_in sink).text ≡ []) }
+        ensures room { IfOk result (λ sink. (held_in sink).room ≡ room) }
+        ensures fails { IfOk result (λ sink. plan_of sink ≡ begins_with fails.items) }
     {
-        match Vec::with_capacity(alloc, room) {
-            Ok(text) => Ok(MemSink {
-                text,
-                room,
+        match BoundedText::new(alloc, room) {
+            Ok(held) => Ok(MemSink {
+                held,
                 calls: FailingCalls::new(fails),
                 faults: 0,
             }),
-            Err(_) => Err(Memory),
+            Err(Memory) => Err(Memory),
         }
     }
 
@@ -37,25 +44,34 @@ impl MemSink {
     pub fn text(&self) -> &[u8]
         ensures { ⟦<MemSink as Sink>⟧.text self.now ≡ Some result.now }
     {
-        &self.text
+        self.held.as_slice()
     }
 }
 
 impl Sink for MemSink {
-    ghost text = { λ m. Some m.text.items };
+    ghost text = { λ m. Some (held_in m).text };
 
     ghost faults = { λ m. m.faults };
 
-    fn put(&mut self, bytes: &[u8]) -> Result<(), SinkFault> {
-        let fails = self.calls.fails_now();
-        let left = self.room.saturating_sub(self.text.len());
-        let front = if fails { 0 } else { left.min(bytes.len()) };
-        let taken = self.text.extend_from_slice(&bytes[..front]).is_ok();
-        if taken && !fails && front == bytes.len() {
-            Ok(())
-        } else {
-            self.faults = self.faults.saturating_add(1);
-            Err(SinkFault::Failed)
+    /// As every put, and: the put is counted. One whose number is among those that fail puts nothing. Any other puts
+    /// the front that fits, and is done exactly where that is all.
+    fn put(&mut self, bytes: &[u8]) -> Result<(), SinkFault>
+        ensures ok { OnOk result ((held_in self.new).text ≡ (held_in self.old).text ++ bytes.now) }
+        ensures err { OnErr result (PutsFront (Some (held_in self.old).text) (Some (held_in self.new).text) bytes.now) }
+        ensures cause { HasCause (⟦<MemSink as Sink>⟧.faults self.old) (⟦<MemSink as Sink>⟧.faults self.new) (IsErr result) }
+        ensures by_one { ⟦<MemSink as Sink>⟧.faults self.new ≤ ⟦<MemSink as Sink>⟧.faults self.old + 1 }
+
+        ensures room { (held_in self.new).room ≡ (held_in self.old).room }
+        ensures calls { plan_of self.new ≡ after_call (plan_of self.old) }
+        ensures planned { FailsNow (plan_of self.old) → IsErr result × ((held_in self.new).text ≡ (held_in self.old).text) }
+        ensures front { (FailsNow (plan_of self.old) → ⊥)
+            → (held_in self.new).text ≡ (held_in self.old).text ++ take (room_left (held_in self.old)) bytes.now }
+        ensures fits { (FailsNow (plan_of self.old) → ⊥) → length bytes.now ≤ room_left (held_in self.old) → IsOk result }
+    {
+        if !self.calls.fails_now() && self.held.put(bytes) {
+            return Ok(());
         }
+        self.faults = self.faults.saturating_add(1);
+        Err(SinkFault::Failed)
     }
 }

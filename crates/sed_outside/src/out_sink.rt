@@ -1,6 +1,9 @@
 //! The edge over a writer, which tells nothing of what was put.
-ghost use Rattle.std.specs.Prelude.{◌≡◌, None, OnOk};
+ghost use Rattle.std.specs.Prelude.{◌≡◌, ◌≤◌, ◌+◌, None, OnOk, OnErr, IsErr};
 ghost use Rattle.std.specs.Io.KnownBytes.{Appends};
+ghost use Rattle.sed_outside.specs.Cause.{HasCause};
+ghost use Rattle.sed_outside.specs.OutSink.{writer_of};
+ghost use Rattle.sed_outside.specs.Sink.{with_text, PutsFront};
 
 use crate::sink::{Sink, SinkFault};
 use std::io::{self, Write};
@@ -15,7 +18,8 @@ pub struct OutSink<W> {
 impl<W: Write> OutSink<W> {
     /// A sink over this writer, of which no put has failed yet.
     pub fn new(out: W) -> OutSink<W>
-        ensures { ⟦<OutSink<W> as Sink>⟧.faults result ≡ 0 }
+        ensures faults { ⟦<OutSink<W> as Sink>⟧.faults result ≡ 0 }
+        ensures writer { writer_of result ≡ out }
     {
         OutSink { out, faults: 0 }
     }
@@ -34,7 +38,14 @@ impl<W: Write> Sink for OutSink<W> {
 
     ghost faults = { λ s. s.faults };
 
-    fn put(&mut self, bytes: &[u8]) -> Result<(), SinkFault> {
+    /// As every put, and: where the writer's bytes are known, a put that is done adds exactly these.
+    fn put(&mut self, bytes: &[u8]) -> Result<(), SinkFault>
+        ensures ok { OnOk result (⟦<OutSink<W> as Sink>⟧.text self.new ≡ with_text (⟦<OutSink<W> as Sink>⟧.text self.old) bytes.now) }
+        ensures err { OnErr result (PutsFront (⟦<OutSink<W> as Sink>⟧.text self.old) (⟦<OutSink<W> as Sink>⟧.text self.new) bytes.now) }
+        ensures cause { HasCause (⟦<OutSink<W> as Sink>⟧.faults self.old) (⟦<OutSink<W> as Sink>⟧.faults self.new) (IsErr result) }
+        ensures by_one { ⟦<OutSink<W> as Sink>⟧.faults self.new ≤ ⟦<OutSink<W> as Sink>⟧.faults self.old + 1 }
+        ensures written { OnOk result (Appends (W.contents (writer_of self.old)) (W.contents (writer_of self.new)) bytes.now) }
+    {
         match write_through(&mut self.out, bytes) {
             Ok(()) => Ok(()),
             Err(_) => {

@@ -1,9 +1,11 @@
 //! The edge over the system's files, which tells nothing of what they hold.
-ghost use Rattle.std.specs.Prelude.{◌≡◌, ◌+◌, List, ℕ, None, OnOk, OnErr, IfOk, take, vec_len};
-ghost use Rattle.sed_outside.specs.Files.{ReadsFile};
+ghost use Rattle.std.specs.Prelude.{◌≡◌, ◌↔◌, ◌+◌, ◌≤◌, List, [], ℕ, None, OnOk, OnErr, IfOk, IfSome, IsTrue, take, vec_len};
+ghost use Rattle.std.specs.IoError.{error_kind};
+ghost use Rattle.sed_outside.specs.Files.{ReadsFile, largest_file};
+ghost use Rattle.sed_outside.specs.Reading.{ReadsWhole, ReadsBytes};
 
 use crate::files::{FileFault, Files, LARGEST_FILE};
-use std::io::{self, Read};
+use std::io::{self, ErrorKind, Read};
 use std::{fs, rt};
 
 /// The system's files. One number counts the failed reads of every name, and one the failed writes.
@@ -28,22 +30,40 @@ impl<'a, R: rt::Files> RealFiles<'a, R> {
     }
 }
 
-// Reads the file behind the bytes of `into`, and at most one byte more than the largest file has.
-fn append_file<R: rt::Files>(rt: &R, name: &str, into: &mut Vec<u8>) -> io::Result<usize>
-    ensures kept { take (vec_len into.old) into.new.items ≡ into.old.items }
-    ensures count { IfOk result (λ count. vec_len into.new ≡ vec_len into.old + count) }
-{
-    fs::open(rt, name)?
-        .take(LARGEST_FILE as u64 + 1)
-        .read_to_end(into)
-}
-
 // What an error of the system is to the caller.
-fn fault_of(error: &io::Error) -> FileFault {
+fn fault_of(error: &io::Error) -> FileFault
+    ensures { (result ≡ FileFault.Memory) ↔ (error_kind error.now ≡ ErrorKind.OutOfMemory) }
+{
     match error.kind() {
-        io::ErrorKind::OutOfMemory => FileFault::Memory,
+        ErrorKind::OutOfMemory => FileFault::Memory,
         _ => FileFault::Failed,
     }
+}
+
+// Reads what the reader has behind the bytes of `into`, up to one byte more than the largest file. Whether it was whole.
+fn read_whole<R: Read + Drop>(reader: R, into: &mut Vec<u8>) -> io::Result<bool>
+    ensures whole { IfOk result (λ whole. IfSome (R.remaining reader) (λ bytes. ReadsWhole bytes into.old.items into.new.items whole)) }
+    ensures small { IfOk result (λ whole. IsTrue whole → vec_len into.new ≤ vec_len into.old + largest_file) }
+    ensures kept { take (vec_len into.old) into.new.items ≡ into.old.items }
+{
+    let count = reader.take(LARGEST_FILE as u64 + 1).read_to_end(into)?;
+    Ok(count <= LARGEST_FILE)
+}
+
+// Reads what the reader has behind the bytes of `into`, or leaves these as they were.
+fn read_from<R: Read + Drop>(reader: R, into: &mut Vec<u8>) -> Result<(), FileFault>
+    ensures ok { OnOk result (ReadsFile None [] into.old.items into.new.items) }
+    ensures bytes { OnOk result (IfSome (R.remaining reader) (ReadsBytes into.old.items into.new.items)) }
+    ensures err { OnErr result (into.new.items ≡ into.old.items) }
+{
+    let before = into.len();
+    let fault = match read_whole(reader, into) {
+        Ok(true) => return Ok(()),
+        Ok(false) => FileFault::Failed,
+        Err(error) => fault_of(&error),
+    };
+    into.truncate(before);
+    Err(fault)
 }
 
 // Reads the file behind the bytes of `into`, or leaves these as they were.
@@ -51,14 +71,10 @@ fn read_file<R: rt::Files>(rt: &R, name: &str, into: &mut Vec<u8>) -> Result<(),
     ensures ok { OnOk result (ReadsFile None name.now into.old.items into.new.items) }
     ensures err { OnErr result (into.new.items ≡ into.old.items) }
 {
-    let before = into.len();
-    let fault = match append_file(rt, name, into) {
-        Ok(count) if count <= LARGEST_FILE => return Ok(()),
-        Ok(_) => FileFault::Failed,
-        Err(error) => fault_of(&error),
-    };
-    into.truncate(before);
-    Err(fault)
+    match fs::open(rt, name) {
+        Ok(file) => read_from(file, into),
+        Err(error) => Err(fault_of(&error)),
+    }
 }
 
 impl<'a, R: rt::Files> Files for RealFiles<'a, R> {

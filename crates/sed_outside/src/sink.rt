@@ -1,5 +1,5 @@
 //! Where printed text goes.
-ghost use Rattle.std.specs.Prelude.{◌≡◌, List, ℕ, Option, OnOk, OnErr, IsErr};
+ghost use Rattle.std.specs.Prelude.{◌≡◌, ◌≤◌, ◌+◌, List, ℕ, Option, OnOk, OnErr, IsErr};
 ghost use Rattle.sed_outside.specs.Cause.{HasCause};
 ghost use Rattle.sed_outside.specs.Sink.{with_text, PutsFront};
 
@@ -18,7 +18,7 @@ pub trait Sink {
     /// The bytes that were put so far, where they are told. Whether they are told is changed by no call.
     ghost text: { Self → Option (List ℕ) };
 
-    /// How many puts have failed. The count never falls, and stands still at 2^64 - 1.
+    /// How many puts have failed. The count never falls, goes on by one, and stands still at 2^64 - 1.
     ghost faults: { Self → ℕ };
 
     /// Puts these bytes behind those that were put before. It takes no memory. After a fault a front of them stands
@@ -26,5 +26,6 @@ pub trait Sink {
     fn put(&mut self, bytes: &[u8]) -> Result<(), SinkFault>
         ensures ok { OnOk result (text self.new ≡ with_text (text self.old) bytes.now) }
         ensures err { OnErr result (PutsFront (text self.old) (text self.new) bytes.now) }
-        ensures cause { HasCause (faults self.old) (faults self.new) (IsErr result) };
+        ensures cause { HasCause (faults self.old) (faults self.new) (IsErr result) }
+        ensures by_one { faults self.new ≤ faults self.old + 1 };
 }

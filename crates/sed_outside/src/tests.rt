@@ -94,8 +94,9 @@ fn memory_forms_fail_by_number(rt: HostRuntime) -> Result<(), Fail> {
     Ok(())
 }
 
-// The system's files are written and read back, at the largest size too; one that isn't there and one that is too
-// large fail, and so does a write into a folder that isn't there. `into` then holds what it held.
+// The system's files are written and read back, at the largest size too, and nothing is left of one that held
+// something and is written as empty; one that isn't there and one that is too large fail, and so does a write into a
+// folder that isn't there. `into` then holds what it held.
 #[test]
 fn real_files_reach_the_system(rt: HostRuntime) -> Result<(), Fail> {
     let name = "sed_outside_real_files.txt";
@@ -114,6 +115,10 @@ fn real_files_reach_the_system(rt: HostRuntime) -> Result<(), Fail> {
     assert_eq!(rt; into.as_slice(), b"held ab".as_slice());
 
     assert_eq!(rt; files.write(name, &large[1..]), Ok(()));
+    assert_eq!(rt; files.read(name, &mut into), Ok(()));
+    assert_eq!(rt; into.len(), LARGEST_FILE + 7);
+
+    assert_eq!(rt; files.write(name, b""), Ok(()));
     assert_eq!(rt; files.read(name, &mut into), Ok(()));
     assert_eq!(rt; into.len(), LARGEST_FILE + 7);
     fs::remove_file(&rt, name)?;
