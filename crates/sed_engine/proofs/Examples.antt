@@ -38,6 +38,17 @@ narrows : (p : Pointer) → outcome (run (narrow p) 10) (1 ∷ []) ≡ (end.Done
 unfolding narrow calls_with
 narrows p = refl
 
+-- x = (byte) 4294967596L; y = (short) -1L: the low bits of a long, as an int
+low_bits_of_long : Pointer → Program
+low_bits_of_long p = simple (int_field ∷ int_field ∷ [])
+    (block p
+    (set_y p (expr.Unary' (unary.LowByte width.Long) p (expr.Long (pos 4294967596))))
+    (set p prim.Int 2 (expr.Unary' (unary.LowShort width.Long) p (expr.Long (negsuc 0)))))
+
+low_bits_of_long_are : (p : Pointer) → outcome (run (low_bits_of_long p) 10) (1 ∷ 2 ∷ []) ≡ done 10 (44 ∷ 65535 ∷ [])
+unfolding low_bits_of_long calls_with int_wrap
+low_bits_of_long_are p = refl
+
 -- the value of `b = 300` is what b then reads as: y = (b = 300)
 narrow_value : Pointer → Program
 narrow_value p = simple (int_field ∷ field 5 (form.Prim prim.Byte) (kept.Byte 0) ∷ []) (set_y p (expr.Set' (own_place p prim.Byte 2) p (int 300)))

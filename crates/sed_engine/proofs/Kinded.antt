@@ -57,10 +57,6 @@ HasKind program class kind.Text (Literal n) = n < length program.texts
 HasKind program class kind.Text (At spot) = (n : ℕ) × (form_from program class spot.base spot.path ≡ Some (form.Str n))
 HasKind program class (kind.Object d) Null = Unit {0}
 HasKind program class (kind.Object d) (At spot) = IsObject program class d.0 spot
-HasKind program class (kind.Array p n) Null = Unit {0}
-HasKind program class (kind.Array p n) (At spot) = form_from program class spot.base spot.path ≡ Some (form.Array p n)
-HasKind program class (kind.Buf n) Null = Unit {0}
-HasKind program class (kind.Buf n) (At spot) = form_from program class spot.base spot.path ≡ Some (form.Buf n)
 HasKind program class k v = ⊥
 
 module _ (program : Program) (class : ℕ) where
@@ -170,10 +166,14 @@ module _ (program : Program) (class : ℕ) where
   unary_is unary.ToLong v h = absurd h
   unary_is unary.ToInt (Long n) h = wrapped w32 n
   unary_is unary.ToInt v h = absurd h
-  unary_is unary.LowByte (Int n) h = small_byte _ (low_byte n)
-  unary_is unary.LowByte v h = absurd h
-  unary_is unary.LowShort (Int n) h = small_short _ (low_short n)
-  unary_is unary.LowShort v h = absurd h
+  unary_is (unary.LowByte width.Int) (Int n) h = small_byte _ (low_byte n)
+  unary_is (unary.LowByte width.Int) v h = absurd h
+  unary_is (unary.LowByte width.Long) (Long n) h = small_byte _ (low_byte n)
+  unary_is (unary.LowByte width.Long) v h = absurd h
+  unary_is (unary.LowShort width.Int) (Int n) h = small_short _ (low_short n)
+  unary_is (unary.LowShort width.Int) v h = absurd h
+  unary_is (unary.LowShort width.Long) (Long n) h = small_short _ (low_short n)
+  unary_is (unary.LowShort width.Long) v h = absurd h
 
   pub truth_of_met : (v : Val) → Has kind.Bool v → Sound (Has kind.Bool) (map_ok truth (is_met v))
   truth_of_met (Truth t) h = truth_is _
@@ -225,8 +225,6 @@ module _ (program : Program) (class : ℕ) where
   zero_is kind.Long = refl
   zero_is kind.Text = tt
   zero_is (kind.Object d) = tt
-  zero_is (kind.Array p n) = tt
-  zero_is (kind.Buf n) = tt
 
   pub held : (k : Kind) (v : Val) → Has k v → Held k v
   held k Nothing h = zero_is k

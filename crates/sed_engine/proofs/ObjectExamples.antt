@@ -1,5 +1,6 @@
 -- What small programs come to, computed from the definitions: inline objects, arrays and Strs.
 use Rattle.std.proofs.Common.{◌≡◌, pos, negsuc, [], ◌∷◌, Some, codes, true, false, refl}
+use Rattle.std.specs.Int.{int_wrap}
 use Rattle.sed_value.specs.declared.value.Value.TheVariants as kept
 use Rattle.sed_value.specs.declared.slot_type.Primitive.TheVariants as prim
 use Rattle.sed_typed.specs.declared.kind.Kind.TheVariants as kind
@@ -39,12 +40,12 @@ inline_keeps : (p : Pointer) → value_at (run (inline p) 10).contents (2 ∷ 0 
 unfolding inline calls_with
 inline_keeps p = refl
 
--- an array of 3 bytes as field 2
-bytes : Pointer → Expr
-bytes p = chain p this (link.Elements (kind.Array prim.Byte 3) 2)
+-- an element of an array of 3 bytes, which is field 2
+byte_at : Pointer → Expr → Expr
+byte_at p i = chain p this (link.Element prim.Byte 3 2 i)
 
 element : Pointer → Expr → Place
-element p i = place.Element' prim.Byte 3 p (bytes p) p i
+element p i = place.Element' prim.Byte 3 p this 2 p i
 
 with_bytes : Stmt → Program
 with_bytes body = simple (int_field ∷ field 5 (form.Array prim.Byte 3) kept.Nothing ∷ []) body
@@ -52,10 +53,10 @@ with_bytes body = simple (int_field ∷ field 5 (form.Array prim.Byte 3) kept.No
 -- a[2] = 257; y = a[2]
 last_element : Pointer → Program
 last_element p =
-    with_bytes (block p (stmt.Do (expr.Set' (element p (int 2)) p (int 257))) (set_y p (chain p (bytes p) (link.Element prim.Byte 3 (int 2)))))
+    with_bytes (block p (stmt.Do (expr.Set' (element p (int 2)) p (int 257))) (set_y p (byte_at p (int 2))))
 
 last_element_is : (p : Pointer) → outcome (run (last_element p) 10) (1 ∷ []) ≡ done 10 (1 ∷ [])
-unfolding last_element with_bytes bytes element calls_with
+unfolding last_element with_bytes byte_at element calls_with
 last_element_is p = refl
 
 -- a[3] = (y = 1): the index is tested at the store, after the value
@@ -63,7 +64,7 @@ one_past : Pointer → Program
 one_past p = with_bytes (stmt.Do (expr.Set' (element p (int 3)) p (y_is p 1)))
 
 one_past_traps : (p : Pointer) → outcome (run (one_past p) 10) (1 ∷ []) ≡ trapped 3 (1 ∷ [])
-unfolding one_past with_bytes bytes element calls_with
+unfolding one_past with_bytes element calls_with
 one_past_traps p = refl
 
 -- a[3] += (y = 1): the index is tested at the read, before the operand
@@ -72,15 +73,15 @@ one_past_update p =
     with_bytes (stmt.Do (expr.Update' (record { arithmetic = op.Add; width = width.Int; gives = New }) (element p (int 3)) p (y_is p 1)))
 
 one_past_update_traps : (p : Pointer) → outcome (run (one_past_update p) 10) (1 ∷ []) ≡ trapped 3 (0 ∷ [])
-unfolding one_past_update with_bytes bytes element calls_with
+unfolding one_past_update with_bytes element calls_with
 one_past_update_traps p = refl
 
 -- a[-1] is outside too
 below_array : Pointer → Program
-below_array p = with_bytes (set_y p (chain p (bytes p) (link.Element prim.Byte 3 (expr.Int (negsuc 0)))))
+below_array p = with_bytes (set_y p (byte_at p (expr.Int (negsuc 0))))
 
 below_array_traps : (p : Pointer) → outcome (run (below_array p) 10) (1 ∷ []) ≡ trapped 3 (0 ∷ [])
-unfolding below_array with_bytes bytes calls_with
+unfolding below_array with_bytes byte_at calls_with
 below_array_traps p = refl
 
 -- a Str of 3 bytes as field 2, and what is called on it
@@ -178,24 +179,23 @@ same_is p = refl
 -- a Buf(4) that holds two bytes: y = b.size, and x = b.bytes[1]; then b.bytes[2] is outside
 buffer : Pointer → Program
 buffer p =
-    let b : Expr = chain p this (link.Elements (kind.Buf 4) 3) in
     simple (int_field ∷ int_field ∷ field 5 (form.Buf 4) (kept.Buf (8 ∷ 9 ∷ [])) ∷ [])
     (block_of_three p
-    (set_y p (chain p b link.Size))
-    (set p prim.Int 2 (chain p b (link.Byte (int 1))))
-    (set_y p (chain p b (link.Byte (int 2)))))
+    (set_y p (chain p this (link.Size 3)))
+    (set p prim.Int 2 (chain p this (link.Byte 3 (int 1))))
+    (set_y p (chain p this (link.Byte 3 (int 2)))))
 
 buffer_is : (p : Pointer) → outcome (run (buffer p) 10) (1 ∷ 2 ∷ []) ≡ trapped 3 (2 ∷ 9 ∷ [])
 unfolding buffer calls_with
 buffer_is p = refl
 
--- (y = 1, a)[1 / 0] = 0: the receiver before the index
+-- (y = 1, this).a[1 / 0] = 0: the receiver before the index
 receiver_first : Pointer → Program
 receiver_first p =
-    with_bytes (stmt.Do (expr.Set' (place.Element' prim.Byte 3 p (chain p (y_is p 1) (link.After (bytes p))) p (chain p (int 1) (by op.Divide (int 0)))) p (int 0)))
+    with_bytes (stmt.Do (expr.Set' (place.Element' prim.Byte 3 p (chain p (y_is p 1) (link.After this)) 2 p (chain p (int 1) (by op.Divide (int 0)))) p (int 0)))
 
 receiver_first_traps : (p : Pointer) → outcome (run (receiver_first p) 10) (1 ∷ []) ≡ trapped 1 (1 ∷ [])
-unfolding receiver_first with_bytes bytes calls_with
+unfolding receiver_first with_bytes calls_with
 receiver_first_traps p = refl
 
 -- a[1 / 0] = (y = 1): the index before the value
@@ -203,7 +203,7 @@ index_first : Pointer → Program
 index_first p = with_bytes (stmt.Do (expr.Set' (element p (chain p (int 1) (by op.Divide (int 0)))) p (y_is p 1)))
 
 index_first_traps : (p : Pointer) → outcome (run (index_first p) 10) (1 ∷ []) ≡ trapped 1 (0 ∷ [])
-unfolding index_first with_bytes bytes element calls_with
+unfolding index_first with_bytes element calls_with
 index_first_traps p = refl
 
 -- a Str of 6 bytes: s.copyFromStr("abc") fills with zeros
@@ -213,3 +213,73 @@ filling p = simple (int_field ∷ field 5 (form.Str 6) kept.Nothing ∷ []) (blo
 filling_is : (p : Pointer) → outcome (run (filling p) 10) (1 ∷ 2 ∷ []) ≡ (end.Done 10, Some (kept.Int (pos 3)) ∷ Some (kept.Buf (97 ∷ 98 ∷ 99 ∷ 0 ∷ 0 ∷ 0 ∷ [])) ∷ [])
 unfolding filling str call0 call1 calls_with
 filling_is p = refl
+
+-- ---- elements of the array of null, and of a static array
+
+-- (null).a[y = 1]: the index is evaluated, and then null is tested
+null_element : Pointer → Program
+null_element p = with_bytes (stmt.Do (chain p (expr.Null (kind.Object (record { 0 = 5 }))) (link.Element prim.Byte 3 2 (y_is p 1))))
+
+null_element_traps : (p : Pointer) → outcome (run (null_element p) 10) (1 ∷ []) ≡ trapped 2 (1 ∷ [])
+unfolding null_element with_bytes calls_with
+null_element_traps p = refl
+
+-- (null).a[3] = (y = 1): null is tested at the store, before the index
+null_element_store : Pointer → Program
+null_element_store p =
+    with_bytes (stmt.Do (expr.Set' (place.Element' prim.Byte 3 p (expr.Null (kind.Object (record { 0 = 5 }))) 2 p (int 3)) p (y_is p 1)))
+
+null_element_store_traps : (p : Pointer) → outcome (run (null_element_store p) 10) (1 ∷ []) ≡ trapped 2 (1 ∷ [])
+unfolding null_element_store with_bytes calls_with
+null_element_store_traps p = refl
+
+-- (null).b.size, and (null).b.bytes[y = 1], of a Buf b
+null_size : Pointer → Program
+null_size p = simple (int_field ∷ []) (stmt.Do (chain p (expr.Null (kind.Object (record { 0 = 5 }))) (link.Size 2)))
+
+null_size_traps : (p : Pointer) → outcome (run (null_size p) 10) (1 ∷ []) ≡ trapped 2 (0 ∷ [])
+unfolding null_size calls_with
+null_size_traps p = refl
+
+null_byte : Pointer → Program
+null_byte p = simple (int_field ∷ []) (stmt.Do (chain p (expr.Null (kind.Object (record { 0 = 5 }))) (link.Byte 2 (y_is p 1))))
+
+null_byte_traps : (p : Pointer) → outcome (run (null_byte p) 10) (1 ∷ []) ≡ trapped 2 (1 ∷ [])
+unfolding null_byte calls_with
+null_byte_traps p = refl
+
+-- static inline int[3] A.a, static 0
+with_static : Stmt → Program
+with_static body = record (simple (int_field ∷ []) body) { statics = field 5 (form.Array prim.Int 3) kept.Nothing ∷ [] }
+
+-- A.a[2] = 7; A.a[2] += 1; y = A.a[2]
+static_element : Pointer → Program
+static_element p =
+    with_static (block_of_three p
+    (stmt.Do (expr.Set' (place.StaticElement' prim.Int 3 0 p (int 2)) p (int 7)))
+    (stmt.Do (expr.Update' (record { arithmetic = op.Add; width = width.Int; gives = New }) (place.StaticElement' prim.Int 3 0 p (int 2)) p (int 1)))
+    (set_y p (expr.StaticElement' prim.Int 3 0 p (int 2))))
+
+static_element_is : (p : Pointer) → outcome (run (static_element p) 10) (1 ∷ []) ≡ done 10 (8 ∷ [])
+unfolding static_element with_static calls_with int_wrap
+static_element_is p = refl
+
+static_element_keeps : (p : Pointer) → value_at (run (static_element p) 10).statics (0 ∷ 2 ∷ []) ≡ Some (kept.Int (pos 8))
+unfolding static_element with_static calls_with int_wrap
+static_element_keeps p = refl
+
+-- A.a[3] = (y = 1): the index is tested at the store, after the value
+past_static : Pointer → Program
+past_static p = with_static (stmt.Do (expr.Set' (place.StaticElement' prim.Int 3 0 p (int 3)) p (y_is p 1)))
+
+past_static_traps : (p : Pointer) → outcome (run (past_static p) 10) (1 ∷ []) ≡ trapped 3 (1 ∷ [])
+unfolding past_static with_static calls_with
+past_static_traps p = refl
+
+-- y = A.a[3]
+past_static_read : Pointer → Program
+past_static_read p = with_static (set_y p (expr.StaticElement' prim.Int 3 0 p (int 3)))
+
+past_static_read_traps : (p : Pointer) → outcome (run (past_static_read p) 10) (1 ∷ []) ≡ trapped 3 (0 ∷ [])
+unfolding past_static_read with_static calls_with
+past_static_read_traps p = refl

@@ -1,5 +1,5 @@
 -- Fields, statics and elements as expressions and places name them.
-use Rattle.std.proofs.Common.{◌≡◌, ℕ, Bool, true, if◌then◌else◌, List, [], ◌∷◌, ◌++◌, map, Option, Some, None, Ok, refl, sym, ap, subst, ◌∙◌}
+use Rattle.std.proofs.Common.{◌≡◌, ℕ, Bool, true, if◌then◌else◌, List, [], ◌∷◌, ◌++◌, map, Option, Some, None, refl, sym, ap, subst, ◌∙◌}
 use Rattle.std.specs.Prelude.{nat_lt, slice_get}
 use Rattle.std.specs.Option.{option_and_then, option_map}
 use Rattle.std.proofs.lemmas.Option.{same_Some}
@@ -15,11 +15,11 @@ use Rattle.sed_typed.specs.Classes.{fields}
 use Rattle.sed_typed.specs.Kinds.{read_kind}
 use Rattle.sed_typed.specs.Objects.{form_class, field_class, object_class}
 use Rattle.sed_typed.specs.Typed.{Typed}
-use Rattle.sed_typed.specs.TypedExpr.{part_kind, elements_kind, first_kind, field_form, static_form}
+use Rattle.sed_typed.specs.TypedExpr.{part_kind, field_form, static_form}
 use Rattle.sed_engine.specs.Values.{Val, Null, At, Statics, Spot}
-use Rattle.sed_engine.specs.State.{State, gives, answers, then_do}
+use Rattle.sed_engine.specs.State.{State, gives, then_do}
 use Rattle.sed_engine.specs.Steps.{inside}
-use Rattle.sed_engine.specs.Places.{Target, OfLocal, OfStatic, OfField, OfElement, static_spot, elements_of, element_spot, field_spot, fetch, put}
+use Rattle.sed_engine.specs.Places.{Target, OfLocal, OfStatic, OfField, OfElement, OfStaticElement, static_spot, field_spot, element_spot, field_element, fetch, put}
 use Rattle.sed_engine.specs.Texts.{index_of}
 use Rattle.sed_engine.specs.Fits.{form_at, form_below}
 use Rattle.sed_engine.specs.Program.{shape_of}
@@ -72,7 +72,7 @@ static_there program class i f e =
       class_is = class_there program (field_class (slice_get program.statics i)) ∙ ap field_class x.1 ∙ ap form_class x.2;
     }
 
--- a part, and an array or a Buf, is a value of its kind
+-- a part is a value of its kind
 pub part_is : (program : Program) (class : ℕ) (spot : Spot) (f : FieldForm) (k : Kind) → StandsAt program class spot f → part_kind f ≡ Some k → HasKind program class k (At spot)
 part_is program class spot (form.Object t) k s e = subst (λ (x : Kind). HasKind program class x (At spot)) (same_Some (kind.Object t) k e) (record { at = t.0; is = s.class_is; below = Itself })
 part_is program class spot (form.Str n) k s e = subst (λ (x : Kind). HasKind program class x (At spot)) (same_Some kind.Text k e) (n, s.form)
@@ -80,36 +80,15 @@ part_is program class spot (form.Prim p) k s e = absent k e
 part_is program class spot (form.Buf n) k s e = absent k e
 part_is program class spot (form.Array p n) k s e = absent k e
 
-pub elements_are : (program : Program) (class : ℕ) (spot : Spot) (f : FieldForm) (k : Kind) → StandsAt program class spot f → elements_kind f ≡ Some k → HasKind program class k (At spot)
-elements_are program class spot (form.Array p n) k s e = subst (λ (x : Kind). HasKind program class x (At spot)) (same_Some (kind.Array p n) k e) s.form
-elements_are program class spot (form.Buf n) k s e = subst (λ (x : Kind). HasKind program class x (At spot)) (same_Some (kind.Buf n) k e) s.form
-elements_are program class spot (form.Prim p) k s e = absent k e
-elements_are program class spot (form.Str n) k s e = absent k e
-elements_are program class spot (form.Object t) k s e = absent k e
-
-pub static_part_is : (program : Program) (class i : ℕ) (k : Kind) → option_and_then (λ f. first_kind (part_kind f) (elements_kind f)) (static_form program i) ≡ Some k → HasKind program class k (At (static_spot i))
-static_part_is program class i k e = go (static_form program i) refl e
-  where
-    of_form : (f : FieldForm) → StandsAt program class (static_spot i) f → (p q : Option Kind) → part_kind f ≡ p → elements_kind f ≡ q → first_kind p q ≡ Some k → HasKind program class k (At (static_spot i))
-    of_form f s (Some j) q a b e = part_is program class (static_spot i) f k s (a ∙ e)
-    of_form f s None q a b e = elements_are program class (static_spot i) f k s (b ∙ e)
-
-    go : (o : Option FieldForm) → static_form program i ≡ o → option_and_then (λ f. first_kind (part_kind f) (elements_kind f)) o ≡ Some k → HasKind program class k (At (static_spot i))
-    go None is e = absent k e
-    go (Some f) is e = of_form f (static_there program class i f is) (part_kind f) (elements_kind f) refl refl e
-
--- of an array or a Buf only the kind is null's
-pub null_elements : (program : Program) (class : ℕ) (f : FieldForm) (k : Kind) → elements_kind f ≡ Some k → HasKind program class k Null
-null_elements program class (form.Array p n) k e = subst (λ (x : Kind). HasKind program class x Null) (same_Some (kind.Array p n) k e) tt
-null_elements program class (form.Buf n) k e = subst (λ (x : Kind). HasKind program class x Null) (same_Some (kind.Buf n) k e) tt
-null_elements program class (form.Prim p) k e = absent k e
-null_elements program class (form.Str n) k e = absent k e
-null_elements program class (form.Object t) k e = absent k e
-
 -- a form that stands inside what a kind is
 some_form : (o : Option FieldForm) (g : FieldForm → Option Kind) (k : Kind) → option_and_then g o ≡ Some k → (f : FieldForm) × (o ≡ Some f) × (g f ≡ Some k)
 some_form None g k e = absent k e
 some_form (Some f) g k e = (f, refl, e)
+
+pub static_part_is : (program : Program) (class i : ℕ) (k : Kind) → option_and_then part_kind (static_form program i) ≡ Some k → HasKind program class k (At (static_spot i))
+static_part_is program class i k e =
+    let f : (f : FieldForm) × (static_form program i ≡ Some f) × (part_kind f ≡ Some k) = some_form (static_form program i) part_kind k e in
+    part_is program class (static_spot i) f.0 k (static_there program class i f.0 f.1) f.2
 
 module _ (program : Program) (typed : Typed program) (class : ℕ) (component : Concrete program class) (m : Frame) where
   abbrev pub G : State → Type 0
@@ -130,23 +109,21 @@ module _ (program : Program) (typed : Typed program) (class : ℕ) (component : 
       then_holds (field_holds d v i f.0 h f.1) (λ spot s. gives_it (At spot) (part_is program class spot f.0 part s f.2))
   part_holds k v i part h e = absent part e
 
-  pub elements_hold : (k : Kind) (v : Val) (i : ℕ) (part : Kind) → Has k v → option_and_then elements_kind (field_form program k i) ≡ Some part → Holds G Val (Has part) (answers (elements_of v i))
-  elements_hold (kind.Object d) v i part h e = go v h (some_form (field_form program (kind.Object d) i) elements_kind part e)
-    where
-      go : (v : Val) → Has (kind.Object d) v → (f : FieldForm) × (field_form program (kind.Object d) i ≡ Some f) × (elements_kind f ≡ Some part) → Holds G Val (Has part) (answers (elements_of v i))
-      go Null h f = answers_it (Ok Null) (null_elements program class f.0 part f.2)
-      go (At spot) h f = answers_it (Ok (At (inside spot i))) (elements_are program class (inside spot i) f.0 part (field_there program typed class d.0 spot i f.0 h f.1) f.2)
-      go v h f = absurd h
-  elements_hold k v i part h e = absent part e
-
   -- an element of an array
   element_at : (spot : Spot) (p : Primitive) (n i : ℕ) → form_from program class spot.base spot.path ≡ Some (form.Array p n) → nat_lt i n ≡ true → form_from program class spot.base (spot.path ++ i ∷ []) ≡ Some (form.Prim p)
   element_at spot p n i e less = form_further program class spot.base spot.path i (form.Array p n) e ∙ ap (λ (b : Bool). if b then Some (form.Prim p) else None) less
 
-  pub element_holds : (p : Primitive) (n : ℕ) (v index : Val) → Has (kind.Array p n) v → Has kind.Int index → Holds G Spot (λ spot. form_from program class spot.base spot.path ≡ Some (form.Prim p)) (element_spot n v index)
-  element_holds p n Null index h k = record { holds = λ s g. (g, tt) }
-  element_holds p n (At spot) index h k = then_holds (answers_it (index_of n index) (index_is program class n index k)) (λ i less. gives_it (inside spot i) (element_at spot p n i h less))
-  element_holds p n v index h k = absurd h
+  pub element_holds : (p : Primitive) (n : ℕ) (spot : Spot) (index : Val) → form_from program class spot.base spot.path ≡ Some (form.Array p n) → Has kind.Int index → Holds G Spot (λ at. form_from program class at.base at.path ≡ Some (form.Prim p)) (element_spot n spot index)
+  element_holds p n spot index e x = then_holds (answers_it (index_of n index) (index_is program class n index x)) (λ i less. gives_it (inside spot i) (element_at spot p n i e less))
+
+  pub field_element_holds : (k : Kind) (p : Primitive) (n : ℕ) (v : Val) (i : ℕ) (index : Val) → Has k v → field_form program k i ≡ Some (form.Array p n) → Has kind.Int index →
+      Holds G Spot (λ at. form_from program class at.base at.path ≡ Some (form.Prim p)) (field_element n v i index)
+  field_element_holds (kind.Object d) p n v i index h e x = then_holds (field_holds d v i (form.Array p n) h e) (λ spot s. element_holds p n spot index s.form x)
+  field_element_holds k p n v i index h e x = absent (form.Array p n) e
+
+  pub static_element_holds : (p : Primitive) (n i : ℕ) (index : Val) → static_form program i ≡ Some (form.Array p n) → Has kind.Int index →
+      Holds G Spot (λ at. form_from program class at.base at.path ≡ Some (form.Prim p)) (element_spot n (static_spot i) index)
+  static_element_holds p n i index e x = element_holds p n (static_spot i) index (static_there program class i (form.Array p n) e).form x
 
   -- ---- targets
 
@@ -155,7 +132,8 @@ module _ (program : Program) (typed : Typed program) (class : ℕ) (component : 
   TargetHas k (OfLocal j i) = (j ≡ k) × (slice_get m.locals i ≡ Some j)
   TargetHas k (OfStatic p i) = (read_kind p ≡ k) × (form_from program class Statics (i ∷ []) ≡ Some (form.Prim p))
   TargetHas k (OfField p v i) = (read_kind p ≡ k) × ((d : TypeNo) × Has (kind.Object d) v × (field_form program (kind.Object d) i ≡ Some (form.Prim p)))
-  TargetHas k (OfElement p n v index) = (read_kind p ≡ k) × Has (kind.Array p n) v × Has kind.Int index
+  TargetHas k (OfElement p n v i index) = (read_kind p ≡ k) × ((j : Kind) × Has j v × (field_form program j i ≡ Some (form.Array p n))) × Has kind.Int index
+  TargetHas k (OfStaticElement p n i index) = (read_kind p ≡ k) × (static_form program i ≡ Some (form.Array p n)) × Has kind.Int index
 
   pub fetch_holds : (k : Kind) (t : Target) → TargetHas k t → Holds G Val (Has k) (fetch t)
   fetch_holds k (OfLocal j i) h = subst (λ (x : Kind). Holds G Val (Has x) (fetch (OfLocal j i))) h.0 (read_local_holds program typed class component m i j h.1)
@@ -163,9 +141,12 @@ module _ (program : Program) (typed : Typed program) (class : ℕ) (component : 
   fetch_holds k (OfField p v i) h =
       subst (λ (x : Kind). Holds G Val (Has x) (fetch (OfField p v i))) h.0
       (then_holds (field_holds h.1.0 v i (form.Prim p) h.1.1 h.1.2) (λ spot s. read_holds program typed class component m spot p s.form))
-  fetch_holds k (OfElement p n v index) h =
-      subst (λ (x : Kind). Holds G Val (Has x) (fetch (OfElement p n v index))) h.0
-      (then_holds (element_holds p n v index h.1 h.2) (λ spot s. read_holds program typed class component m spot p s))
+  fetch_holds k (OfElement p n v i index) h =
+      subst (λ (x : Kind). Holds G Val (Has x) (fetch (OfElement p n v i index))) h.0
+      (then_holds (field_element_holds h.1.0 p n v i index h.1.1 h.1.2 h.2) (λ spot s. read_holds program typed class component m spot p s))
+  fetch_holds k (OfStaticElement p n i index) h =
+      subst (λ (x : Kind). Holds G Val (Has x) (fetch (OfStaticElement p n i index))) h.0
+      (then_holds (static_element_holds p n i index h.1 h.2) (λ spot s. read_holds program typed class component m spot p s))
 
   pub put_holds : (k : Kind) (t : Target) (v : Val) → TargetHas k t → Has k v → Holds G Val (Has k) (put t v)
   put_holds k (OfLocal j i) v h g =
@@ -175,6 +156,9 @@ module _ (program : Program) (typed : Typed program) (class : ℕ) (component : 
   put_holds k (OfField p o i) v h g =
       subst (λ (x : Kind). Holds G Val (Has x) (put (OfField p o i) v)) h.0
       (then_holds (field_holds h.1.0 o i (form.Prim p) h.1.1 h.1.2) (λ spot s. write_holds program typed class component m spot p v s.form (subst (λ (x : Kind). Has x v) (sym h.0) g)))
-  put_holds k (OfElement p n o index) v h g =
-      subst (λ (x : Kind). Holds G Val (Has x) (put (OfElement p n o index) v)) h.0
-      (then_holds (element_holds p n o index h.1 h.2) (λ spot s. write_holds program typed class component m spot p v s (subst (λ (x : Kind). Has x v) (sym h.0) g)))
+  put_holds k (OfElement p n o i index) v h g =
+      subst (λ (x : Kind). Holds G Val (Has x) (put (OfElement p n o i index) v)) h.0
+      (then_holds (field_element_holds h.1.0 p n o i index h.1.1 h.1.2 h.2) (λ spot s. write_holds program typed class component m spot p v s (subst (λ (x : Kind). Has x v) (sym h.0) g)))
+  put_holds k (OfStaticElement p n i index) v h g =
+      subst (λ (x : Kind). Holds G Val (Has x) (put (OfStaticElement p n i index) v)) h.0
+      (then_holds (static_element_holds p n i index h.1 h.2) (λ spot s. write_holds program typed class component m spot p v s (subst (λ (x : Kind). Has x v) (sym h.0) g)))

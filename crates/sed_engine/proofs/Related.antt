@@ -20,7 +20,7 @@ use Rattle.sed_engine.specs.Values.{Val, Nothing, Int, At, Null, Literal, Truth,
 use Rattle.sed_engine.specs.Texts.{index_of, with_character}
 use Rattle.sed_engine.specs.State.{State, End, gives, answers, then_do}
 use Rattle.sed_engine.specs.Steps.{inside, choose, load, store, read_spot, write_spot, read_bytes, write_bytes, with_local, read_local, read_this, write_local, read_moment, take_turn}
-use Rattle.sed_engine.specs.Places.{Target, OfLocal, OfStatic, OfField, OfElement, static_spot, element_spot, field_spot, fetch, put}
+use Rattle.sed_engine.specs.Places.{Target, OfLocal, OfStatic, OfField, OfElement, OfStaticElement, static_spot, field_spot, element_spot, field_element, fetch, put}
 use Rattle.sed_engine.specs.Expressions.{Setting, back, put_all, new_frame, frame_of, call, call_static, call_super, invoke, method_for, text_bytes, changeable, operand, text_call, buf_bytes, in_chain, eval, locate, meaning, evals, meanings}
 use Rattle.sed_engine.specs.Statements.{Flow, Next, Break, Continue, Return, Round, Again, Over, Answer, follows, in_order, after_body, round, do_round, rounds, label_of, eval_or, exec, execs}
 
@@ -100,20 +100,25 @@ module _ (R : (A : Type 0) → (State → End A) → Type 0) (w : Setting) (c : 
   of_field : (v : Val) (i : ℕ) → R Spot (field_spot v i)
   of_field v i = c.follow (c.answer (spot_of v)) (λ spot. give (inside spot i))
 
-  of_element : (count : ℕ) (v index : Val) → R Spot (element_spot count v index)
-  of_element count v index = c.follow (c.answer (spot_of v)) (λ spot. c.follow (c.answer (index_of count index)) (λ i. give (inside spot i)))
+  of_element : (count : ℕ) (array : Spot) (index : Val) → R Spot (element_spot count array index)
+  of_element count array index = c.follow (c.answer (index_of count index)) (λ i. give (inside array i))
+
+  of_field_element : (count : ℕ) (v : Val) (i : ℕ) (index : Val) → R Spot (field_element count v i index)
+  of_field_element count v i index = c.follow (of_field v i) (λ array. of_element count array index)
 
   of_fetch : (t : Target) → R Val (fetch t)
   of_fetch (OfLocal kind i) = of_read_local kind i
   of_fetch (OfStatic p i) = of_read_spot (static_spot i)
   of_fetch (OfField p v i) = c.follow (of_field v i) of_read_spot
-  of_fetch (OfElement p count v index) = c.follow (of_element count v index) of_read_spot
+  of_fetch (OfElement p count v i index) = c.follow (of_field_element count v i index) of_read_spot
+  of_fetch (OfStaticElement p count i index) = c.follow (of_element count (static_spot i) index) of_read_spot
 
   of_put : (t : Target) (v : Val) → R Val (put t v)
   of_put (OfLocal kind i) v = of_write_local i v
   of_put (OfStatic p i) v = of_write_spot p (static_spot i) v
   of_put (OfField p o i) v = c.follow (of_field o i) (λ spot. of_write_spot p spot v)
-  of_put (OfElement p count o index) v = c.follow (of_element count o index) (λ spot. of_write_spot p spot v)
+  of_put (OfElement p count o i index) v = c.follow (of_field_element count o i index) (λ spot. of_write_spot p spot v)
+  of_put (OfStaticElement p count i index) v = c.follow (of_element count (static_spot i) index) (λ spot. of_write_spot p spot v)
 
   of_text_bytes : (v : Val) → R (List ℕ) (text_bytes w v)
   of_text_bytes Nothing = c.follow (c.answer (spot_of Nothing)) of_read_bytes
@@ -131,8 +136,8 @@ module _ (R : (A : Type 0) → (State → End A) → Type 0) (w : Setting) (c : 
   of_text_call text.Equals v args = c.follow (of_text_bytes v) (λ a. c.follow (of_text_bytes (operand args 0)) (λ b. give _))
   of_text_call text.Copy v args = c.follow (of_text_bytes v) (λ old. c.follow (of_text_bytes (operand args 0)) (λ new. c.follow (c.answer (changeable v)) (λ spot. of_write_bytes spot _)))
 
-  of_buf_bytes : (v : Val) → R (List ℕ) (buf_bytes v)
-  of_buf_bytes v = c.follow (c.answer (spot_of v)) of_read_bytes
+  of_buf_bytes : (v : Val) (i : ℕ) → R (List ℕ) (buf_bytes v i)
+  of_buf_bytes v i = c.follow (of_field v i) of_read_bytes
 
   mutual
     pub of_expr : (e : Expr) → R Val (eval w e)
@@ -145,6 +150,7 @@ module _ (R : (A : Type 0) → (State → End A) → Type 0) (w : Setting) (c : 
     of_expr (expr.Local kind i) = of_read_local kind i
     of_expr (expr.Static p i) = of_read_spot (static_spot i)
     of_expr (expr.StaticPart kind i) = give _
+    of_expr (expr.StaticElement' p count i q e) = c.follow (of_expr e) (λ index. c.follow (of_element count (static_spot i) index) of_read_spot)
     of_expr expr.Ticks = c.of_moment
     of_expr (expr.Unary' op p e) = c.follow (of_expr e) (λ v. c.answer _)
     of_expr (expr.Choose' p t q a r b) = c.follow (of_expr t) (λ v. of_choose v (of_expr a) (of_expr b))
@@ -158,7 +164,8 @@ module _ (R : (A : Type 0) → (State → End A) → Type 0) (w : Setting) (c : 
     of_place (place.Local kind i) = give _
     of_place (place.Static p i) = give _
     of_place (place.Field' p q e i) = c.follow (of_expr e) (λ v. give _)
-    of_place (place.Element' p count q e r i) = c.follow (of_expr e) (λ v. c.follow (of_expr i) (λ index. give _))
+    of_place (place.Element' p count q e f r i) = c.follow (of_expr e) (λ v. c.follow (of_expr i) (λ index. give _))
+    of_place (place.StaticElement' p count i q e) = c.follow (of_expr e) (λ index. give _)
 
     of_link : (l : Link) (v : Val) → R Val (meaning w l v)
     of_link (link.Binary op e) v = c.follow (of_expr e) (λ x. c.answer _)
@@ -166,10 +173,9 @@ module _ (R : (A : Type 0) → (State → End A) → Type 0) (w : Setting) (c : 
     of_link (link.Or e) v = of_choose v (give _) (c.follow (of_expr e) (λ x. c.answer _))
     of_link (link.Field p i) v = c.follow (of_field v i) of_read_spot
     of_link (link.Part kind i) v = c.follow (of_field v i) (λ spot. give _)
-    of_link (link.Elements kind i) v = c.answer _
-    of_link (link.Element p count e) v = c.follow (of_expr e) (λ index. c.follow (of_element count v index) of_read_spot)
-    of_link link.Size v = c.follow (of_buf_bytes v) (λ bytes. give _)
-    of_link (link.Byte e) v = c.follow (of_expr e) (λ index. c.follow (of_buf_bytes v) (λ bytes. c.follow (c.answer _) (λ i. give _)))
+    of_link (link.Element p count i e) v = c.follow (of_expr e) (λ index. c.follow (of_field_element count v i index) of_read_spot)
+    of_link (link.Size i) v = c.follow (of_buf_bytes v i) (λ bytes. give _)
+    of_link (link.Byte i e) v = c.follow (of_expr e) (λ index. c.follow (of_buf_bytes v i) (λ bytes. c.follow (c.answer _) (λ at. give _)))
     of_link (link.Invoke' kind m shape args) v = of_invoke v m (evals w args) (of_exprs args)
     of_link (link.TextCall' op shape args) v = c.follow (of_put_all 0 (evals w args) (replicate 2 Nothing) (of_exprs args)) (λ xs. of_text_call op v xs)
     of_link (link.After e) v = of_expr e

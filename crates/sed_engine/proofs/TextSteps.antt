@@ -18,18 +18,20 @@ use Rattle.sed_typed.specs.declared.program.FieldForm.TheVariants as form
 use Rattle.sed_typed.specs.declared.program.Program.{Program}
 use Rattle.sed_typed.specs.Kinds.{text_kind}
 use Rattle.sed_typed.specs.Typed.{Typed, IsText}
-use Rattle.sed_typed.specs.TypedExpr.{AllGoTo, text_kinds}
+use Rattle.sed_typed.specs.TypedExpr.{AllGoTo, IsBuf, field_form, text_kinds}
 use Rattle.sed_engine.specs.Stops.{there, map_ok}
 use Rattle.sed_engine.specs.Values.{Val, Nothing, Int, Null, At, Literal, Spot, whole, truth, are_bytes, last_byte}
 use Rattle.sed_engine.specs.Fits.{keeps}
 use Rattle.sed_engine.specs.State.{State, End, then_do}
+use Rattle.sed_engine.specs.Steps.{read_bytes}
 use Rattle.sed_engine.specs.Texts.{index_of, characters, literal_bytes, with_character, filled}
-use Rattle.sed_engine.specs.Expressions.{Setting, Calls, put_all, text_bytes, operand, text_call, buf_size, buf_byte}
-use Rattle.sed_engine.proofs.Below.{at_place}
+use Rattle.sed_engine.specs.Expressions.{Setting, Calls, put_all, text_bytes, operand, text_call, buf_bytes, buf_size, buf_byte}
+use Rattle.sed_engine.proofs.Below.{absent, at_place}
 use Rattle.sed_engine.proofs.CallSteps.{ArgsHold, args_put, weaker}
 use Rattle.sed_engine.proofs.FirstFits.{zeros_bytes, zeros_length, equal}
 use Rattle.sed_engine.proofs.Frames.{FrameHas, no_locals}
 use Rattle.sed_engine.proofs.Kinded.{form_from, HasKind, whole_int, truth_is, index_is}
+use Rattle.sed_engine.proofs.Parts.{field_holds}
 use Rattle.sed_engine.proofs.Ranges.{Sound, low_byte, small}
 use Rattle.sed_engine.proofs.Ready.{Ready, Frame, Holds, then_holds, gives_it, answers_it, read_str_holds, read_buf_holds, write_str_holds}
 use Rattle.sed_engine.proofs.Spots.{Concrete, good}
@@ -238,18 +240,24 @@ module _ (program : Program) (typed : Typed program) (class : ℕ) (component : 
   buf_of : (n : ℕ) (bytes : List ℕ) → keeps (form.Buf n) (kept.Buf bytes) ≡ true → (are_bytes bytes ≡ true) × (length bytes ≤ n)
   buf_of n bytes k = let parts = and_parts (are_bytes bytes) (nat_le (length bytes) n) k in (parts.0, leb-true (length bytes) n parts.1)
 
-  pub size_holds : (n : ℕ) (v : Val) → Has (kind.Buf n) v → Holds G Val (Has kind.Int) (buf_size v)
-  size_holds n Null h = record { holds = λ s g. (g, tt) }
-  size_holds n (At spot) h =
-      then_holds (read_buf_holds program typed class component m spot n h) (λ bytes k.
-      let most : n ≤ 128 = good program typed class spot.base spot.path (form.Buf n) h in
-      let few : length bytes ≤ n = (buf_of n bytes k).1 in
-      gives_it (Int (pos (length bytes))) (int_of (length bytes) (omega (arith, most, few))))
-  size_holds n v h = absurd h
+  -- the bytes that a Buf has
+  abbrev BufBytes : List ℕ → Type 0
+  BufBytes bytes = (are_bytes bytes ≡ true) × (length bytes ≤ 128)
 
-  pub byte_holds : (n : ℕ) (v index : Val) → Has (kind.Buf n) v → Has kind.Int index → Holds G Val (Has kind.Int) (buf_byte v index)
-  byte_holds n Null index h k = record { holds = λ s g. (g, tt) }
-  byte_holds n (At spot) index h k =
-      then_holds (read_buf_holds program typed class component m spot n h) (λ bytes b.
-      then_holds (answers_it (index_of (length bytes) index) (index_is program class (length bytes) index k)) (λ i _. gives_it (Int (pos (slice_index bytes i))) (byte_of bytes i (buf_of n bytes b).0)))
-  byte_holds n v index h k = absurd h
+  buf_at : (spot : Spot) (n : ℕ) → form_from program class spot.base spot.path ≡ Some (form.Buf n) → Holds G (List ℕ) BufBytes (read_bytes spot)
+  buf_at spot n e = weaker (read_buf_holds program typed class component m spot n e) (λ bytes k.
+      let most : n ≤ 128 = good program typed class spot.base spot.path (form.Buf n) e in
+      let parts : (are_bytes bytes ≡ true) × (length bytes ≤ n) = buf_of n bytes k in
+      (parts.0, omega (arith, most, parts.1)))
+
+  buf_holds : (k : Kind) (v : Val) (i : ℕ) → Has k v → IsBuf (field_form program k i) → Holds G (List ℕ) BufBytes (buf_bytes v i)
+  buf_holds (kind.Object d) v i h b = then_holds (field_holds program typed class component m d v i (form.Buf b.0) h b.1) (λ spot s. buf_at spot b.0 s.form)
+  buf_holds k v i h b = absent (form.Buf b.0) b.1
+
+  pub size_holds : (k : Kind) (v : Val) (i : ℕ) → Has k v → IsBuf (field_form program k i) → Holds G Val (Has kind.Int) (buf_size v i)
+  size_holds k v i h b = then_holds (buf_holds k v i h b) (λ bytes is. gives_it (Int (pos (length bytes))) (int_of (length bytes) (omega (arith, is.1))))
+
+  pub byte_holds : (k : Kind) (v : Val) (i : ℕ) (index : Val) → Has k v → IsBuf (field_form program k i) → Has kind.Int index → Holds G Val (Has kind.Int) (buf_byte v i index)
+  byte_holds k v i index h b x =
+      then_holds (buf_holds k v i h b) (λ bytes is.
+      then_holds (answers_it (index_of (length bytes) index) (index_is program class (length bytes) index x)) (λ at _. gives_it (Int (pos (slice_index bytes at))) (byte_of bytes at is.0)))

@@ -22,12 +22,12 @@ use Rattle.sed_engine.specs.Values.{Val, Truth, Int, Long, Null, At, Literal, tr
 use Rattle.sed_engine.specs.Stops.{map_ok}
 use Rattle.sed_engine.specs.Operators.{arithmetic_of, binary_of, unary_of, given}
 use Rattle.sed_engine.specs.State.{State}
-use Rattle.sed_engine.specs.Places.{Target, OfLocal, OfStatic, OfField, OfElement, static_spot}
+use Rattle.sed_engine.specs.Places.{Target, OfLocal, OfStatic, OfField, OfElement, OfStaticElement, static_spot}
 use Rattle.sed_engine.specs.Expressions.{Setting, Calls, in_chain, eval, locate, meaning, evals, meanings}
 use Rattle.sed_engine.proofs.Below.{absent}
 use Rattle.sed_engine.proofs.CallSteps.{CallsSound, weaker, ArgsHold, NoArgs, OneArg, static_holds, super_holds, invoke_holds}
 use Rattle.sed_engine.proofs.Kinded.{HasKind, IsObject, goes, binary_is, unary_is, arithmetic_is, truth_is, truth_of_met}
-use Rattle.sed_engine.proofs.Parts.{TargetHas, field_holds, part_holds, elements_hold, element_holds, static_there, static_part_is, fetch_holds, put_holds}
+use Rattle.sed_engine.proofs.Parts.{TargetHas, field_holds, part_holds, field_element_holds, static_element_holds, static_there, static_part_is, fetch_holds, put_holds}
 use Rattle.sed_engine.proofs.Ready.{Ready, Frame, Holds, then_holds, gives_it, answers_it, chooses, read_holds, read_local_holds, this_holds, moment_holds}
 use Rattle.sed_engine.proofs.Spots.{Concrete}
 use Rattle.sed_engine.proofs.TextSteps.{text_call_holds, size_holds, byte_holds}
@@ -79,6 +79,8 @@ module _ (program : Program) (typed : Typed program) (class : ℕ) (component : 
     of_expr (expr.Local k i) t = read_local_holds program typed class component m i k t
     of_expr (expr.Static p i) t = read_holds program typed class component m (static_spot i) p (static_there program class i (form.Prim p) t).form
     of_expr (expr.StaticPart k i) t = gives_it (At (static_spot i)) (static_part_is program class i k t)
+    of_expr (expr.StaticElement' p n i q e) t =
+        then_holds (of_expr e t.1) (λ x hx. then_holds (static_element_holds program typed class component m p n i x t.0 (subst (λ k. Has k x) t.2 hx)) (λ spot s. read_holds program typed class component m spot p s))
     of_expr expr.Ticks t = moment_holds program typed class component m
     of_expr (expr.Unary' op p e) t = then_holds (of_expr e t.0) (λ v h. answers_it (unary_of op v) (unary_is program class op v (subst (λ k. Has k v) t.1 h)))
     of_expr (expr.Choose' p x q a r b) t =
@@ -100,8 +102,9 @@ module _ (program : Program) (typed : Typed program) (class : ℕ) (component : 
     of_place (place.Local k i) t = gives_it (OfLocal k i) (refl, t.0)
     of_place (place.Static p i) t = gives_it (OfStatic p i) (refl, (static_there program class i (form.Prim p) t).form)
     of_place (place.Field' p q e i) t = then_holds (of_expr e t.0) (λ v h. gives_it (OfField p v i) (target_field (kind_of e) v i p h t.1))
-    of_place (place.Element' p n q e r i) t =
-        then_holds (of_expr e t.0) (λ v h. then_holds (of_expr i t.1) (λ x hx. gives_it (OfElement p n v x) (refl, subst (λ k. Has k v) t.2 h, subst (λ k. Has k x) t.3 hx)))
+    of_place (place.Element' p n q e f r i) t =
+        then_holds (of_expr e t.0) (λ v h. then_holds (of_expr i t.2) (λ x hx. gives_it (OfElement p n v f x) (refl, (kind_of e, h, t.1), subst (λ k. Has k x) t.3 hx)))
+    of_place (place.StaticElement' p n i q e) t = then_holds (of_expr e t.1) (λ x hx. gives_it (OfStaticElement p n i x) (refl, t.0, subst (λ k. Has k x) t.2 hx))
 
     pub of_link : (l : Link) (k : Kind) → IsLink c k l → (v : Val) → Has k v → Holds G Val (Has (link_kind l)) (meaning w l v)
     of_link (link.Binary op e) k t v h = then_holds (of_expr e t.0) (λ x hx. answers_it (binary_of op v x) (binary_is program class op k (kind_of e) v x t.1 h hx))
@@ -111,11 +114,10 @@ module _ (program : Program) (typed : Typed program) (class : ℕ) (component : 
         chooses program class v (subst (λ k. Has k v) t.1 h) (gives_it (truth true) (truth_is program class true)) (then_holds (of_expr e t.0) (λ x hx. answers_it (map_ok truth (is_met x)) (truth_of_met program class x (subst (λ k. Has k x) t.2 hx))))
     of_link (link.Field p i) k t v h = of_field k v i p h t
     of_link (link.Part part i) k t v h = part_holds program typed class component m k v i part h t
-    of_link (link.Elements part i) k t v h = elements_hold program typed class component m k v i part h t
-    of_link (link.Element p n e) k t v h =
-        then_holds (of_expr e t.0) (λ x hx. then_holds (element_holds program typed class component m p n v x (subst (λ k. Has k v) t.1 h) (subst (λ k. Has k x) t.2 hx)) (λ spot s. read_holds program typed class component m spot p s))
-    of_link link.Size k t v h = size_holds program typed class component m calls t.0 v (subst (λ k. Has k v) t.1 h)
-    of_link (link.Byte e) k t v h = then_holds (of_expr e t.0) (λ x hx. byte_holds program typed class component m calls t.1.0 v x (subst (λ k. Has k v) t.1.1 h) (subst (λ k. Has k x) t.2 hx))
+    of_link (link.Element p n i e) k t v h =
+        then_holds (of_expr e t.1) (λ x hx. then_holds (field_element_holds program typed class component m k p n v i x h t.0 (subst (λ k. Has k x) t.2 hx)) (λ spot s. read_holds program typed class component m spot p s))
+    of_link (link.Size i) k t v h = size_holds program typed class component m calls k v i h t
+    of_link (link.Byte i e) k t v h = then_holds (of_expr e t.1) (λ x hx. byte_holds program typed class component m calls k v i x h t.0 (subst (λ k. Has k x) t.2 hx))
     of_link (link.Invoke' r n shape args) k t v h = invoke_holds program typed class component m calls sound k v n r (kinds_of args) (evals w args) (of_exprs args t.0) h t.1
     of_link (link.TextCall' op shape args) k t v h = text_call_holds program typed class component m calls op v (kinds_of args) (evals w args) (of_exprs args t.0) (subst (λ k. Has k v) t.1 h) t.2
     of_link (link.After e) k t v h = of_expr e t

@@ -1,5 +1,5 @@
 -- Kinds, depths and frames of small trees: what the rules give, and what they refuse.
-use Rattle.std.proofs.Common.{◌≡◌, ◌≤◌, pos, Bool, true, false, [], ◌∷◌, List, Some, None, codes, refl, arith}
+use Rattle.std.proofs.Common.{◌≡◌, ◌≤◌, ℕ, pos, Bool, true, false, [], ◌∷◌, List, Option, Some, None, codes, refl, ap, arith}
 use Rattle.sed_value.specs.declared.slot_type.Primitive.TheVariants as prim
 use Rattle.sed_value.specs.declared.value.Value.TheVariants as kept
 use Rattle.sed_typed.specs.declared.kind.Kind.{Kind}
@@ -8,7 +8,9 @@ use Rattle.sed_typed.specs.declared.operators.Arithmetic.TheVariants as op
 use Rattle.sed_typed.specs.declared.operators.Binary.TheVariants as binary
 use Rattle.sed_typed.specs.declared.operators.Unary.TheVariants as unary
 use Rattle.sed_typed.specs.declared.operators.Width.TheVariants as width
+use Rattle.sed_typed.specs.declared.program.FieldForm.{FieldForm}
 use Rattle.sed_typed.specs.declared.program.FieldForm.TheVariants as form
+use Rattle.sed_typed.specs.declared.program.Program.{Program}
 use Rattle.sed_typed.specs.declared.statement.Stmt.TheVariants as stmt
 use Rattle.sed_typed.specs.declared.tree.Expr.{Expr, end_of-Expr, more_of-Expr}
 use Rattle.sed_typed.specs.declared.tree.Expr.TheVariants as expr
@@ -19,7 +21,7 @@ use Rattle.sed_typed.specs.Typed.{IsMethod}
 use Rattle.sed_typed.specs.TypedExpr.{Context, IsExpr, GoesTo, IsStaticCall, IsInvocation, IsSuperCall}
 use Rattle.sed_typed.specs.TypedSchema.{IsField}
 use Rattle.sed_typed.specs.TypedStmt.{IsReturned}
-use Rattle.sed_engine.proofs.Building.{Pointer, one, int, chain, by, y, y_is, field}
+use Rattle.sed_engine.proofs.Building.{Pointer, one, int, chain, by, this, y, y_is, field, int_field, simple}
 use Rattle.sed_engine.proofs.Ramp.{nothing, void_method, ramp}
 
 -- in an instance method of the ramp, and in a static one, that gives this kind
@@ -52,6 +54,54 @@ long_shift_is_typed p = (refl, ((refl, (refl, refl)), tt))
 shift_by_long : (p : Pointer) → IsExpr (in_method false kind.Void p) (chain p (int 1) (by op.ShiftLeft (expr.Long (pos 1)))) → ⊥
 shift_by_long p h = let count : kind.Long ≡ kind.Int = h.1.0.1.1 in let never : ⊥ = cc in never
 
+-- (byte) 300L: one cast of a long, one level
+byte_of_long : Pointer → Expr
+byte_of_long p = expr.Unary' (unary.LowByte width.Long) p (expr.Long (pos 300))
+
+byte_of_long_is_typed : (p : Pointer) → IsExpr (in_method false kind.Void p) (byte_of_long p)
+unfolding in_method byte_of_long
+byte_of_long_is_typed p = (refl, refl)
+
+byte_of_long_is_int : (p : Pointer) → kind_of (byte_of_long p) ≡ kind.Int
+unfolding byte_of_long
+byte_of_long_is_int p = refl
+
+byte_of_long_depth : (p : Pointer) → depth_of (byte_of_long p) ≡ 1
+unfolding byte_of_long
+byte_of_long_depth p = refl
+
+-- this.a[0] and this.b.size, of an array of 3 bytes and a Buf(4), which are fields 2 and 3
+with_parts : Pointer → Program
+with_parts p = simple (int_field ∷ field 5 (form.Array prim.Byte 3) kept.Nothing ∷ field 5 (form.Buf 4) (kept.Buf []) ∷ []) (nothing p)
+
+in_parts : Pointer → Context
+in_parts p = record { program = with_parts p; class = 5; is_static = false; locals = kind.Object (record { 0 = 5 }) ∷ []; result = kind.Void }
+
+element_is_typed : (p : Pointer) → IsExpr (in_parts p) (chain p this (link.Element prim.Byte 3 2 (int 0)))
+unfolding with_parts in_parts
+element_is_typed p = ((refl, refl), ((refl, refl, refl), tt))
+
+size_is_typed : (p : Pointer) → IsExpr (in_parts p) (chain p this (link.Size 3))
+unfolding with_parts in_parts
+size_is_typed p = ((refl, refl), ((4, refl), tt))
+
+count_of : Option FieldForm → ℕ
+count_of (Some (form.Array t n)) = n
+count_of o = 0
+
+-- as an array of 4
+another_count : (p : Pointer) → IsExpr (in_parts p) (chain p this (link.Element prim.Byte 4 2 (int 0))) → ⊥
+unfolding with_parts in_parts count_of
+another_count p h =
+    let same : Some (form.Array prim.Byte 3) ≡ Some (form.Array prim.Byte 4) = h.1.0.0 in
+    let count : 3 ≡ 4 = ap count_of same in
+    omega (arith, count)
+
+-- as a value: an array is no part
+no_array_value : (p : Pointer) (k : Kind) → IsExpr (in_parts p) (chain p this (link.Part k 2)) → ⊥
+unfolding with_parts in_parts
+no_array_value p k h = let none : ◌≡◌ {A = Option Kind} None (Some k) = h.1.0 in let never : ⊥ = cc in never
+
 -- true ? 1 : 1L
 two_kinds : (p : Pointer) → IsExpr (in_method false kind.Void p) (expr.Choose' p (expr.Bool 1) p (int 1) p (expr.Long (pos 1))) → ⊥
 two_kinds p h = never_kind h.4
@@ -74,7 +124,7 @@ with_argument p h = h.1.1.takes
 
 -- a method that is not the nearest of its name
 not_the_nearest : (p : Pointer) → IsInvocation (ramp p) (Some 5) 0 kind.Void [] → ⊥
-not_the_nearest p h = let same : Some 2 ≡ Some 0 = h.0 in let never : ⊥ = cc in never
+not_the_nearest p h = let same : ◌≡◌ {A = Option ℕ} (Some 2) (Some 0) = h.0 in let never : ⊥ = cc in never
 
 -- an instance method that is called as a static one
 not_static : (p : Pointer) → IsStaticCall (ramp p) 2 kind.Void [] → ⊥

@@ -50,8 +50,8 @@ int_object : (p : Pointer) → goes_wrong p (chain p (int 1) (link.Field prim.In
 unfolding calls_with
 int_object p = refl
 
--- (1).a, an array
-int_owner : (p : Pointer) → body_goes_wrong p (stmt.Do (chain p (int 1) (link.Elements (kind.Array prim.Int 3) 2)))
+-- (1).a[0], of an array
+int_owner : (p : Pointer) → body_goes_wrong p (stmt.Do (chain p (int 1) (link.Element prim.Int 3 2 (int 0))))
 unfolding calls_with
 int_owner p = refl
 

@@ -20,7 +20,7 @@ use Rattle.sed_engine.specs.Values.{Val, Nothing, Truth, Int, Long, Null, At, Li
 use Rattle.sed_engine.specs.Operators.{arithmetic_of, binary_of, unary_of, given}
 use Rattle.sed_engine.specs.State.{Shared, State, End, gives, answers, then_do}
 use Rattle.sed_engine.specs.Steps.{choose, read_spot, read_bytes, write_bytes, with_local, read_local, read_this, read_moment, take_turn}
-use Rattle.sed_engine.specs.Places.{Target, OfLocal, OfStatic, OfField, OfElement, static_spot, elements_of, element_spot, field_spot, fetch, put}
+use Rattle.sed_engine.specs.Places.{Target, OfLocal, OfStatic, OfField, OfElement, OfStaticElement, static_spot, field_spot, element_spot, field_element, fetch, put}
 use Rattle.sed_engine.specs.Texts.{index_of, characters, literal_bytes, with_character, filled}
 
 -- what a call comes to
@@ -109,16 +109,16 @@ text_call w text.Equals v args s =
 text_call w text.Copy v args s =
     then_do (text_bytes w v s) (λ old s1. then_do (text_bytes w (operand args 0) s1) (λ new s2. then_do (answers (changeable v) s2) (λ spot s3. write_bytes spot (filled (length old) (characters new)) s3)))
 
--- `size` and `bytes[i]` of a Buf
-abbrev pub buf_bytes : Val → State → End (List ℕ)
-buf_bytes v s = then_do (answers (spot_of v) s) (λ spot s1. read_bytes spot s1)
+-- `size` and `bytes[i]` of the Buf in a field of an object: null is tested, then the index
+abbrev pub buf_bytes : Val → ℕ → State → End (List ℕ)
+buf_bytes object i s = then_do (field_spot object i s) (λ spot s1. read_bytes spot s1)
 
-abbrev pub buf_size : Val → State → End Val
-buf_size v s = then_do (buf_bytes v s) (λ bytes s1. gives (Int (pos (length bytes))) s1)
+abbrev pub buf_size : Val → ℕ → State → End Val
+buf_size object i s = then_do (buf_bytes object i s) (λ bytes s1. gives (Int (pos (length bytes))) s1)
 
-abbrev pub buf_byte : Val → Val → State → End Val
-buf_byte v index s =
-    then_do (buf_bytes v s) (λ bytes s1. then_do (answers (index_of (length bytes) index) s1) (λ i s2. gives (Int (pos (slice_index bytes i))) s2))
+abbrev pub buf_byte : Val → ℕ → Val → State → End Val
+buf_byte object i index s =
+    then_do (buf_bytes object i s) (λ bytes s1. then_do (answers (index_of (length bytes) index) s1) (λ at s2. gives (Int (pos (slice_index bytes at))) s2))
 
 -- what follows an operand, one link after the other
 abbrev pub in_chain : List (Val → State → End Val) → Val → State → End Val
@@ -136,6 +136,7 @@ abbrev mutual
   eval w (expr.Local kind i) s = read_local kind i s
   eval w (expr.Static p i) s = read_spot (static_spot i) s
   eval w (expr.StaticPart kind i) s = gives (At (static_spot i)) s
+  eval w (expr.StaticElement' p count i q e) s = then_do (eval w e s) (λ index s1. then_do (element_spot count (static_spot i) index s1) (λ spot s2. read_spot spot s2))
   eval w expr.Ticks s = read_moment s
   eval w (expr.Unary' op p e) s = then_do (eval w e s) (λ v s1. answers (unary_of op v) s1)
   eval w (expr.Choose' p c q a r b) s = then_do (eval w c s) (λ v s1. choose v (eval w a) (eval w b) s1)
@@ -146,12 +147,13 @@ abbrev mutual
   eval w (expr.Super' kind m shape args) s = call_super w m (evals w args) s
   eval w (expr.Chain' p e shape links) s = then_do (eval w e s) (λ v s1. in_chain (meanings w links) v s1)
 
-  -- the receiver, then the index
+  -- the object, then the index
   pub locate : Setting → Place → State → End Target
   locate w (place.Local kind i) s = gives (OfLocal kind i) s
   locate w (place.Static p i) s = gives (OfStatic p i) s
   locate w (place.Field' p q e i) s = then_do (eval w e s) (λ object s1. gives (OfField p object i) s1)
-  locate w (place.Element' p count q e r i) s = then_do (eval w e s) (λ array s1. then_do (eval w i s1) (λ index s2. gives (OfElement p count array index) s2))
+  locate w (place.Element' p count q e f r i) s = then_do (eval w e s) (λ object s1. then_do (eval w i s1) (λ index s2. gives (OfElement p count object f index) s2))
+  locate w (place.StaticElement' p count i q e) s = then_do (eval w e s) (λ index s1. gives (OfStaticElement p count i index) s1)
 
   -- what is done with the value on the left
   pub meaning : Setting → Link → Val → State → End Val
@@ -160,10 +162,9 @@ abbrev mutual
   meaning w (link.Or e) v s = choose v (gives (truth true)) (λ s1. then_do (eval w e s1) (λ x s2. answers (map_ok truth (is_met x)) s2)) s
   meaning w (link.Field p i) v s = then_do (field_spot v i s) (λ spot s1. read_spot spot s1)
   meaning w (link.Part kind i) v s = then_do (field_spot v i s) (λ spot s1. gives (At spot) s1)
-  meaning w (link.Elements kind i) v s = answers (elements_of v i) s
-  meaning w (link.Element p count e) v s = then_do (eval w e s) (λ index s1. then_do (element_spot count v index s1) (λ spot s2. read_spot spot s2))
-  meaning w link.Size v s = buf_size v s
-  meaning w (link.Byte e) v s = then_do (eval w e s) (λ index s1. buf_byte v index s1)
+  meaning w (link.Element p count i e) v s = then_do (eval w e s) (λ index s1. then_do (field_element count v i index s1) (λ spot s2. read_spot spot s2))
+  meaning w (link.Size i) v s = buf_size v i s
+  meaning w (link.Byte i e) v s = then_do (eval w e s) (λ index s1. buf_byte v i index s1)
   meaning w (link.Invoke' kind m shape args) v s = invoke w v m (evals w args) s
   meaning w (link.TextCall' op shape args) v s = then_do (put_all 0 (evals w args) (replicate 2 Nothing) s) (λ xs s1. text_call w op v xs s1)
   meaning w (link.After e) v s = eval w e s

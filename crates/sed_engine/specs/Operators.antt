@@ -86,8 +86,8 @@ unary_of (unary.Negate w) v = map_ok (λ n. number w (wrap (bits_of w) (neg_ℤ 
 unary_of (unary.Flip w) v = map_ok (λ n. number w (int_bit_not (bits_of w) n)) (whole w v)
 unary_of unary.ToLong v = map_ok Long (whole width.Int v)
 unary_of unary.ToInt v = map_ok (λ n. Int (wrap w32 n)) (whole width.Long v)
-unary_of unary.LowByte v = map_ok (λ n. Int (pos (low_bits w8 n))) (whole width.Int v)
-unary_of unary.LowShort v = map_ok (λ n. Int (pos (low_bits w16 n))) (whole width.Int v)
+unary_of (unary.LowByte w) v = map_ok (λ n. Int (pos (low_bits w8 n))) (whole w v)
+unary_of (unary.LowShort w) v = map_ok (λ n. Int (pos (low_bits w16 n))) (whole w v)
 
 -- the value of a compound assignment
 abbrev pub given : Gives → Val → Val → Val

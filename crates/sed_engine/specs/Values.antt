@@ -26,7 +26,7 @@ pub record Spot : Type 0 where
   pub base : Base
   pub path : Path
 
--- a value; a reference is null, an object, Str, array or Buf by its place, or a text literal by its number
+-- a value; a reference is null, an object or a Str by its place, or a text literal by its number
 pub data Val : Type 0 where
   Nothing : Val
   Truth : ℕ → Val
@@ -137,8 +137,6 @@ zero_of kind.Int = Int (pos 0)
 zero_of kind.Long = Long (pos 0)
 zero_of kind.Text = Null
 zero_of (kind.Object class) = Null
-zero_of (kind.Array p n) = Null
-zero_of (kind.Buf n) = Null
 
 -- a local that was not begun is 0, false or null too
 abbrev pub begun : Kind → Val → Val

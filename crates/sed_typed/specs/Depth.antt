@@ -27,6 +27,7 @@ value_depth New depth = suc depth
 -- prefix operators, casts, the right sides of assignments, the branches of `? :`, arguments and brackets nest
 abbrev mutual
   pub depth_of : Expr → ℕ
+  depth_of (expr.StaticElement' p n i q e) = suc (depth_of e)
   depth_of (expr.Unary' op p e) = unary_depth op (depth_of e)
   depth_of (expr.Choose' p t q a r b) = max (depth_of t) (suc (max (depth_of a) (depth_of b)))
   depth_of (expr.Set' target p e) = max (place_depth target) (suc (depth_of e))
@@ -40,14 +41,15 @@ abbrev mutual
   place_depth (place.Local k i) = 0
   place_depth (place.Static p i) = 0
   place_depth (place.Field' p q e i) = depth_of e
-  place_depth (place.Element' p n q e r i) = max (depth_of e) (suc (depth_of i))
+  place_depth (place.Element' p n q e f r i) = max (depth_of e) (suc (depth_of i))
+  place_depth (place.StaticElement' p n i q e) = suc (depth_of e)
 
   pub link_depth : Link → ℕ
   link_depth (link.Binary op e) = depth_of e
   link_depth (link.And e) = depth_of e
   link_depth (link.Or e) = depth_of e
-  link_depth (link.Element p n e) = suc (depth_of e)
-  link_depth (link.Byte e) = suc (depth_of e)
+  link_depth (link.Element p n i e) = suc (depth_of e)
+  link_depth (link.Byte i e) = suc (depth_of e)
   link_depth (link.Invoke' k m shape args) = depths_of args
   link_depth (link.TextCall' op shape args) = depths_of args
   link_depth (link.After e) = depth_of e

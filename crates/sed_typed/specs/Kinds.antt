@@ -12,7 +12,7 @@ use Rattle.sed_typed.specs.declared.operators.Binary.TheVariants.{Arithmetic, Co
 use Rattle.sed_typed.specs.declared.operators.TextCall.{TextCall as TextCall-type}
 use Rattle.sed_typed.specs.declared.operators.TextCall.TheVariants.{Length, Get, Set, Equals, Copy}
 use Rattle.sed_typed.specs.declared.tree.Place.{Place}
-use Rattle.sed_typed.specs.declared.tree.Place.TheVariants.{Local as LocalPlace, Static as StaticPlace, Field' as FieldPlace, Element' as ElementPlace}
+use Rattle.sed_typed.specs.declared.tree.Place.TheVariants.{Local as LocalPlace, Static as StaticPlace, Field' as FieldPlace, Element' as ElementPlace, StaticElement' as StaticElementPlace}
 use Rattle.sed_typed.specs.declared.tree.Expr.{Expr, Row_of-Link, end_of-Link, more_of-Link}
 use Rattle.sed_typed.specs.declared.tree.Expr.TheVariants as expr
 use Rattle.sed_typed.specs.declared.tree.Link.{Link}
@@ -36,8 +36,8 @@ unary_kind (Negate w) = width_kind w
 unary_kind (Flip w) = width_kind w
 unary_kind ToLong = Long
 unary_kind ToInt = Int
-unary_kind LowByte = Int
-unary_kind LowShort = Int
+unary_kind (LowByte w) = Int
+unary_kind (LowShort w) = Int
 
 abbrev pub binary_kind : Binary → Kind
 binary_kind (Arithmetic op w) = width_kind w
@@ -59,7 +59,8 @@ abbrev pub place_kind : Place → Kind
 place_kind (LocalPlace kind i) = kind
 place_kind (StaticPlace p i) = read_kind p
 place_kind (FieldPlace p q e i) = read_kind p
-place_kind (ElementPlace p n q e r i) = read_kind p
+place_kind (ElementPlace p n q e f r i) = read_kind p
+place_kind (StaticElementPlace p n i q e) = read_kind p
 
 -- the kind of an expression; that of a chain is the kind of its last link
 abbrev mutual
@@ -73,6 +74,7 @@ abbrev mutual
   kind_of (expr.Local kind i) = kind
   kind_of (expr.Static p i) = read_kind p
   kind_of (expr.StaticPart kind i) = kind
+  kind_of (expr.StaticElement' p n i q e) = read_kind p
   kind_of expr.Ticks = Long
   kind_of (expr.Unary' op p e) = unary_kind op
   kind_of (expr.Choose' p c q a r b) = kind_of a
@@ -88,10 +90,9 @@ abbrev mutual
   link_kind (link.Or e) = Bool
   link_kind (link.Field p i) = read_kind p
   link_kind (link.Part kind i) = kind
-  link_kind (link.Elements kind i) = kind
-  link_kind (link.Element p n e) = read_kind p
-  link_kind link.Size = Int
-  link_kind (link.Byte e) = Int
+  link_kind (link.Element p n i e) = read_kind p
+  link_kind (link.Size i) = Int
+  link_kind (link.Byte i e) = Int
   link_kind (link.Invoke' kind m shape args) = kind
   link_kind (link.TextCall' op shape args) = text_kind op
   link_kind (link.After e) = kind_of e

@@ -24,8 +24,6 @@ IsStorable kind.Int = Unit {0}
 IsStorable kind.Long = Unit {0}
 IsStorable kind.Text = Unit {0}
 IsStorable (kind.Object class) = Unit {0}
-IsStorable (kind.Array p n) = ⊥
-IsStorable (kind.Buf n) = ⊥
 
 -- what a result may be
 abbrev pub IsResult : Kind → Type 0

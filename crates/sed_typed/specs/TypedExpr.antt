@@ -46,8 +46,6 @@ IsReference kind.Int = ⊥
 IsReference kind.Long = ⊥
 IsReference kind.Text = Unit {0}
 IsReference (kind.Object class) = Unit {0}
-IsReference (kind.Array p n) = ⊥
-IsReference (kind.Buf n) = ⊥
 
 -- the class of an object's kind
 abbrev pub object_class : Kind → Option ℕ
@@ -66,27 +64,22 @@ AllGoTo program [] (q ∷ qs) = ⊥
 AllGoTo program (k ∷ ks) [] = ⊥
 AllGoTo program (k ∷ ks) (q ∷ qs) = GoesTo program k q × AllGoTo program ks qs
 
--- how an inline field is named: an object or a Str, and an array or a Buf
+-- the kind of an inline object or Str; an array or a Buf is no value
 abbrev pub part_kind : FieldForm → Option Kind
 part_kind (form.Object t) = Some (kind.Object t)
 part_kind (form.Str n) = Some kind.Text
 part_kind f = None
 
-abbrev pub elements_kind : FieldForm → Option Kind
-elements_kind (form.Array p n) = Some (kind.Array p n)
-elements_kind (form.Buf n) = Some (kind.Buf n)
-elements_kind f = None
-
--- a static is named as a part or by its elements
-abbrev pub first_kind : Option Kind → Option Kind → Option Kind
-first_kind (Some k) other = Some k
-first_kind None other = other
-
+-- what a field of an object is, and what a static is
 abbrev pub field_form : Program → Kind → ℕ → Option FieldForm
 field_form program k i = option_and_then (λ class. option_map (λ f. f.form) (slice_get (fields program class) i)) (object_class k)
 
 abbrev pub static_form : Program → ℕ → Option FieldForm
 static_form program i = option_map (λ f. f.form) (slice_get program.statics i)
+
+-- a field that is a Buf
+abbrev pub IsBuf : Option FieldForm → Type 0
+IsBuf f = (n : ℕ) × (f ≡ Some (form.Buf n))
 
 -- ---- operands
 
@@ -96,8 +89,8 @@ operand_kind (unary.Negate w) = width_kind w
 operand_kind (unary.Flip w) = width_kind w
 operand_kind unary.ToLong = kind.Int
 operand_kind unary.ToInt = kind.Long
-operand_kind unary.LowByte = kind.Int
-operand_kind unary.LowShort = kind.Int
+operand_kind (unary.LowByte w) = width_kind w
+operand_kind (unary.LowShort w) = width_kind w
 
 -- a shift count is an int
 abbrev pub right_kind : Arithmetic → Width → Kind
@@ -161,7 +154,8 @@ abbrev mutual
   IsExpr c (expr.This class) = (c.is_static ≡ false) × (class.0 ≡ c.class)
   IsExpr c (expr.Local k i) = slice_get c.locals i ≡ Some k
   IsExpr c (expr.Static p i) = static_form c.program i ≡ Some (form.Prim p)
-  IsExpr c (expr.StaticPart k i) = option_and_then (λ f. first_kind (part_kind f) (elements_kind f)) (static_form c.program i) ≡ Some k
+  IsExpr c (expr.StaticPart k i) = option_and_then part_kind (static_form c.program i) ≡ Some k
+  IsExpr c (expr.StaticElement' p n i q e) = (static_form c.program i ≡ Some (form.Array p n)) × IsExpr c e × (kind_of e ≡ kind.Int)
   IsExpr c expr.Ticks = Unit {0}
   IsExpr c (expr.Unary' op p e) = IsExpr c e × (kind_of e ≡ operand_kind op)
   IsExpr c (expr.Choose' p t q a r b) = IsExpr c t × IsExpr c a × IsExpr c b × (kind_of t ≡ kind.Bool) × (kind_of a ≡ kind_of b)
@@ -175,7 +169,8 @@ abbrev mutual
   IsPlace c (place.Local k i) = (slice_get c.locals i ≡ Some k) × IsNoReceiver c i
   IsPlace c (place.Static p i) = static_form c.program i ≡ Some (form.Prim p)
   IsPlace c (place.Field' p q e i) = IsExpr c e × (field_form c.program (kind_of e) i ≡ Some (form.Prim p))
-  IsPlace c (place.Element' p n q e r i) = IsExpr c e × IsExpr c i × (kind_of e ≡ kind.Array p n) × (kind_of i ≡ kind.Int)
+  IsPlace c (place.Element' p n q e f r i) = IsExpr c e × (field_form c.program (kind_of e) f ≡ Some (form.Array p n)) × IsExpr c i × (kind_of i ≡ kind.Int)
+  IsPlace c (place.StaticElement' p n i q e) = (static_form c.program i ≡ Some (form.Array p n)) × IsExpr c e × (kind_of e ≡ kind.Int)
 
   -- a link with the kind on its left
   pub IsLink : Context → Kind → Link → Type 0
@@ -184,10 +179,9 @@ abbrev mutual
   IsLink c k (link.Or e) = IsExpr c e × (k ≡ kind.Bool) × (kind_of e ≡ kind.Bool)
   IsLink c k (link.Field p i) = field_form c.program k i ≡ Some (form.Prim p)
   IsLink c k (link.Part part i) = option_and_then part_kind (field_form c.program k i) ≡ Some part
-  IsLink c k (link.Elements part i) = option_and_then elements_kind (field_form c.program k i) ≡ Some part
-  IsLink c k (link.Element p n e) = IsExpr c e × (k ≡ kind.Array p n) × (kind_of e ≡ kind.Int)
-  IsLink c k link.Size = (n : ℕ) × (k ≡ kind.Buf n)
-  IsLink c k (link.Byte e) = IsExpr c e × ((n : ℕ) × (k ≡ kind.Buf n)) × (kind_of e ≡ kind.Int)
+  IsLink c k (link.Element p n i e) = (field_form c.program k i ≡ Some (form.Array p n)) × IsExpr c e × (kind_of e ≡ kind.Int)
+  IsLink c k (link.Size i) = IsBuf (field_form c.program k i)
+  IsLink c k (link.Byte i e) = IsBuf (field_form c.program k i) × IsExpr c e × (kind_of e ≡ kind.Int)
   IsLink c k (link.Invoke' result m shape args) = AreExprs c args × IsInvocation c.program (object_class k) m result (kinds_of args)
   IsLink c k (link.TextCall' op shape args) = AreExprs c args × (k ≡ kind.Text) × (kinds_of args ≡ text_kinds op)
   IsLink c k (link.After e) = IsExpr c e

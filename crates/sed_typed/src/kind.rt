@@ -1,13 +1,11 @@
 //! Kinds of expressions.
 
 use crate::number::TypeNo;
-use sed_value::Prim;
 
 /// What an expression comes to.
 ///
-/// The first six are the kinds of results; all of them but `Void` are those of parameters and
-/// locals. An array or a Buf is named by an expression of one of the last two kinds, which only an
-/// index, `size` or `? :` uses: it is never stored.
+/// These are the kinds of results, and all of them but `Void` are those of parameters and locals.
+/// An array or a Buf is no value: what reads or stores an element names its field.
 #[derive(Clone, Copy, Debug, PartialEq, Eq)]
 pub enum Kind {
     Void,
@@ -18,8 +16,4 @@ pub enum Kind {
     Text,
     /// An object of this class or one below it, or null.
     Object(TypeNo),
-    /// So many elements of a primitive type.
-    Array(Prim, u16),
-    /// A Buf of so many bytes at most.
-    Buf(u8),
 }

@@ -64,10 +64,10 @@ pub enum Unary {
     ToLong,
     /// The low 32 bits of a long.
     ToInt,
-    /// The low 8 bits of an int, as an int.
-    LowByte,
-    /// The low 16 bits of an int, as an int.
-    LowShort,
+    /// The low 8 bits of an int or a long, as an int.
+    LowByte(Width),
+    /// The low 16 bits of an int or a long, as an int.
+    LowShort(Width),
 }
 
 /// Which value a compound assignment gives.

@@ -11,8 +11,9 @@ use sed_value::Prim;
 
 /// An expression.
 ///
-/// What follows an operand one after another (`a + b - c`, `a.f.g(x)[i]`) is a chain, so that only
-/// what counts as nesting makes a tree deep, and a long chain is evaluated and dropped by a loop.
+/// What follows an operand one after another (`a + b - c`, `a.f.g(x)[i]`) is a chain, so that a long
+/// one makes no tree high, and is evaluated and dropped by a loop. Arrays and Bufs are no values: a
+/// form that reads or stores an element, or reads a Buf, carries the object and names the field.
 #[derive(Drop)]
 #[cycle(tree)]
 pub enum Expr {
@@ -30,8 +31,10 @@ pub enum Expr {
     Local(Kind, u8),
     /// A primitive static field.
     Static(Prim, u16),
-    /// A static inline object, Str or array.
+    /// A static inline object or Str.
     StaticPart(Kind, u16),
+    /// An element of a static array of so many primitives: the static, and the index.
+    StaticElement(Prim, u16, u16, Box<Expr>),
     /// `Sys.ticks()`.
     Ticks,
     Unary(Unary, Box<Expr>),
@@ -62,14 +65,12 @@ pub enum Link {
     Field(Prim, u16),
     /// An inline object or Str of an object.
     Part(Kind, u16),
-    /// An array or a Buf of an object, which is only named: null is tested when it is used.
-    Elements(Kind, u16),
-    /// An element of an array of so many primitives.
-    Element(Prim, u16, Expr),
-    /// `size` of a Buf.
-    Size,
-    /// `bytes[i]` of a Buf.
-    Byte(Expr),
+    /// An element of an object's array of so many primitives: the field, and the index.
+    Element(Prim, u16, u16, Expr),
+    /// `size` of the Buf in this field of an object.
+    Size(u16),
+    /// `bytes[i]` of the Buf in this field of an object.
+    Byte(u16, Expr),
     /// A call of the method of this name that is nearest at or above the object's class.
     Invoke(Kind, u16, Vec<Expr>),
     TextCall(TextCall, Vec<Expr>),
@@ -84,8 +85,10 @@ pub enum Place {
     Local(Kind, u8),
     Static(Prim, u16),
     Field(Prim, Box<Expr>, u16),
-    /// An element of an array of so many primitives: the array, and the index.
-    Element(Prim, u16, Box<Expr>, Box<Expr>),
+    /// An element of an object's array of so many primitives: the object, the field, and the index.
+    Element(Prim, u16, Box<Expr>, u16, Box<Expr>),
+    /// An element of a static array of so many primitives: the static, and the index.
+    StaticElement(Prim, u16, u16, Box<Expr>),
 }
 
 #[cfg(test)]
