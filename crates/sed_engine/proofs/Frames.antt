@@ -67,14 +67,14 @@ module _ (program : Program) (class : ℕ) where
   frame_runs (k ∷ ks) others [] h room = absurd h
   frame_runs (k ∷ ks) others (v ∷ vs) h room = (held program class k v h.0, frame_runs ks others vs h.1 (omega (arith, room)))
 
-  begun_is : (k : Kind) (v : Val) → IsStorable k → HasKind program class k v → is_begun v ≡ true
+  begun_is : (k : Kind) (v : Val) → IsStorable program k → HasKind program class k v → is_begun v ≡ true
   begun_is kind.Void Nothing s h = absurd s
   begun_is k Nothing s h = absurd h
   begun_is k v s h = refl
 
   -- a new frame begins with as many locals as it has kinds
-  pub frame_begins : (ks : List Kind) (vs : List Val) → FrameHas ks vs → All IsStorable ks → are_begun (length ks) vs ≡ true
+  pub frame_begins : (ks : List Kind) (vs : List Val) → FrameHas ks vs → All (IsStorable program) ks → are_begun (length ks) vs ≡ true
   frame_begins [] [] h s = refl
   frame_begins [] (v ∷ vs) h s = and_from (not (is_begun v)) (are_begun 0 vs) (ap (λ (u : Val). not (is_begun u)) h.0) (frame_begins [] vs h.1 s)
   frame_begins (k ∷ ks) [] h s = absurd h
-  frame_begins (k ∷ ks) (v ∷ vs) h s = and_from (is_begun v) (are_begun (length ks) vs) (begun_is k v (All-head IsStorable k ks s) h.0) (frame_begins ks vs h.1 (All-tail IsStorable k ks s))
+  frame_begins (k ∷ ks) (v ∷ vs) h s = and_from (is_begun v) (are_begun (length ks) vs) (begun_is k v (All-head (IsStorable program) k ks s) h.0) (frame_begins ks vs h.1 (All-tail (IsStorable program) k ks s))

@@ -11,6 +11,8 @@ pub mod UntypedExamples
 pub mod LeftExamples
 pub mod SchemaExamples
 pub mod TypingExamples
+pub mod BodyExamples
+pub mod KindsThere
 pub mod KeepsFit
 pub mod RootLaws
 pub mod RootsFit

@@ -16,12 +16,14 @@ use Rattle.sed_typed.specs.declared.schema.SlotForm.TheVariants.{Prop, Action}
 use Rattle.sed_typed.specs.declared.statement.Label.TheVariants.{Case}
 use Rattle.sed_typed.specs.declared.statement.Stmt.{Stmt, end_of-Stmt, more_of-Stmt}
 use Rattle.sed_typed.specs.declared.statement.Stmt.TheVariants as stmt
+use Rattle.sed_typed.specs.declared.tree.Expr.{Expr}
 use Rattle.sed_typed.specs.declared.tree.Expr.TheVariants as expr
 use Rattle.sed_typed.specs.declared.tree.Place.TheVariants as place
 use Rattle.sed_typed.specs.SysTypes.{meta_slot}
 use Rattle.sed_typed.specs.Typed.{Typed, IsBody}
 use Rattle.sed_typed.specs.TypedSchema.{HasSlot}
-use Rattle.sed_engine.proofs.Building.{Pointer, vec_of, one, two, int, field, set}
+use Rattle.sed_typed.specs.declared.operators.Arithmetic.TheVariants as op
+use Rattle.sed_engine.proofs.Building.{Pointer, vec_of, one, two, int, chain, by, field, set}
 use Rattle.sed_engine.proofs.Ramp.{class_of, based_on, ramp_class, int_slot, step_field, out_field, nothing, adding, void_method, program_with, ramp}
 
 -- a test cannot be both
@@ -160,6 +162,14 @@ without_body p typed = absurd_other ((typed.methods 2 (void_method 5 [] (nothing
 named_as_field : (p : Pointer) → Typed (record (program_with (ramp_class 2 ∷ record (ramp_class 5) { number = 1; name = codes "Steep" } ∷ []) (step_field ∷ out_field ∷ []) p) { methods = void_method 6 (codes "step") (nothing p) ∷ [] }) → ⊥
 named_as_field p typed = let apart : 1 ≡ 0 = (typed.members 6 (lit< tt)).methods_apart 0 (void_method 6 [] (nothing p)) (lit< tt) refl in omega (arith, apart)
 
+-- a method that takes an object of a class that is not there
+taking : Pointer → Method
+taking p = record (void_method 5 (codes "take") (nothing p)) { params = kind.Object (record { 0 = 9999 }) ∷ [] }
+
+takes_unknown : (p : Pointer) → Typed (record (ramp p) { methods = (ramp p).methods ++ taking p ∷ [] }) → ⊥
+unfolding taking
+takes_unknown p typed = let there : 9999 < 6 = (typed.methods 3 (taking p) (lit< tt)).params 0 kind.Int (lit< tt) in omega (arith, there)
+
 -- ---- bodies
 
 with_body : (Pointer → Stmt) → Pointer → Program
@@ -216,6 +226,26 @@ nested (suc n) p = stmt.While' (expr.Bool 1) p (nested n p)
 too_deep : (p : Pointer) → Typed (with_body (nested 65) p) → ⊥
 unfolding nested
 too_deep p typed = let most : 65 ≤ 64 = (body_in (nested 65) p typed).depth in omega (arith, most)
+
+-- a chain whose head is a chain, and so on 2,080 times, which nests nowhere
+heads : ℕ → Pointer → Expr
+heads zero p = int 1
+heads (suc n) p = chain p (heads n p) (by op.Add (int 1))
+
+high : Pointer → Stmt
+high p = stmt.Do (heads 2080 p)
+
+too_high : (p : Pointer) → Typed (with_body high p) → ⊥
+unfolding heads high
+too_high p typed = let most : 2082 ≤ 2080 = (body_in high p typed).height in omega (arith, most)
+
+-- a declaration that leaves out a number
+leaving_out : Pointer → Stmt
+leaving_out p = stmt.Local kind.Int 2 None
+
+local_left_out : (p : Pointer) → Typed (with_body leaving_out p) → ⊥
+unfolding leaving_out
+local_left_out p typed = let next : 2 ≡ 1 = (body_in leaving_out p typed).numbered.0 in omega (arith, next)
 
 -- a text that stands twice
 text_twice : (p : Pointer) → Typed (record (ramp p) { texts = codes "a" ∷ codes "a" ∷ [] }) → ⊥

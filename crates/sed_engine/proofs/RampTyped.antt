@@ -18,7 +18,7 @@ use Rattle.sed_typed.specs.declared.statement.Stmt.{Stmt}
 use Rattle.sed_typed.specs.Classes.{base_of, find, fields, slots as slots_of, method_name}
 use Rattle.sed_typed.specs.SysTypes.{HasSysTypes}
 use Rattle.sed_typed.specs.TypedSchema.{HasKits, IsClass, HasSlot, HasSlots, IsField, HasMembers, Overrides, LiesDeeper, types_of, types_at}
-use Rattle.sed_typed.specs.Typed.{Typed, IsMethod, IsBody, IsFrame, IsStorable, HasBodies, IsText}
+use Rattle.sed_typed.specs.Typed.{Typed, IsMethod, IsBody, IsStorable, HasBodies, IsText}
 use Rattle.sed_engine.specs.declared.call.CallEnd.TheVariants.{Trap}
 use Rattle.sed_engine.specs.declared.call.Root.TheVariants.{Execute}
 use Rattle.sed_engine.specs.Code.{root_of, new_object}
@@ -279,24 +279,21 @@ members p (suc (suc (suc (suc (suc (suc n)))))) h = absurd (omega (arith, h))
 
 -- ---- methods
 
--- a body in a frame of the receiver alone
-frame : (class : ℕ) (name : List ℕ) (body : Stmt) → IsFrame (void_method class name body) (kind.Object (record { 0 = class }) ∷ [])
-frame class name body = record {
-  others = [];
-  order = refl;
-  storable = all_of IsStorable (kind.Object (record { 0 = class }) ∷ []) (tt, tt);
-  most_locals = lit≤ tt;
-}
+-- the receiver of a class that is there
+receiver_is : (p : Pointer) (class : ℕ) → class < 6 → All (IsStorable (ramp p)) (kind.Object (record { 0 = class }) ∷ [])
+receiver_is p class h = all_of (IsStorable (ramp p)) (kind.Object (record { 0 = class }) ∷ []) (h, tt)
 
-nothing_is_body : (p : Pointer) (class : ℕ) (name : List ℕ) → IsBody (ramp p) (void_method class name (nothing p)) (nothing p)
-nothing_is_body p class name = record { locals = kind.Object (record { 0 = class }) ∷ []; frame = frame class name (nothing p); typed = tt; depth = lit≤ tt }
+nothing_is_body : (p : Pointer) (class : ℕ) (name : List ℕ) → class < 6 → IsBody (ramp p) (void_method class name (nothing p)) (nothing p)
+nothing_is_body p class name h = record { storable = receiver_is p class h; numbered = tt; most_locals = lit≤ tt; typed = tt; depth = lit≤ tt; height = lit≤ tt }
 
 adding_is_body : (p : Pointer) → IsBody (ramp p) (void_method 5 (codes "execute") (adding p)) (adding p)
 adding_is_body p = record {
-  locals = kind.Object (record { 0 = 5 }) ∷ [];
-  frame = frame 5 (codes "execute") (adding p);
+  storable = receiver_is p 5 (lit< tt);
+  numbered = tt;
+  most_locals = lit≤ tt;
   typed = (((refl, refl), refl), (((refl, refl), (refl, tt)), ((((refl, refl), (refl, tt)), (refl, refl)), tt)), refl);
   depth = lit≤ tt;
+  height = lit≤ tt;
 }
 
 has_body : {P : Type 0} (body : Stmt) → Some body ≡ None → P
@@ -304,10 +301,10 @@ has_body body e = let never : ⊥ = cc in absurd never
 
 methods_are : (p : Pointer) → All (IsMethod (ramp p)) (ramp p).methods
 methods_are p = all_of (IsMethod (ramp p)) (ramp p).methods (
-  record { class = lit< tt; params = all_of IsStorable [] tt; params_most = lit≤ tt; result = tt; virtual = λ e. (refl, refl); no_body = has_body (nothing p); body = nothing_is_body p 2 (codes "execute") },
+  record { class = lit< tt; params = all_of (IsStorable (ramp p)) [] tt; params_most = lit≤ tt; result = tt; virtual = λ e. (refl, refl); no_body = has_body (nothing p); body = nothing_is_body p 2 (codes "execute") (lit< tt) },
   (
-    record { class = lit< tt; params = all_of IsStorable [] tt; params_most = lit≤ tt; result = tt; virtual = λ e. (refl, refl); no_body = has_body (nothing p); body = nothing_is_body p 3 (codes "save") },
-    (record { class = lit< tt; params = all_of IsStorable [] tt; params_most = lit≤ tt; result = tt; virtual = λ e. (refl, refl); no_body = has_body (adding p); body = adding_is_body p }, tt),
+    record { class = lit< tt; params = all_of (IsStorable (ramp p)) [] tt; params_most = lit≤ tt; result = tt; virtual = λ e. (refl, refl); no_body = has_body (nothing p); body = nothing_is_body p 3 (codes "save") (lit< tt) },
+    (record { class = lit< tt; params = all_of (IsStorable (ramp p)) [] tt; params_most = lit≤ tt; result = tt; virtual = λ e. (refl, refl); no_body = has_body (adding p); body = adding_is_body p }, tt),
   ),
 )
 

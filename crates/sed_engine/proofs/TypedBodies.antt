@@ -1,6 +1,7 @@
 -- Typed statements end as they may where they stand; so typed methods come to values of their results, or to traps.
-use Rattle.std.proofs.Common.{◌≡◌, ◌≤◌, ◌+◌, ℕ, zero, suc, Bool, true, false, if◌then◌else◌, List, [], ◌∷◌, ◌++◌, drop, length, Option, Some, None, Result, Ok, Err, refl, sym, ap, subst, ◌∙◌, append_assoc, length-append, arith}
+use Rattle.std.proofs.Common.{◌≡◌, ◌≤◌, ◌+◌, ℕ, zero, suc, Bool, true, false, if◌then◌else◌, List, [], ◌∷◌, ◌++◌, drop, length, map, Option, Some, None, Result, Ok, Err, refl, sym, ap, subst, length-append, arith}
 use Rattle.std.specs.Prelude.{All, IfSome, slice_get}
+use Rattle.std.proofs.lemmas.List.{length-map}
 use Rattle.std.proofs.lemmas.List.Elements.{All-nil, All-cons, All-append}
 use Rattle.sed_typed.specs.declared.kind.Kind.{Kind}
 use Rattle.sed_typed.specs.declared.kind.Kind.TheVariants as kind
@@ -11,7 +12,8 @@ use Rattle.sed_typed.specs.declared.statement.Stmt.{Stmt, Row_of-Stmt, end_of-St
 use Rattle.sed_typed.specs.declared.statement.Stmt.TheVariants as stmt
 use Rattle.sed_typed.specs.declared.tree.Expr.{Expr}
 use Rattle.sed_typed.specs.Kinds.{kind_of}
-use Rattle.sed_typed.specs.Typed.{Typed, IsMethod, IsBody, IsStorable, receiver_of}
+use Rattle.sed_typed.specs.Locals.{Declared}
+use Rattle.sed_typed.specs.Typed.{Typed, IsMethod, IsBody, IsStorable, receiver_of, declared_by, locals_of}
 use Rattle.sed_typed.specs.TypedExpr.{Context}
 use Rattle.sed_typed.specs.TypedStmt.{Around, in_loop, in_switch, IsTest, IsLast, IsBegun, IsReturned, IsStmt, AreStmts}
 use Rattle.sed_engine.specs.declared.trap.Trap.TheVariants.{TurnsSpent}
@@ -23,7 +25,7 @@ use Rattle.sed_engine.specs.Statements.{Flow, Next, Break, Continue, Return, Rou
 use Rattle.sed_engine.specs.Root.{answer_of, answered, untyped, run_body, run_method, calls_with}
 use Rattle.sed_engine.proofs.Below.{no, at_place}
 use Rattle.sed_engine.proofs.CallSteps.{CallsSound, weaker}
-use Rattle.sed_engine.proofs.Frames.{FrameHas, FrameHolds, local_has, frame_runs, frame_begins}
+use Rattle.sed_engine.proofs.Frames.{FrameHas, local_has, frame_runs, frame_begins}
 use Rattle.sed_engine.proofs.Kinded.{HasKind, goes, truth_is, whole_int, zero_is}
 use Rattle.sed_engine.proofs.Ranges.{Sound}
 use Rattle.sed_engine.proofs.Ready.{Fitting, Ready, Frame, Holds, then_holds, gives_it, answers_it, chooses, turn_holds, write_local_holds}
@@ -165,14 +167,16 @@ FlowAlone program class k (Return v) = HasKind program class k v
 abbrev alone : Around
 alone = record { breaks = false; continues = false }
 
--- the frame of a method with a body
-abbrev frame_for : (program : Program) (x : Method) (b : Stmt) → IsBody program x b → Frame
-frame_for program x b is = record { own = x.class; static = x.is_static; locals = is.locals; first = first }
+-- the kinds of what a method's body declares
+abbrev others : Method → List Kind
+others x = map (λ (d : Declared). d.kind) (declared_by x)
+
+-- the frame of a method
+abbrev frame_for : Method → Frame
+frame_for x = record { own = x.class; static = x.is_static; locals = locals_of x; first = first }
   where
-    first : x.is_static ≡ false → slice_get is.locals 0 ≡ Some (kind.Object x.class)
-    first instance =
-        ap (λ (all : List Kind). slice_get all 0) is.frame.order
-        ∙ ap (λ (static : Bool). slice_get ((if static then [] else kind.Object x.class ∷ []) ++ x.params ++ is.frame.others) 0) instance
+    first : x.is_static ≡ false → slice_get (locals_of x) 0 ≡ Some (kind.Object x.class)
+    first instance = ap (λ (static : Bool). slice_get ((if static then [] else kind.Object x.class ∷ []) ++ x.params ++ others x) 0) instance
 
 answer_is : (program : Program) (class : ℕ) (k : Kind) (flow : Flow) → FlowAlone program class k flow → Sound (HasKind program class k) (answer_of k flow)
 answer_is program class k Next h = zero_is program class k
@@ -197,16 +201,16 @@ module _ (program : Program) (typed : Typed program) (class : ℕ) (component : 
   within = record { program = program; class = class; calls = calls }
 
   begins : (x : Method) (b : Stmt) (is : IsBody program x b) (frame : List Val) (s : Shared) → FrameHas program class (receiver_of x ++ x.params) frame → length frame ≡ 65 → Fitting program class s →
-      Ready program class x.class x.is_static is.locals (record { shared = s; locals = frame })
+      Ready program class x.class x.is_static (locals_of x) (record { shared = s; locals = frame })
   begins x b is frame s h long fitting =
-      let all : (receiver_of x ++ x.params) ++ is.frame.others ≡ is.locals = sym is.frame.order in
-      let parts : length (receiver_of x ++ (x.params ++ is.frame.others)) ≡ length (receiver_of x) + length (x.params ++ is.frame.others) = length-append (receiver_of x) (x.params ++ is.frame.others) in
-      let same : length ((receiver_of x ++ x.params) ++ is.frame.others) ≡ length (receiver_of x ++ (x.params ++ is.frame.others)) = ap length (append_assoc (receiver_of x) x.params is.frame.others) in
+      let parts : length (locals_of x) ≡ length (receiver_of x ++ x.params) + length (others x) = length-append (receiver_of x ++ x.params) (others x) in
+      let front : length (receiver_of x ++ x.params) ≡ length (receiver_of x) + length x.params = length-append (receiver_of x) x.params in
+      let each : length (others x) ≡ length (declared_by x) = length-map (declared_by x) (λ (d : Declared). d.kind) in
       let one : length (receiver_of x) ≤ 1 = receiver_few x in
-      let few : length (x.params ++ is.frame.others) ≤ 64 = is.frame.most_locals in
+      let few : length x.params + length (declared_by x) ≤ 64 = is.most_locals in
       record {
         fitting = fitting;
-        holds = subst (λ (ks : List Kind). FrameHolds program class ks frame) all (frame_runs program class (receiver_of x ++ x.params) is.frame.others frame h (omega (arith, long, parts, same, one, few)));
+        holds = frame_runs program class (receiver_of x ++ x.params) (others x) frame h (omega (arith, long, parts, front, each, one, few));
         this = λ instance. local_has program class (receiver_of x ++ x.params) frame 0 (kind.Object x.class) h (ap (λ (static : Bool). slice_get ((if static then [] else kind.Object x.class ∷ []) ++ x.params) 0) instance);
       }
 
@@ -214,15 +218,15 @@ module _ (program : Program) (typed : Typed program) (class : ℕ) (component : 
       Fitting program class (run_body within x.result o frame s).shared × Sound (HasKind program class x.result) (run_body within x.result o frame s).result
   body_sound x None frame s is some h long fitting = absurd (some refl)
   body_sound x (Some b) frame s is some h long fitting =
-      let run = (of_stmt program typed class component (frame_for program x b is) calls sound x.result b alone is.typed).holds (record { shared = s; locals = frame }) (begins x b is frame s h long fitting) in
+      let run = (of_stmt program typed class component (frame_for x) calls sound x.result b alone is.typed).holds (record { shared = s; locals = frame }) (begins x b is frame s h long fitting) in
       (run.0.fitting, answered_is program class x.result (exec within b (record { shared = s; locals = frame })).result run.1)
 
-storable_of : (program : Program) (x : Method) → IsMethod program x → All IsStorable (receiver_of x ++ x.params)
-storable_of program x is = All-append IsStorable (receiver_of x) x.params (go x.is_static) is.params
+storable_of : (program : Program) (x : Method) → IsMethod program x → All (IsStorable program) (receiver_of x ++ x.params)
+storable_of program x is = All-append (IsStorable program) (receiver_of x) x.params (go x.is_static) is.params
   where
-    go : (b : Bool) → All IsStorable (if b then [] else kind.Object x.class ∷ [])
-    go true = All-nil IsStorable
-    go false = All-cons IsStorable (kind.Object x.class) [] tt (All-nil IsStorable)
+    go : (b : Bool) → All (IsStorable program) (if b then [] else kind.Object x.class ∷ [])
+    go true = All-nil (IsStorable program)
+    go false = All-cons (IsStorable program) (kind.Object x.class) [] is.class (All-nil (IsStorable program))
 
 -- calls of typed methods are sound, with however many frames left
 pub calls_sound : (program : Program) → Typed program → (class : ℕ) → Concrete program class → (frames : ℕ) → CallsSound program class (calls_with program class frames)

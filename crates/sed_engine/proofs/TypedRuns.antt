@@ -73,7 +73,7 @@ module _ (program : Program) (typed : Typed program) (class : ℕ) (component : 
     of_expr (expr.Int n) t = gives_it (Int n) t
     of_expr (expr.Long n) t = gives_it (Long n) t
     of_expr (expr.Bool b) t = gives_it (Truth b) (le-leb b 2 t)
-    of_expr (expr.Null k) t = gives_it Null (null_is k t)
+    of_expr (expr.Null k) t = gives_it Null (null_is k t.0)
     of_expr (expr.Text n) t = gives_it (Literal n) t
     of_expr (expr.This d) t = weaker (this_holds program typed class component m t.0) (λ v h. self_is d v t.1 h)
     of_expr (expr.Local k i) t = read_local_holds program typed class component m i k t

@@ -1,5 +1,5 @@
--- Kinds, depths and frames of small trees: what the rules give, and what they refuse.
-use Rattle.std.proofs.Common.{◌≡◌, ◌≤◌, ℕ, pos, Bool, true, false, [], ◌∷◌, List, Option, Some, None, codes, refl, ap, arith}
+-- Kinds of small trees, calls, and fields: what the rules give, and what they refuse.
+use Rattle.std.proofs.Common.{◌≡◌, ◌≤◌, ℕ, pos, Bool, true, false, [], ◌∷◌, List, Option, Some, None, codes, refl, ap, lit<, arith}
 use Rattle.sed_value.specs.declared.slot_type.Primitive.TheVariants as prim
 use Rattle.sed_value.specs.declared.value.Value.TheVariants as kept
 use Rattle.sed_typed.specs.declared.kind.Kind.{Kind}
@@ -11,17 +11,16 @@ use Rattle.sed_typed.specs.declared.operators.Width.TheVariants as width
 use Rattle.sed_typed.specs.declared.program.FieldForm.{FieldForm}
 use Rattle.sed_typed.specs.declared.program.FieldForm.TheVariants as form
 use Rattle.sed_typed.specs.declared.program.Program.{Program}
-use Rattle.sed_typed.specs.declared.statement.Stmt.TheVariants as stmt
-use Rattle.sed_typed.specs.declared.tree.Expr.{Expr, end_of-Expr, more_of-Expr}
+use Rattle.sed_typed.specs.declared.tree.Expr.{Expr}
 use Rattle.sed_typed.specs.declared.tree.Expr.TheVariants as expr
 use Rattle.sed_typed.specs.declared.tree.Link.TheVariants as link
-use Rattle.sed_typed.specs.Depth.{depth_of, stmt_depth}
+use Rattle.sed_typed.specs.Depth.{depth_of}
 use Rattle.sed_typed.specs.Kinds.{kind_of}
 use Rattle.sed_typed.specs.Typed.{IsMethod}
 use Rattle.sed_typed.specs.TypedExpr.{Context, IsExpr, GoesTo, IsStaticCall, IsInvocation, IsSuperCall}
 use Rattle.sed_typed.specs.TypedSchema.{IsField}
 use Rattle.sed_typed.specs.TypedStmt.{IsReturned}
-use Rattle.sed_engine.proofs.Building.{Pointer, one, int, chain, by, this, y, y_is, field, int_field, simple}
+use Rattle.sed_engine.proofs.Building.{Pointer, int, chain, by, this, field, int_field, simple}
 use Rattle.sed_engine.proofs.Ramp.{nothing, void_method, ramp}
 
 -- in an instance method of the ramp, and in a static one, that gives this kind
@@ -102,6 +101,15 @@ no_array_value : (p : Pointer) (k : Kind) → IsExpr (in_parts p) (chain p this 
 unfolding with_parts in_parts
 no_array_value p k h = let none : ◌≡◌ {A = Option Kind} None (Some k) = h.1.0 in let never : ⊥ = cc in never
 
+-- `null` as an object of a class that is there, and of one that is not
+null_is_typed : (p : Pointer) → IsExpr (in_method false kind.Void p) (expr.Null (kind.Object (record { 0 = 5 })))
+unfolding in_method
+null_is_typed p = (tt, lit< tt)
+
+null_of_nothing : (p : Pointer) → IsExpr (in_method false kind.Void p) (expr.Null (kind.Object (record { 0 = 9999 }))) → ⊥
+unfolding in_method
+null_of_nothing p h = omega (arith, h.1)
+
 -- true ? 1 : 1L
 two_kinds : (p : Pointer) → IsExpr (in_method false kind.Void p) (expr.Choose' p (expr.Bool 1) p (int 1) p (expr.Long (pos 1))) → ⊥
 two_kinds p h = never_kind h.4
@@ -136,27 +144,6 @@ super_call p = ((refl, (refl, record { gives = refl; takes = tt })), λ e. let n
 -- `super` of an abstract method
 super_of_abstract : (p : Pointer) → IsSuperCall (record (ramp p) { methods = record (void_method 2 (codes "execute") (nothing p)) { body = None } ∷ [] }) 5 0 kind.Void [] → ⊥
 super_of_abstract p h = h.1 refl
-
--- ---- depths
-
--- -(-1), y = (y = 1), f(1), true ? 1 : 1: one for each; a chain nests no deeper than its deepest operand
-negated : (p : Pointer) → depth_of (expr.Unary' (unary.Negate width.Int) p (expr.Unary' (unary.Negate width.Int) p (int 1))) ≡ 2
-negated p = refl
-
-assigned : (p : Pointer) → depth_of (y_is p 1) ≡ 1
-assigned p = refl
-
-called : (p : Pointer) → depth_of (expr.Call' kind.Int 0 (one p) (more_of-Expr (int 1) end_of-Expr)) ≡ 1
-called p = refl
-
-chosen : (p : Pointer) → depth_of (expr.Choose' p (expr.Bool 1) p (int 1) p (y_is p 1)) ≡ 2
-chosen p = refl
-
-added : (p : Pointer) → depth_of (chain p (y p) (by op.Add (y_is p 1))) ≡ 1
-added p = refl
-
-looped : (p : Pointer) → stmt_depth (stmt.While' (expr.Bool 1) p (stmt.If' (expr.Bool 1) p stmt.Break p stmt.Empty)) ≡ 2
-looped p = refl
 
 -- ---- frames and fields
 

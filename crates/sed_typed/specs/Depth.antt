@@ -1,5 +1,6 @@
 -- How deep trees nest, as the grammar of the language counts it, by which at most 64 constructs are open at a place. Links of
--- a chain stand beside one another, and so do the statements of a method's own body, which open nothing.
+-- a chain stand beside one another, and so do the statements of a method's own body. Neither these nor an empty block open
+-- anything.
 use Rattle.std.specs.Prelude.{ℕ, suc, max, Option, Some, None}
 use Rattle.sed_typed.specs.declared.operators.Unary.{Unary}
 use Rattle.sed_typed.specs.declared.operators.Unary.TheVariants as unary
@@ -73,7 +74,7 @@ abbrev mutual
   stmt_depth stmt.Empty = 0
   stmt_depth (stmt.Do e) = depth_of e
   stmt_depth (stmt.Local k i e) = depth_or e
-  stmt_depth (stmt.Block' shape all) = suc (stmts_depth all)
+  stmt_depth (stmt.Block' shape all) = block_depth all
   stmt_depth (stmt.If' t p a q b) = suc (max (depth_of t) (max (stmt_depth a) (stmt_depth b)))
   stmt_depth (stmt.While' t p body) = suc (max (depth_of t) (stmt_depth body))
   stmt_depth (stmt.DoWhile' p body t) = suc (max (depth_of t) (stmt_depth body))
@@ -86,6 +87,10 @@ abbrev mutual
   pub stmts_depth : {n : _} → Row_of-Stmt n → ℕ
   stmts_depth end_of-Stmt = 0
   stmts_depth (more_of-Stmt x xs) = max (stmt_depth x) (stmts_depth xs)
+
+  pub block_depth : {n : _} → Row_of-Stmt n → ℕ
+  block_depth end_of-Stmt = 0
+  block_depth (more_of-Stmt x xs) = suc (max (stmt_depth x) (stmts_depth xs))
 
   -- the block of a case is not counted
   pub cases_depth : {n : _} → Row_of-Stmt n → ℕ

@@ -10,4 +10,6 @@ pub mod TypedSchema
 pub mod TypedExpr
 pub mod TypedStmt
 pub mod Depth
+pub mod Height
+pub mod Locals
 pub mod Typed

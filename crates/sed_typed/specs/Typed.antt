@@ -1,6 +1,7 @@
 -- Typed programs.
-use Rattle.std.specs.Prelude.{ℕ, ◌≡◌, ◌≤◌, ◌<◌, true, false, IsTrue, All, IfSome, IsSomeAnd, if◌then◌else◌, List, [], ◌∷◌, ◌++◌, count_by, length, nat_lt, slice_get, sum_by, None, codes}
+use Rattle.std.specs.Prelude.{ℕ, ◌≡◌, ◌≤◌, ◌<◌, ◌+◌, true, false, IsTrue, All, IfSome, IsSomeAnd, if◌then◌else◌, List, [], ◌∷◌, ◌++◌, count_by, length, map, nat_lt, slice_get, sum_by, None, codes}
 use Rattle.std.specs.List.{list_all}
+use Rattle.std.specs.Option.{option_map_or}
 use Rattle.std.specs.Str.{bytes_eq}
 use Rattle.sed_typed.specs.declared.kind.Kind.{Kind}
 use Rattle.sed_typed.specs.declared.kind.Kind.TheVariants as kind
@@ -13,47 +14,45 @@ use Rattle.sed_typed.specs.Classes.{fields as fields_of, find, method_name}
 use Rattle.sed_typed.specs.Sizes.{form_size, data_size}
 use Rattle.sed_typed.specs.TypedSchema.{HasKits, IsClass, HasSlots, IsAction, IsField, LiesDeeper, HasMembers, is_abstract, is_below}
 use Rattle.sed_typed.specs.SysTypes.{virtual_class, component_class}
+use Rattle.sed_typed.specs.TypedExpr.{IsKindOf}
 use Rattle.sed_typed.specs.TypedStmt.{IsStmt}
 use Rattle.sed_typed.specs.Depth.{body_depth}
+use Rattle.sed_typed.specs.Height.{stmt_height}
+use Rattle.sed_typed.specs.Locals.{Declared, AreNumbered, declared_in}
 
--- what a parameter or a local may be
-abbrev pub IsStorable : Kind → Type 0
-IsStorable kind.Void = ⊥
-IsStorable kind.Bool = Unit {0}
-IsStorable kind.Int = Unit {0}
-IsStorable kind.Long = Unit {0}
-IsStorable kind.Text = Unit {0}
-IsStorable (kind.Object class) = Unit {0}
-
--- what a result may be
-abbrev pub IsResult : Kind → Type 0
-IsResult kind.Void = Unit {0}
-IsResult k = IsStorable k
+-- what a parameter or a local may be; a result may be void too
+abbrev pub IsStorable : Program → Kind → Type 0
+IsStorable program kind.Void = ⊥
+IsStorable program k = IsKindOf program k
 
 -- a method's receiver, if it has one
 abbrev pub receiver_of : Method → List Kind
 receiver_of m = if m.is_static then [] else kind.Object m.class ∷ []
 
--- the frame of a method: the receiver, the parameters, and the other locals, of which there are at most 64 with the parameters
-pub record IsFrame (m : Method) (locals : List Kind) : Type 0 where
-  pub others : List Kind
-  pub order : locals ≡ receiver_of m ++ m.params ++ others
-  pub storable : All IsStorable locals
-  pub most_locals : length (m.params ++ others) ≤ 64
+-- the locals that a method's body declares
+abbrev pub declared_by : Method → List Declared
+declared_by m = option_map_or declared_in m.body []
 
--- a body in a frame
+-- the kinds of a method's locals: the receiver's, those of the parameters, and then of what the body declares
+abbrev pub locals_of : Method → List Kind
+locals_of m = receiver_of m ++ m.params ++ map (λ d. d.kind) (declared_by m)
+
+-- A body of a method. Its declarations are numbered on from the receiver and the parameters, and there are at most 64 locals
+-- with the parameters. At most 64 constructs are open at a place, and the tree has at most 32 levels for each nesting from 0 to 64.
 pub record IsBody (program : Program) (m : Method) (body : Stmt) : Type 0 where
-  pub locals : List Kind
-  pub frame : IsFrame m locals
-  pub typed : IsStmt (record { program = program; class = m.class.0; is_static = m.is_static; locals = locals; result = m.result }) (record { breaks = false; continues = false }) body
+  pub storable : All (IsStorable program) (locals_of m)
+  pub numbered : AreNumbered (length (receiver_of m ++ m.params)) (declared_by m)
+  pub most_locals : length m.params + length (declared_by m) ≤ 64
+  pub typed : IsStmt (record { program = program; class = m.class.0; is_static = m.is_static; locals = locals_of m; result = m.result }) (record { breaks = false; continues = false }) body
   pub depth : body_depth body ≤ 64
+  pub height : stmt_height body ≤ 2080
 
 -- a method of a class; only an instance method of a class at or below `Virtual` is virtual, and one without a body is
 pub record IsMethod (program : Program) (m : Method) : Type 0 where
   pub class : m.class.0 < length program.schema.classes
-  pub params : All IsStorable m.params
+  pub params : All (IsStorable program) m.params
   pub params_most : length m.params ≤ 8
-  pub result : IsResult m.result
+  pub result : IsKindOf program m.result
   pub virtual : m.is_virtual ≡ true → (m.is_static ≡ false) × IsTrue (is_below program.schema.classes virtual_class m.class.0)
   pub no_body : m.body ≡ None → (m.is_virtual ≡ true) × (is_abstract program.schema.classes m.class.0 ≡ true)
   pub body : IfSome m.body (IsBody program m)

@@ -39,6 +39,11 @@ pub record Context : Type 0 where
 
 -- ---- kinds
 
+-- a kind of a program: if it is that of objects, their class is there
+abbrev pub IsKindOf : Program → Kind → Type 0
+IsKindOf program (kind.Object class) = class.0 < length program.schema.classes
+IsKindOf program k = Unit {0}
+
 abbrev pub IsReference : Kind → Type 0
 IsReference kind.Void = ⊥
 IsReference kind.Bool = ⊥
@@ -149,7 +154,7 @@ abbrev mutual
   IsExpr c (expr.Int n) = IsTrue (is_signed w32 n)
   IsExpr c (expr.Long n) = IsTrue (is_signed w64 n)
   IsExpr c (expr.Bool t) = t ≤ 2
-  IsExpr c (expr.Null k) = IsReference k
+  IsExpr c (expr.Null k) = IsReference k × IsKindOf c.program k
   IsExpr c (expr.Text n) = n < length c.program.texts
   IsExpr c (expr.This class) = (c.is_static ≡ false) × (class.0 ≡ c.class)
   IsExpr c (expr.Local k i) = slice_get c.locals i ≡ Some k
