@@ -1,4 +1,5 @@
 pub mod ArithmeticLemmas
 pub mod DecimalLemmas
 pub mod InPlaceLemmas
+pub mod ByteLemmas
 pub mod WrapLemmas

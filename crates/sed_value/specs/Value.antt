@@ -1,5 +1,6 @@
 -- Which values are of a type, and what a slot keeps of one.
-use Rattle.std.specs.Prelude.{◌^◌, ℤ, pos, Bool, false, ◌||◌, nat_le, nat_lt, length}
+use Rattle.std.specs.Prelude.{ℕ, ◌^◌, ℤ, pos, Bool, false, ◌||◌, ◌&&◌, nat_le, nat_lt, List, length}
+use Rattle.std.specs.List.{list_all}
 use Rattle.std.specs.Int.{Width, w8, w16, w32, w64}
 use Rattle.std.specs.Int.Signed.{mag}
 use mir.Val.{hbits}
@@ -14,6 +15,10 @@ use Rattle.sed_value.specs.Wrap.{low_bits}
 abbrev pub is_signed : Width → ℤ → Bool
 is_signed width number = nat_lt (mag number) (2 ^ hbits width)
 
+-- numbers below 256
+abbrev pub are_bytes : List ℕ → Bool
+are_bytes numbers = list_all (λ n. nat_lt n 256) numbers
+
 -- a truth value of 0, 1 or 2; a whole number within its type; bytes, no more than the type holds
 abbrev pub is_of_type : SlotType → Value → Bool
 is_of_type (PrimSlot BoolType) (Truth truth) = nat_le truth 2
@@ -21,7 +26,7 @@ is_of_type (PrimSlot ByteType) (Byte number) = nat_lt number (2 ^ 8)
 is_of_type (PrimSlot ShortType) (Short number) = nat_lt number (2 ^ 16)
 is_of_type (PrimSlot IntType) (Int number) = is_signed w32 number
 is_of_type (PrimSlot LongType) (Long number) = is_signed w64 number
-is_of_type (BufSlot most) (Buf bytes) = nat_le (length bytes) most
+is_of_type (BufSlot most) (Buf bytes) = are_bytes bytes && nat_le (length bytes) most
 is_of_type slot value = false
 
 -- a byte or short is read as an int

@@ -1,5 +1,5 @@
 //! What a slot holds.
-ghost use Rattle.std.specs.Prelude.{◌≡◌, IsTrue};
+ghost use Rattle.std.specs.Prelude.{◌≡◌, ◌&&◌, IsTrue, nat_le, length};
 ghost use Rattle.sed_value.specs.Value as values;
 
 use crate::conversion::{int_to_long, low_byte, low_short};
@@ -42,7 +42,7 @@ impl Value {
             (SlotType::Prim(Primitive::Short), Value::Short(_number)) => true,
             (SlotType::Prim(Primitive::Int), Value::Int(_number)) => true,
             (SlotType::Prim(Primitive::Long), Value::Long(_number)) => true,
-            (SlotType::Buf(most), Value::Buf(bytes)) => bytes.as_bytes().len() <= usize::from(most),
+            (SlotType::Buf(most), Value::Buf(bytes)) => are_bytes_within(bytes.as_bytes(), most),
             _ => false,
         }
     }
@@ -78,4 +78,11 @@ impl Value {
             (_, other) => other,
         }
     }
+}
+
+// Whether they are bytes, which they always are, and no more than this.
+fn are_bytes_within(bytes: &[u8], most: u8) -> bool
+    ensures { result ≡ (values.are_bytes bytes.now && nat_le (length bytes.now) most) }
+{
+    bytes.len() <= usize::from(most)
 }
