@@ -15,7 +15,8 @@ pub enum Label {
 pub enum Stmt {
     Empty,
     Do(Expr),
-    /// A local with its initial value; without one it begins as 0, false or null.
+    /// A local with its number in the frame and its initial value; without one it begins as 0, false
+    /// or null.
     Local(Kind, u8, Option<Expr>),
     Block(Vec<Stmt>),
     If(Expr, Box<Stmt>, Box<Stmt>),

@@ -1,8 +1,9 @@
 //! Expressions, with every name in them resolved.
 //!
 //! A method's frame has its receiver in local 0, where it is not static, then its parameters and
-//! then its other locals. A field is named by its number among the class's fields, inherited ones
-//! first; statics, methods and texts by their places in the program's lists.
+//! then its other locals in the order of their declarations. A field is named by its number among
+//! the class's fields, inherited ones first; statics, methods and texts by their places in the
+//! program's lists.
 
 use crate::kind::Kind;
 use crate::number::TypeNo;
