@@ -1,5 +1,5 @@
 -- Which kinds a piece can have, by its first byte.
-use Rattle.std.proofs.Common.{◌≡◌, ℕ, ◌≤◌, nat_le, Bool, true, false, ◌||◌, ◌==◌, not, cond, IsTrue, List, [], ◌∷◌, ◌++◌, length, map, take, drop, Option, Some, None, inl, inr, refl, sym, ap, subst, ◌∙◌, arith}
+use Rattle.std.proofs.Common.{◌≡◌, ℕ, ◌≤◌, nat_le, Bool, true, false, ◌||◌, ◌==◌, not, cond, IsTrue, List, [], ◌∷◌, ◌++◌, length, take, drop, Option, Some, None, inl, inr, refl, sym, ap, subst, ◌∙◌, arith}
 use Rattle.std.specs.List.{list_all}
 use Rattle.std.proofs.lemmas.Bool.Decides.{nat_tests}
 use Rattle.std.proofs.lemmas.List.{length-take-le, take-append-drop}
@@ -7,9 +7,8 @@ use Rattle.sed_value.specs.Characters.{is_digit, is_word_byte}
 use Rattle.sed_value.specs.Names.{is_identifier}
 use Rattle.sed_lexer.specs.declared.kind.TokenKind.{TokenKind}
 use Rattle.sed_lexer.specs.declared.kind.TokenKind.TheVariants.{Id, Key, Integer, Character, Text, Mark}
-use Rattle.sed_lexer.specs.declared.words.TheConstants.{KEY_WORDS, MARKS}
 use Rattle.sed_lexer.specs.Gaps.{is_blank, IsGap}
-use Rattle.sed_lexer.specs.Words.{is_key_word, is_mark}
+use Rattle.sed_lexer.specs.Words.{key_words, is_key_word, marks, is_mark}
 use Rattle.sed_lexer.specs.Integers.{IsInteger}
 use Rattle.sed_lexer.specs.Spellings.{IsCharacter, IsText}
 use Rattle.sed_lexer.specs.Pieces.{IsPiece}
@@ -55,10 +54,10 @@ other_lead lead h = cc
 
 -- a key word is an identifier
 pub key_is_word : (bytes : List ℕ) → is_key_word bytes ≡ true → IsWord bytes
-key_is_word bytes is = among_passes is_identifier (map (λ word. word.now) KEY_WORDS) bytes refl is
+key_is_word bytes is = among_passes is_identifier key_words bytes refl is
 
 pub mark_begins : (bytes : List ℕ) → is_mark bytes ≡ true → begins_other bytes ≡ true
-mark_begins bytes is = among_passes begins_other (map (λ mark. mark.now) MARKS) bytes refl is
+mark_begins bytes is = among_passes begins_other marks bytes refl is
 
 gap_not_empty : IsGap [] → ⊥
 gap_not_empty (inl (b, e, is)) = cc
@@ -202,7 +201,7 @@ short_as_comment (b ∷ bs) = not ((b == 47) || (b == 42)) || nat_le (length bs)
 
 at_most_two : (b : ℕ) (bs : List ℕ) → ((b == 47) || (b == 42)) ≡ true → is_mark (b ∷ bs) ≡ true → length bs ≤ 1
 at_most_two b bs lead is =
-    let short : (not ((b == 47) || (b == 42)) || nat_le (length bs) 1) ≡ true = among_passes short_as_comment (map (λ mark. mark.now) MARKS) (b ∷ bs) refl is in
+    let short : (not ((b == 47) || (b == 42)) || nat_le (length bs) 1) ≡ true = among_passes short_as_comment marks (b ∷ bs) refl is in
     grind (arith, nat_tests)
 
 mark_in_comment : (b : ℕ) (bs mark rest after : List ℕ) → (b ∷ bs) ++ rest ≡ mark ++ after → ((b == 47) || (b == 42)) ≡ true → 1 ≤ length bs → is_mark mark ≡ true → length mark ≤ length (b ∷ bs)

@@ -1,12 +1,12 @@
 -- The integer that begins a text.
-use Rattle.std.proofs.Common.{◌≡◌, ℕ, suc, ◌+◌, ◌≤◌, Bool, true, false, not, ◌||◌, ◌==◌, IsTrue, List, [], ◌∷◌, ◌++◌, length, take, drop, map, Option, Some, None, unwrap_or, inl, inr, refl, sym, ap, subst, ◌∙◌, arith, append_assoc}
+use Rattle.std.proofs.Common.{◌≡◌, ℕ, suc, ◌+◌, ◌≤◌, Bool, true, false, not, ◌||◌, ◌==◌, IsTrue, List, [], ◌∷◌, ◌++◌, length, take, drop, Option, Some, None, unwrap_or, inl, inr, refl, sym, ap, subst, ◌∙◌, arith, append_assoc}
 use Rattle.std.specs.List.{list_all}
 use Rattle.std.specs.Str.{bytes_eq}
 use Rattle.std.proofs.Math.Seq.{take-add}
 use Rattle.std.proofs.lemmas.Bool.{cases_lt}
 use Rattle.std.proofs.lemmas.List.{length-take-le, take-append-drop, length-append, length-drop, drop_at}
 use Rattle.sed_value.specs.Characters.{is_digit}
-use Rattle.sed_lexer.specs.declared.integers.TheConstants.{DECIMAL_SUFFIXES, HEX_SUFFIXES}
+use Rattle.sed_lexer.specs.Integers.{decimal_suffixes, hex_suffixes}
 use Rattle.sed_lexer.specs.Words.{is_among}
 use Rattle.sed_lexer.specs.Integers.{is_hex_digit, are_digits, IsNumeral, IsDecimalNumeral, IsHexNumeral, IsInteger}
 use Rattle.sed_lexer.specs.Fronts.{NoFront, IsLongestFront, FindsLongest}
@@ -85,12 +85,12 @@ pub no_numeral : (p : ℕ → Bool) (suffixes : List (List ℕ)) (text : List �
 no_numeral p suffixes text none bytes after e (front, suffix, spelled, run, is) =
     none front (suffix ++ after) (e ∙ ap (λ (x : List ℕ). x ++ after) spelled ∙ append_assoc front suffix after) run
 
-pub decimal_found : (text : List ℕ) (n m : ℕ) → IsLongestFront (IsDigits is_digit) text n → IsLongestFront (IsSuffix (map (λ suffix. suffix.now) DECIMAL_SUFFIXES)) (drop n text) m
+pub decimal_found : (text : List ℕ) (n m : ℕ) → IsLongestFront (IsDigits is_digit) text n → IsLongestFront (IsSuffix decimal_suffixes) (drop n text) m
     → IsLongestFront IsDecimalNumeral text (n + m)
-decimal_found text n m digits ending = numeral_found is_digit (map (λ suffix. suffix.now) DECIMAL_SUFFIXES) text n m refl digits ending
+decimal_found text n m digits ending = numeral_found is_digit decimal_suffixes text n m refl digits ending
 
 abbrev IsHexRest : List ℕ → Type 0
-IsHexRest bytes = IsNumeral is_hex_digit (map (λ suffix. suffix.now) HEX_SUFFIXES) bytes
+IsHexRest bytes = IsNumeral is_hex_digit hex_suffixes bytes
 
 hex_behind : (rest : List ℕ) (n : ℕ) → IsLongestFront IsHexRest rest n → IsLongestFront IsHexNumeral (48 ∷ 120 ∷ rest) (suc (suc n))
 hex_behind rest n found = record { within = omega (arith, found.within); has = (take n rest, refl, found.has); most = most }
@@ -102,17 +102,17 @@ hex_behind rest n found = record { within = omega (arith, found.within); has = (
         omega (arith, found.most numeral after behind is, ap length spelled)
 
 pub hex_found : (text : List ℕ) (n m : ℕ) → text ≡ 48 ∷ 120 ∷ drop 2 text → IsLongestFront (IsDigits is_hex_digit) (drop 2 text) n
-    → IsLongestFront (IsSuffix (map (λ suffix. suffix.now) HEX_SUFFIXES)) (drop n (drop 2 text)) m → IsLongestFront IsHexNumeral text (2 + n + m)
+    → IsLongestFront (IsSuffix hex_suffixes) (drop n (drop 2 text)) m → IsLongestFront IsHexNumeral text (2 + n + m)
 hex_found text n m begins digits ending =
     let size : 2 + n + m ≡ suc (suc (n + m)) = omega arith in
     rw size (subst (λ (x : List ℕ). IsLongestFront IsHexNumeral x (suc (suc (n + m)))) (sym begins)
-    (hex_behind (drop 2 text) (n + m) (numeral_found is_hex_digit (map (λ suffix. suffix.now) HEX_SUFFIXES) (drop 2 text) n m refl digits ending)))
+    (hex_behind (drop 2 text) (n + m) (numeral_found is_hex_digit hex_suffixes (drop 2 text) n m refl digits ending)))
 
 pub no_hex : (text : List ℕ) → text ≡ 48 ∷ 120 ∷ drop 2 text → NoFront (IsDigits is_hex_digit) (drop 2 text) → NoFront IsHexNumeral text
 no_hex text begins none bytes after e (numeral, spelled, is) =
     let whole : 48 ∷ 120 ∷ drop 2 text ≡ 48 ∷ 120 ∷ (numeral ++ after) = sym begins ∙ e ∙ ap (λ (x : List ℕ). x ++ after) spelled in
     let behind : drop 2 text ≡ numeral ++ after = cc in
-    no_numeral is_hex_digit (map (λ suffix. suffix.now) HEX_SUFFIXES) (drop 2 text) none numeral after behind is
+    no_numeral is_hex_digit hex_suffixes (drop 2 text) none numeral after behind is
 
 -- a decimal that begins a text which `0x` begins is the 0
 pub decimal_in_hex : (front suffix rest : List ℕ) → 48 ∷ 120 ∷ rest ≡ front ++ suffix → IsDigits is_digit front → length front ≤ 1
@@ -127,14 +127,14 @@ decimal_in_hex (d ∷ c ∷ ds) suffix rest e run =
     no_x h = cc
 
 decimal_short : (front suffix after rest : List ℕ) → 48 ∷ 120 ∷ rest ≡ front ++ (suffix ++ after) → IsDigits is_digit front
-    → IsSuffix (map (λ suffix. suffix.now) DECIMAL_SUFFIXES) suffix → length front + length suffix ≤ 2
+    → IsSuffix decimal_suffixes suffix → length front + length suffix ≤ 2
 decimal_short [] suffix after rest e run is = cc
 decimal_short (d ∷ []) [] after rest e run is = omega arith
 decimal_short (d ∷ []) (s ∷ ss) after rest e run is =
     let second : 120 ≡ s = cc in
-    absurd (no_x ss (subst (λ (x : ℕ). IsSuffix (map (λ suffix. suffix.now) DECIMAL_SUFFIXES) (x ∷ ss)) (sym second) is))
+    absurd (no_x ss (subst (λ (x : ℕ). IsSuffix decimal_suffixes (x ∷ ss)) (sym second) is))
   where
-    no_x : (ss : List ℕ) → IsSuffix (map (λ suffix. suffix.now) DECIMAL_SUFFIXES) (120 ∷ ss) → ⊥
+    no_x : (ss : List ℕ) → IsSuffix decimal_suffixes (120 ∷ ss) → ⊥
     no_x ss h = cc
 decimal_short (d ∷ c ∷ ds) suffix after rest e run is =
     let short : length (d ∷ c ∷ ds) ≤ 1 = decimal_in_hex (d ∷ c ∷ ds) (suffix ++ after) rest e run in

@@ -1,9 +1,8 @@
 -- How integers are written.
-use Rattle.std.specs.Prelude.{◌≡◌, ℕ, Bool, ◌==◌, ◌||◌, ◌⊎◌, IsTrue, List, [], ◌∷◌, ◌++◌, map, codes}
+use Rattle.std.specs.Prelude.{◌≡◌, ℕ, Bool, ◌==◌, ◌||◌, ◌⊎◌, IsTrue, List, [], ◌∷◌, ◌++◌, codes}
 use Rattle.std.specs.Str.{byte}
 use Rattle.sed_value.specs.Characters.{is_between, is_digit}
 use Rattle.sed_value.specs.Names.{is_first_then}
-use Rattle.sed_lexer.specs.declared.integers.TheConstants.{DECIMAL_SUFFIXES, HEX_SUFFIXES}
 use Rattle.sed_lexer.specs.Words.{is_among}
 
 -- 0 to 9, a to f, or A to F
@@ -19,14 +18,22 @@ abbrev pub IsNumeral : (ℕ → Bool) → List (List ℕ) → List ℕ → Type 
 IsNumeral passes suffixes bytes = (digits : List ℕ) × (suffix : List ℕ) × (bytes ≡ digits ++ suffix)
     × IsTrue (are_digits passes digits) × IsTrue (is_among ([] ∷ suffixes) suffix)
 
+-- a long, or a number of nanoseconds, milliseconds, seconds, minutes, hours or days
+abbrev pub decimal_suffixes : List (List ℕ)
+decimal_suffixes = codes "L" ∷ codes "ns" ∷ codes "ms" ∷ codes "sec" ∷ codes "min" ∷ codes "hr" ∷ codes "days" ∷ []
+
+-- a long
+abbrev pub hex_suffixes : List (List ℕ)
+hex_suffixes = codes "L" ∷ []
+
 -- as `1_000`, `7L`, `10ms`
 abbrev pub IsDecimalNumeral : List ℕ → Type 0
-IsDecimalNumeral bytes = IsNumeral is_digit (map (λ suffix. suffix.now) DECIMAL_SUFFIXES) bytes
+IsDecimalNumeral bytes = IsNumeral is_digit decimal_suffixes bytes
 
 -- as `0xff`, `0xFFL`
 abbrev pub IsHexNumeral : List ℕ → Type 0
 IsHexNumeral bytes = (numeral : List ℕ) × (bytes ≡ codes "0x" ++ numeral)
-    × IsNumeral is_hex_digit (map (λ suffix. suffix.now) HEX_SUFFIXES) numeral
+    × IsNumeral is_hex_digit hex_suffixes numeral
 
 abbrev pub IsInteger : List ℕ → Type 0
 IsInteger bytes = IsDecimalNumeral bytes ⊎ IsHexNumeral bytes

@@ -15,7 +15,7 @@ pub fn fault_is_one()
 {}
 
 /// A text that faults has no tokens.
-pub fn tokens_or_fault()
+pub fn no_tokens_where_it_faults()
     ensures { (text : List ℕ) (tokens : List Token) (at : ℕ) → Lexes text tokens → FaultsAt text at → ⊥ }
 {}
 

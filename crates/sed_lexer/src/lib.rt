@@ -20,7 +20,7 @@ mod words;
 
 pub use kind::TokenKind;
 pub use laws::{
-    fault_is_one, tokens_are_in_order, tokens_are_one, tokens_are_pieces, tokens_or_fault,
+    fault_is_one, no_tokens_where_it_faults, tokens_are_in_order, tokens_are_one, tokens_are_pieces,
 };
 pub use lexing::{LexRefusal, lex};
 pub use numbers::{Number, integer_value};

@@ -1,5 +1,5 @@
-use Rattle.std.proofs.Common.{map, subst, List, ℕ}
-use Rattle.sed_lexer.specs.declared.integers.TheConstants.{DECIMAL_SUFFIXES}
+use Rattle.std.proofs.Common.{subst, List, ℕ}
+use Rattle.sed_lexer.specs.Integers.{decimal_suffixes}
 use Rattle.sed_lexer.specs.Fronts.{IsLongestFront}
 use Rattle.sed_lexer.proofs.NumeralLemmas.{IsSuffix, decimal_found}
 use Rattle.sed_lexer.proofs.integers.decimal_numeral.Goals as goal
@@ -7,4 +7,4 @@ use Rattle.sed_lexer.proofs.integers.decimal_numeral.Goals as goal
 pub returns : goal.returns
 returns c =
     decimal_found c.args.text.now c.in_ok-len.len c.suffix.result c.in_ok-len.ensures
-    (subst (λ (x : List ℕ). IsLongestFront (IsSuffix (map (λ suffix. suffix.now) DECIMAL_SUFFIXES)) x c.suffix.result) c.rest_of.ensures c.suffix.ensures)
+    (subst (λ (x : List ℕ). IsLongestFront (IsSuffix decimal_suffixes) x c.suffix.result) c.rest_of.ensures c.suffix.ensures)
