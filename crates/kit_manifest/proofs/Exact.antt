@@ -1,7 +1,6 @@
 -- What was read of a table is its manifest, and the only one.
 use Rattle.std.proofs.Common.{◌≡◌, true, false, ℕ, List, [], ◌∷◌, Option, Some, None, option_map, Result, Ok, Err, refl, sym, ap, subst, ◌∙◌}
-use Rattle.std.specs.Prelude.{MatchOption, MatchResult, map, String, string_bytes}
-use Rattle.std.specs.declared.alloc.Global.{Global}
+use Rattle.std.specs.Prelude.{MatchOption, MatchResult}
 use Rattle.std.specs.List.{list_all}
 use Rattle.sed_value.specs.Names.{is_kit_name}
 use Rattle.toml.specs.Data.{Data, string, integer, float, boolean, datetime, array, table, Items, no_items, item, Members, as_str}
@@ -54,9 +53,9 @@ depends_from-texts None depends is = is
 depends_from-texts (Some d) depends is = array_from-texts d depends is
 
 -- the dependences as texts, and as names of kits
-pub depends-as_names : (value : Option Data) (texts : List (String Global)) (names : List (List ℕ)) → names ≡ map string_bytes texts
-    → MatchOption value (texts ≡ []) (λ d. texts_of d ≡ Some (map string_bytes texts)) → MatchOption value (names ≡ []) (λ d. texts_of d ≡ Some names)
-depends-as_names None texts names same none = same ∙ ap (map string_bytes) none
+pub depends-as_names : (value : Option Data) (texts names : List (List ℕ)) → names ≡ texts
+    → MatchOption value (texts ≡ []) (λ d. texts_of d ≡ Some texts) → MatchOption value (names ≡ []) (λ d. texts_of d ≡ Some names)
+depends-as_names None texts names same none = same ∙ none
 depends-as_names (Some d) texts names same is = is ∙ ap Some (sym same)
 
 pub IsManifest-from_parts : (ms : Members) (name_value version_value files_value : Data) (name version : List ℕ) (depends files : List (List ℕ))

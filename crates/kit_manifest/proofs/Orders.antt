@@ -1,10 +1,10 @@
 -- The places that were taken so far, and what holds of an order.
-use Rattle.std.proofs.Common.{◌≡◌, ◌≢◌, ℕ, ◌<◌, Bool, true, false, List, [], ◌∷◌, ◌++◌, length, replicate, sym, ap, ◌∙◌, inl, inr, subst, arith, append_assoc}
+use Rattle.std.proofs.Common.{◌≡◌, ◌≢◌, ℕ, ◌<◌, ◌≤◌, Bool, true, false, List, [], ◌∷◌, ◌++◌, length, replicate, refl, sym, ap, ◌∙◌, inl, inr, subst, arith, append_assoc}
 use Rattle.std.specs.Prelude.{AllPairs, Contains, Vec}
 use Rattle.std.specs.declared.alloc.Global.{Global}
 use Rattle.std.proofs.Math.ListN.{set}
-use Rattle.std.proofs.lemmas.Bool.{false≢true}
-use Rattle.std.proofs.lemmas.List.{length-replicate, length-set}
+use Rattle.std.proofs.lemmas.Bool.{false≢true, cases_lt}
+use Rattle.std.proofs.lemmas.List.{length-append, length-replicate, length-set}
 use Rattle.std.proofs.lemmas.List.Elements.{All-contains, Contains-get_or, Contains-push, Contains-push_cases, Contains-append_left}
 use Rattle.std.proofs.lemmas.List.Quantifiers.{all_pairs_push}
 use Rattle.kit_manifest.specs.Links.{links_at, IsLink, is_marked, IsReady}
@@ -140,3 +140,37 @@ Takes-before n Needs _ (next taken x before first) i j there needs =
 
 pub IsOrder-before : (n : ℕ) (Needs : ℕ → ℕ → Type 0) (order : List ℕ) → IsOrder n Needs order → (i j : ℕ) → i < n → Needs i j → StandsBefore order j i
 IsOrder-before n Needs order is i j within needs = Takes-before n Needs order is.taken i j (is.whole i within) needs
+
+-- The first place with a fact is one.
+IsFirst-one : (n : ℕ) (Holds : ℕ → Type 0) (i j : ℕ) → IsFirst n Holds i → IsFirst n Holds j → i ≡ j
+IsFirst-one n Holds i j first other = elim (cases_lt i j) [
+  | inl less ↦ absurd (other.before i less first.holds)
+  | inr more ↦ elim (cases_lt j i) [ inl less ↦ absurd (first.before j less other.holds) | inr same ↦ omega (arith, more, same) ]
+]
+
+-- So many places are taken in one way.
+Takes-one : (n : ℕ) (Needs : ℕ → ℕ → Type 0) (order other : List ℕ) → Takes n Needs order → Takes n Needs other → length order ≡ length other → order ≡ other
+Takes-one n Needs _ _ nothing nothing same = refl
+Takes-one n Needs _ _ nothing (next taken i before first) same = absurd (omega (arith, same, length-append taken (i ∷ [])))
+Takes-one n Needs _ _ (next taken i before first) nothing same = absurd (omega (arith, same, length-append taken (i ∷ [])))
+Takes-one n Needs _ _ (next taken i before first) (next other j earlier second) same =
+    let fronts : taken ≡ other = Takes-one n Needs taken other before earlier (omega (arith, same, length-append taken (i ∷ []), length-append other (j ∷ []))) in
+    let last : i ≡ j = IsFirst-one n (CanBeTaken n Needs taken) i j first (subst (λ l. IsFirst n (CanBeTaken n Needs l) j) (sym fronts) second) in
+    ap (λ l. l ++ i ∷ []) fronts ∙ ap (λ k. other ++ k ∷ []) last
+
+-- Nothing is taken behind an order.
+Takes-no_longer : (n : ℕ) (Needs : ℕ → ℕ → Type 0) (order other : List ℕ) → IsOrder n Needs order → Takes n Needs other → length other ≤ length order
+Takes-no_longer n Needs order _ is nothing = omega arith
+Takes-no_longer n Needs order _ is (next taken i before first) =
+    let shorter : length taken ≤ length order = Takes-no_longer n Needs order taken is before in
+    elim (cases_lt (length taken) (length order)) [
+      | inl less ↦ omega (arith, less, length-append taken (i ∷ []))
+      | inr more ↦
+          let same : order ≡ taken = Takes-one n Needs order taken is.taken before (omega (arith, shorter, more)) in
+          absurd (first.holds.left (subst (λ l. Contains l i) same (is.whole i first.within)))
+    ]
+
+pub IsOrder-one : (n : ℕ) (Needs : ℕ → ℕ → Type 0) (order other : List ℕ) → IsOrder n Needs order → IsOrder n Needs other → order ≡ other
+IsOrder-one n Needs order other is also =
+    Takes-one n Needs order other is.taken also.taken
+    (omega (arith, Takes-no_longer n Needs order other is also.taken, Takes-no_longer n Needs other order also is.taken))

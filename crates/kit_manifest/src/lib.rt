@@ -8,6 +8,7 @@
 #![tactic(auto)]
 
 mod fault;
+mod laws;
 mod links;
 mod manifest;
 mod order;
@@ -15,7 +16,8 @@ mod reading;
 mod texts;
 
 pub use fault::ManifestFault;
-pub use manifest::{FileNames, KitNames, Manifest, Version};
+pub use laws::order_is_one;
+pub use manifest::{Manifest, Text};
 pub use order::order_kits;
 pub use reading::read_manifest;
 

@@ -1,5 +1,5 @@
 //! What a text says of a kit.
-ghost use Rattle.std.specs.Prelude.{◌≡◌, ◌≢◌, [], Some, true, map, string_bytes, IfErr, IfOk, MatchOption, MatchResult};
+ghost use Rattle.std.specs.Prelude.{◌≡◌, ◌≢◌, [], Some, true, IfErr, IfOk, MatchOption, MatchResult};
 ghost use Rattle.toml.specs.Data.{Members};
 ghost use Rattle.toml.specs.View.{table_view};
 ghost use Rattle.kit_manifest.specs.Fault.{RefusesWhere, IsOfText, IsMemoryOr};
@@ -7,9 +7,9 @@ ghost use Rattle.kit_manifest.specs.declared.manifest.Manifest.{Manifest};
 ghost use Rattle.kit_manifest.specs.Reading.{IsDocument, HasDocument, IsManifest, LacksKey, HasWrongType, HasBadName, IsRefusal, depends_in, texts_of, are_texts, fails};
 
 use crate::fault::ManifestFault;
-use crate::manifest::{FileNames, KitNames, Manifest, Version};
+use crate::manifest::{Manifest, Text};
 use crate::texts::{kit_names, texts_in, value_at};
-use sed_value::KitName;
+use sed_value::{Items, KitName};
 use std::alloc::Global;
 use toml::Table;
 
@@ -71,16 +71,16 @@ fn manifest_in(alloc: Global, table: &Table) -> Result<Manifest, ManifestFault>
     let depends = kit_names(alloc, &depends)?;
     Ok(Manifest {
         name,
-        version: Version::new(String::from_str(alloc, version)?),
-        depends: KitNames::new(depends),
-        files: FileNames::new(files),
+        version: Text::new(String::from_str(alloc, version)?),
+        depends: Items::new(depends),
+        files: Items::new(files),
     })
 }
 
 // The strings at `depends`, and none without that key.
-fn depends_in(alloc: Global, table: &Table) -> Result<Vec<String>, ManifestFault>
+fn depends_in(alloc: Global, table: &Table) -> Result<Vec<Text>, ManifestFault>
     ensures { MatchResult result
-        (λ depends. MatchOption (depends_in (table_view table.now)) (depends.items ≡ []) (λ value. texts_of value ≡ Some (map string_bytes depends.items)))
+        (λ depends. MatchOption (depends_in (table_view table.now)) (depends.items ≡ []) (λ value. texts_of value ≡ Some depends.items))
         (λ fault. IsMemoryOr fault ManifestFault.WrongType (fails are_texts (depends_in (table_view table.now)) ≡ true)) }
 {
     match value_at(table, "depends") {

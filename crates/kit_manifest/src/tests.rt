@@ -1,7 +1,7 @@
 //! The worked rows of manifests and orders, by their texts and names.
 
-use crate::{FileNames, KitNames, Manifest, ManifestFault, Version, order_kits, read_manifest};
-use sed_value::KitName;
+use crate::{Manifest, ManifestFault, Text, order_kits, read_manifest};
+use sed_value::{Items, KitName};
 use std::alloc::Global;
 use std::test::Fail;
 
@@ -131,9 +131,9 @@ fn kit(alloc: Global, named: &str, depends: &[&str]) -> Result<Manifest, Fail> {
     }
     Ok(Manifest {
         name: name(named)?,
-        version: Version::new(String::new(alloc)),
-        depends: KitNames::new(names),
-        files: FileNames::new(Vec::new(alloc)),
+        version: Text::new(String::new(alloc)),
+        depends: Items::new(names),
+        files: Items::new(Vec::new(alloc)),
     })
 }
 

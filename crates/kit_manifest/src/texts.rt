@@ -1,5 +1,5 @@
 //! Strings and arrays of strings in a TOML table.
-ghost use Rattle.std.specs.Prelude.{◌≡◌, Some, None, map, option_map, string_bytes, MatchResult, true, false};
+ghost use Rattle.std.specs.Prelude.{◌≡◌, Some, None, option_map, MatchResult, true, false};
 ghost use Rattle.std.specs.List.{list_all};
 ghost use Rattle.sed_value.specs.Names.{is_kit_name};
 ghost use Rattle.toml.specs.Data.{get_member};
@@ -8,6 +8,7 @@ ghost use Rattle.kit_manifest.specs.Fault.{IsMemoryOr};
 ghost use Rattle.kit_manifest.specs.Reading.{texts_of};
 
 use crate::fault::ManifestFault;
+use crate::manifest::Text;
 use sed_value::KitName;
 use std::alloc::Global;
 use toml::{Table, Value};
@@ -20,8 +21,8 @@ pub fn value_at<'t>(table: &'t Table, key: &str) -> Option<&'t Value>
 }
 
 /// The strings of an array that has strings alone, copied; for another value a wrong type.
-pub fn texts_in(alloc: Global, value: &Value) -> Result<Vec<String>, ManifestFault>
-    ensures { MatchResult result (λ texts. texts_of (view value.now) ≡ Some (map string_bytes texts.items))
+pub fn texts_in(alloc: Global, value: &Value) -> Result<Vec<Text>, ManifestFault>
+    ensures { MatchResult result (λ texts. texts_of (view value.now) ≡ Some texts.items)
         (λ fault. IsMemoryOr fault ManifestFault.WrongType (texts_of (view value.now) ≡ None)) }
 {
     let Some(items) = value.as_array() else {
@@ -32,20 +33,20 @@ pub fn texts_in(alloc: Global, value: &Value) -> Result<Vec<String>, ManifestFau
         let Some(text) = item.as_str() else {
             return Err(ManifestFault::WrongType);
         };
-        texts.push(String::from_str(alloc, text)?)?;
+        texts.push(Text::new(String::from_str(alloc, text)?))?;
     }
     Ok(texts)
 }
 
 /// The names of kits that these texts are; where one isn't of their form, a bad name.
-pub fn kit_names(alloc: Global, texts: &[String]) -> Result<Vec<KitName>, ManifestFault>
+pub fn kit_names(alloc: Global, texts: &[Text]) -> Result<Vec<KitName>, ManifestFault>
     ensures { MatchResult result
-        (λ names. (names.items ≡ map string_bytes texts.now) × (list_all is_kit_name (map string_bytes texts.now) ≡ true))
-        (λ fault. IsMemoryOr fault ManifestFault.BadName (list_all is_kit_name (map string_bytes texts.now) ≡ false)) }
+        (λ names. (names.items ≡ texts.now) × (list_all is_kit_name texts.now ≡ true))
+        (λ fault. IsMemoryOr fault ManifestFault.BadName (list_all is_kit_name texts.now ≡ false)) }
 {
     let mut names = Vec::new(alloc);
     for text in texts {
-        let Some(name) = KitName::read(text.as_bytes()) else {
+        let Some(name) = KitName::read(text.as_str().as_bytes()) else {
             return Err(ManifestFault::BadName);
         };
         names.push(name)?;
