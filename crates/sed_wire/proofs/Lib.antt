@@ -1,0 +1,6 @@
+pub mod FrontLemmas
+pub mod NumberLemmas
+pub mod ReadingLemmas
+pub mod TextLemmas
+pub mod ValueLemmas
+pub mod WritingLemmas

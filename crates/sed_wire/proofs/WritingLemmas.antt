@@ -1,0 +1,69 @@
+-- What a writer has written after each call.
+use Rattle.std.proofs.Common.{◌≡◌, ℕ, ◌+◌, ◌≤◌, IsTrue, List, [], ◌∷◌, ◌++◌, length, take, drop, Result, Ok, Err, OnOk, refl, sym, ◌∙◌, ap, arith, append_assoc, length-append}
+use Rattle.std.proofs.Math.Seq.{take-append_seam, drop-append_seam}
+use Rattle.std.proofs.lemmas.List.{length-take-le, drop-drop}
+use Rattle.sed_wire.specs.declared.writer.Writer.{Writer}
+use Rattle.sed_wire.specs.Number.{SpellsNumber}
+use Rattle.sed_wire.specs.Spelling.{SpellsContents}
+use Rattle.sed_wire.specs.Text.{SpellsText, is_text}
+use Rattle.sed_wire.specs.Writing.{Appends, Writes, untouched, written}
+use Rattle.sed_wire.proofs.ReadingLemmas.{one_byte}
+
+-- a slice after bytes are put into it, as its front and its rest
+pub put-parts : (at : ℕ) (bytes old new : List ℕ) → at + length bytes ≤ length old
+    → new ≡ take at old ++ (bytes ++ drop (at + length bytes) old)
+    → (take (at + length bytes) new ≡ take at old ++ bytes) × (drop (at + length bytes) new ≡ drop (length bytes)
+    (drop at old))
+put-parts at bytes old new fits put =
+    let front : List ℕ = take at old ++ bytes in
+    let as_many : at + length bytes ≡ length front =
+    omega (arith, length-append (take at old) bytes, length-take-le at old (omega arith)) in
+    let parted : new ≡ front ++ drop (at + length bytes) old =
+    put ∙ sym (append_assoc (take at old) bytes (drop (at + length bytes) old)) in
+    let rest : drop (at + length bytes) new ≡ drop (at + length bytes) old =
+    ap (λ (n : ℕ). drop n new) as_many ∙ ap (drop (length front)) parted
+    ∙ drop-append_seam front (drop (at + length bytes) old) in (
+      ap (λ (n : ℕ). take n new) as_many ∙ ap (take (length front)) parted
+          ∙ take-append_seam front (drop (at + length bytes) old),
+      rest ∙ sym (drop-drop (length bytes) at old),
+    )
+
+-- two pieces, one behind the other
+pub appends-then : (a b c : Writer) (first second : List ℕ) → Appends a b first → Appends b c second
+    → Appends a c (first ++ second)
+appends-then a b c first second of_first of_second = record {
+  same_slice = of_second.same_slice ∙ of_first.same_slice;
+  written = of_second.written ∙ ap (λ (bytes : List ℕ). bytes ++ second) of_first.written
+      ∙ append_assoc (written a) first second;
+  untouched = of_second.untouched ∙ ap (drop (length second)) of_first.untouched
+      ∙ drop-drop (length second) (length first) (untouched a)
+      ∙ ap (λ (n : ℕ). drop n (untouched a)) (sym (length-append first second));
+}
+
+append-nil : (bytes : List ℕ) → bytes ≡ bytes ++ []
+append-nil [] = refl
+append-nil (byte ∷ behind) = ap (λ (bs : List ℕ). byte ∷ bs) (append-nil behind)
+
+pub appends-none : (writer : Writer) → Appends writer writer []
+appends-none writer = record { same_slice = refl; written = append-nil (written writer); untouched = refl }
+
+pub text-done : {T E : Type 0} (result : Result T E) (text : List ℕ) (a b c : Writer) → IsTrue (is_text text)
+    → Appends a b text → OnOk result (Writes (SpellsNumber 1) 0 b c) → OnOk result (Writes SpellsText text a c)
+text-done (Ok done) text a b c characters first second =
+    let zero : second.spelling ≡ 0 ∷ [] = one_byte 0 second.spelling second.spelled in
+    record {
+      spelling = text ++ second.spelling;
+      spelled = record { characters = characters; ended = ap (λ (b : List ℕ). text ++ b) zero };
+      appends = appends-then a b c text second.spelling first second.appends;
+    }
+text-done (Err full) text a b c characters first second = second
+
+pub contents-done : {T E : Type 0} (result : Result T E) (contents : List ℕ) (a b c : Writer)
+    → Writes (SpellsNumber 2) (length contents) a b → OnOk result (Appends b c contents)
+    → OnOk result (Writes SpellsContents contents a c)
+contents-done (Ok done) contents a b c first second = record {
+  spelling = first.spelling ++ contents;
+  spelled = record { count = first.spelling; counts = first.spelled; front = refl };
+  appends = appends-then a b c first.spelling contents first.appends second;
+}
+contents-done (Err full) contents a b c first second = second

@@ -1,0 +1,6 @@
+use Rattle.std.proofs.Common.{rules}
+use Rattle.sed_wire.proofs.FrontLemmas.{number_again}
+use Rattle.sed_wire.proofs.reader.Reader.u4.Goals as goal
+
+pub returns-clause-again : goal.returns-clause-again
+returns-clause-again c = number_again 4 _ _ _ (search rules)
