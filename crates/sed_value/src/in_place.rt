@@ -1,11 +1,11 @@
 //! Bytes in place: the form in which names, words and contents of buffers are kept.
-ghost use Rattle.std.specs.Prelude.{◌≡◌, ◌≤◌, length, flat_map, Some, nat_eq, refl};
-ghost use Rattle.std.specs.Fmt.{WritesOnOk};
+ghost use Rattle.std.specs.Prelude.{◌≡◌, ◌≤◌, length, Some, nat_eq, refl};
 ghost use Rattle.std.specs.Ordering.{nat_cmp};
 ghost use Rattle.std.specs.Cmp.{partial_equiv_from_equiv};
 ghost use Rattle.std.specs.Cmp.Lexicographic.{pointwise, slice_cmp, nat_list_eq_equiv, nat_list_cmp_total, texts_ties, texts_po};
-ghost use Rattle.sed_value.specs.Shown.{shown_byte, quoted};
+ghost use Rattle.sed_value.specs.Shown.{shown, quoted};
 
+use crate::shown::show;
 use std::cmp::Ordering;
 use std::fmt;
 use std::marker::Model;
@@ -98,30 +98,9 @@ impl<const N: usize> Ord for InPlace<N> {
 
 /// Shows the bytes in double quotes, with an escape for each that doesn't print.
 impl<const N: usize> fmt::Debug for InPlace<N> {
-    ghost debug_output = { λ bytes. Some (quoted bytes) };
+    ghost debug_output = { λ bytes. Some (quoted (shown bytes)) };
 
     fn fmt<W: fmt::Write>(&self, f: &mut fmt::Formatter<W>) -> fmt::Result {
-        f.write_char('"')?;
-        show_bytes(self.as_bytes(), f)?;
-        f.write_char('"')
+        show(self.as_bytes(), f)
     }
-}
-
-fn show_bytes<W: fmt::Write>(bytes: &[u8], f: &mut fmt::Formatter<W>) -> fmt::Result
-    ensures { WritesOnOk W.write_str_gives f.old result (flat_map shown_byte bytes.now) f.new }
-{
-    for byte in bytes {
-        show_byte(*byte, f)?;
-    }
-    Ok(())
-}
-
-fn show_byte<W: fmt::Write>(byte: u8, f: &mut fmt::Formatter<W>) -> fmt::Result
-    ensures { WritesOnOk W.write_str_gives f.old result (shown_byte byte) f.new }
-{
-    let mut escape = byte.escape_ascii();
-    'escape: while let Some(character) = escape.next() {
-        f.write_char(char::from(character))?;
-    }
-    Ok(())
 }

@@ -6,6 +6,7 @@ ghost use Rattle.sed_value.specs.Shown.{quoted};
 
 use crate::characters::{are_letters_or_digits, is_letter};
 use crate::in_place::InPlace;
+use crate::shown::show_name;
 use std::fmt;
 use std::marker::Model;
 
@@ -61,7 +62,7 @@ impl fmt::Debug for KitName {
     ghost debug_output = { λ name. Some (quoted name) };
 
     fn fmt<W: fmt::Write>(&self, f: &mut fmt::Formatter<W>) -> fmt::Result {
-        self.text.fmt(f)
+        show_name(self.as_bytes(), f)
     }
 }
 

@@ -17,6 +17,7 @@ mod long;
 mod memory;
 mod name;
 mod refusal;
+mod shown;
 mod slot_buf;
 mod slot_type;
 #[cfg(test)]

@@ -5,6 +5,7 @@ ghost use Rattle.sed_value.specs.Shown.{quoted};
 
 use crate::characters::{are_word_bytes, is_letter};
 use crate::in_place::InPlace;
+use crate::shown::show_name;
 use std::fmt;
 use std::marker::Model;
 
@@ -60,7 +61,7 @@ impl fmt::Debug for Word {
     ghost debug_output = { λ word. Some (quoted word) };
 
     fn fmt<W: fmt::Write>(&self, f: &mut fmt::Formatter<W>) -> fmt::Result {
-        self.text.fmt(f)
+        show_name(self.as_bytes(), f)
     }
 }
 

@@ -1,6 +1,6 @@
 use Rattle.std.proofs.Common.{◌++◌, encode_utf8, encode_utf8_all, sym, ap, ◌∙◌, append_assoc, rules}
 use Rattle.std.proofs.Output.{has_written_append}
-use Rattle.sed_value.proofs.in_place.show_byte.Goals as goal
+use Rattle.sed_value.proofs.shown.show_byte.Goals as goal
 
 pub escape-preserved : goal.escape-preserved
 escape-preserved g c = (

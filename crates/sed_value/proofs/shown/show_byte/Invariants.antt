@@ -2,7 +2,7 @@ use Rattle.std.proofs.Common.{◌≡◌, ◌≤◌, ℕ, List, ◌++◌, encode_
 use Rattle.std.specs.Fmt.{HasWritten, IsPlainFormatter}
 use Rattle.std.specs.Char.Escape.{escape_ascii}
 use Rattle.std.specs.Char.Iter.{escape_byte_rest, escape_byte_left, escape_byte_end}
-use Rattle.sed_value.proofs.in_place.show_byte.Given as goal
+use Rattle.sed_value.proofs.shown.show_byte.Given as goal
 
 abbrev pub invariant-escape : goal.invariant-escape
 invariant-escape g l =
