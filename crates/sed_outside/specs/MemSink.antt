@@ -1,4 +1,5 @@
 -- What contracts see of a sink in memory.
+use Rattle.std.specs.Prelude.{ℕ}
 use Rattle.sed_outside.specs.declared.mem_sink.MemSink.{MemSink}
 use Rattle.sed_outside.specs.Bounded.{Bounded}
 use Rattle.sed_outside.specs.Failing.{Plan}
@@ -10,3 +11,7 @@ held_in sink = sink.held
 -- Which of its puts fail.
 abbrev pub plan_of : MemSink → Plan
 plan_of sink = sink.calls
+
+-- How many puts failed.
+abbrev pub faults_of : MemSink → ℕ
+faults_of sink = sink.faults

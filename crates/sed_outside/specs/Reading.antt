@@ -2,8 +2,9 @@
 use Rattle.std.specs.Prelude.{◌≡◌, ◌↔◌, ◌≤◌, ℕ, Bool, IsTrue, List, ◌++◌, length}
 use Rattle.sed_outside.specs.Files.{largest_file}
 
--- It is whole exactly where the reader has no more bytes than the largest file, and then what is held grew by exactly these.
-pub record ReadsWhole (bytes before after : List ℕ) (whole : Bool) : Type 0 where
+-- It is whole exactly where the reader has no more bytes than the largest file, and then what is held grew by exactly
+-- these.
+pub record ReadsWhole (before after : List ℕ) (whole : Bool) (bytes : List ℕ) : Type 0 where
   pub exactly : IsTrue whole ↔ (length bytes ≤ largest_file)
   pub all : IsTrue whole → after ≡ before ++ bytes
 

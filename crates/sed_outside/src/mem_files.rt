@@ -4,7 +4,7 @@ ghost use Rattle.sed_outside.specs.Files.{IsUnreadable, KeepsCounts, ReadsFile, 
 ghost use Rattle.sed_outside.specs.Cause.{HasCause};
 ghost use Rattle.sed_outside.specs.Named.{contents_of, count_of};
 ghost use Rattle.sed_outside.specs.Failing.{begins_with, FailsNow, after_call};
-ghost use Rattle.sed_outside.specs.MemFiles.{contents_in, plan_of};
+ghost use Rattle.sed_outside.specs.MemFiles.{contents_in, plan_of, failed_reads_of, failed_writes_of};
 
 use crate::failing_calls::FailingCalls;
 use crate::files::{FileFault, Files, LARGEST_FILE};
@@ -88,9 +88,9 @@ fn write_file(files: &mut Vec<(String, Vec<u8>)>, name: &str, bytes: &[u8]) -> R
 impl Files for MemFiles {
     ghost known = { λ m. Some (contents_in m) };
 
-    ghost failed_reads = { λ m. count_of m.failed_reads.items };
+    ghost failed_reads = { failed_reads_of };
 
-    ghost failed_writes = { λ m. count_of m.failed_writes.items };
+    ghost failed_writes = { failed_writes_of };
 
     /// As every read, and: the call is counted; it fails where its number is among those that fail, and else answers
     /// `Failed` only for a file that no read gives.
@@ -102,11 +102,14 @@ impl Files for MemFiles {
 
         ensures calls { plan_of self.new ≡ after_call (plan_of self.old) }
         ensures planned { FailsNow (plan_of self.old) → IsErr result }
-        ensures failed { IsErrOf result FileFault.Failed → FailsNow (plan_of self.old) ⊎ IsUnreadable (contents_in self.old name.now) }
+        ensures failed { IsErrOf result FileFault.Failed
+            → FailsNow (plan_of self.old) ⊎ IsUnreadable (contents_in self.old name.now) }
 
-        ensures cause { HasCause (⟦<MemFiles as Files>⟧.failed_reads self.old name.now) (⟦<MemFiles as Files>⟧.failed_reads self.new name.now) (IsErrOf result FileFault.Failed) }
-        ensures counts { KeepsCounts ⊤ (⟦<MemFiles as Files>⟧.failed_reads self.old) (⟦<MemFiles as Files>⟧.failed_reads self.new) name.now (IsErrOf result FileFault.Failed) }
-        ensures writes { ⟦<MemFiles as Files>⟧.failed_writes self.new ≡ ⟦<MemFiles as Files>⟧.failed_writes self.old }
+        ensures cause { HasCause (failed_reads_of self.old name.now) (failed_reads_of self.new name.now)
+            (IsErrOf result FileFault.Failed) }
+        ensures counts { KeepsCounts ⊤ (failed_reads_of self.old) (failed_reads_of self.new) name.now
+            (IsErrOf result FileFault.Failed) }
+        ensures writes { failed_writes_of self.new ≡ failed_writes_of self.old }
     {
         if self.calls.fails_now() {
             return Err(counted(&mut self.failed_reads, name));
@@ -128,9 +131,11 @@ impl Files for MemFiles {
         ensures planned { FailsNow (plan_of self.old) → IsErr result }
         ensures failed { IsErrOf result FileFault.Failed → FailsNow (plan_of self.old) }
 
-        ensures cause { HasCause (⟦<MemFiles as Files>⟧.failed_writes self.old name.now) (⟦<MemFiles as Files>⟧.failed_writes self.new name.now) (IsErrOf result FileFault.Failed) }
-        ensures counts { KeepsCounts ⊤ (⟦<MemFiles as Files>⟧.failed_writes self.old) (⟦<MemFiles as Files>⟧.failed_writes self.new) name.now (IsErrOf result FileFault.Failed) }
-        ensures reads { ⟦<MemFiles as Files>⟧.failed_reads self.new ≡ ⟦<MemFiles as Files>⟧.failed_reads self.old }
+        ensures cause { HasCause (failed_writes_of self.old name.now) (failed_writes_of self.new name.now)
+            (IsErrOf result FileFault.Failed) }
+        ensures counts { KeepsCounts ⊤ (failed_writes_of self.old) (failed_writes_of self.new) name.now
+            (IsErrOf result FileFault.Failed) }
+        ensures reads { failed_reads_of self.new ≡ failed_reads_of self.old }
     {
         if self.calls.fails_now() {
             return Err(counted(&mut self.failed_writes, name));

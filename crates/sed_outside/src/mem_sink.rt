@@ -3,7 +3,7 @@ ghost use Rattle.std.specs.Prelude.{◌≡◌, ◌≤◌, ◌+◌, ◌++◌, tak
 ghost use Rattle.sed_outside.specs.Bounded.{room_left};
 ghost use Rattle.sed_outside.specs.Cause.{HasCause};
 ghost use Rattle.sed_outside.specs.Failing.{begins_with, FailsNow, after_call};
-ghost use Rattle.sed_outside.specs.MemSink.{held_in, plan_of};
+ghost use Rattle.sed_outside.specs.MemSink.{held_in, plan_of, faults_of};
 ghost use Rattle.sed_outside.specs.Sink.{PutsFront};
 
 use crate::bounded_text::BoundedText;
@@ -51,22 +51,24 @@ impl MemSink {
 impl Sink for MemSink {
     ghost text = { λ m. Some (held_in m).text };
 
-    ghost faults = { λ m. m.faults };
+    ghost faults = { faults_of };
 
     /// As every put, and: the put is counted. One whose number is among those that fail puts nothing. Any other puts
     /// the front that fits, and is done exactly where that is all.
     fn put(&mut self, bytes: &[u8]) -> Result<(), SinkFault>
         ensures ok { OnOk result ((held_in self.new).text ≡ (held_in self.old).text ++ bytes.now) }
         ensures err { OnErr result (PutsFront (Some (held_in self.old).text) (Some (held_in self.new).text) bytes.now) }
-        ensures cause { HasCause (⟦<MemSink as Sink>⟧.faults self.old) (⟦<MemSink as Sink>⟧.faults self.new) (IsErr result) }
-        ensures by_one { ⟦<MemSink as Sink>⟧.faults self.new ≤ ⟦<MemSink as Sink>⟧.faults self.old + 1 }
+        ensures cause { HasCause (faults_of self.old) (faults_of self.new) (IsErr result) }
+        ensures by_one { faults_of self.new ≤ faults_of self.old + 1 }
 
         ensures room { (held_in self.new).room ≡ (held_in self.old).room }
         ensures calls { plan_of self.new ≡ after_call (plan_of self.old) }
-        ensures planned { FailsNow (plan_of self.old) → IsErr result × ((held_in self.new).text ≡ (held_in self.old).text) }
+        ensures planned { FailsNow (plan_of self.old)
+            → IsErr result × ((held_in self.new).text ≡ (held_in self.old).text) }
         ensures front { (FailsNow (plan_of self.old) → ⊥)
             → (held_in self.new).text ≡ (held_in self.old).text ++ take (room_left (held_in self.old)) bytes.now }
-        ensures fits { (FailsNow (plan_of self.old) → ⊥) → length bytes.now ≤ room_left (held_in self.old) → IsOk result }
+        ensures fits { (FailsNow (plan_of self.old) → ⊥)
+            → length bytes.now ≤ room_left (held_in self.old) → IsOk result }
     {
         if !self.calls.fails_now() && self.held.put(bytes) {
             return Ok(());

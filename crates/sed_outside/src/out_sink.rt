@@ -1,8 +1,8 @@
 //! The edge over a writer, which tells nothing of what was put.
-ghost use Rattle.std.specs.Prelude.{◌≡◌, ◌≤◌, ◌+◌, None, OnOk, OnErr, IsErr};
+ghost use Rattle.std.specs.Prelude.{◌≡◌, ◌≤◌, ◌+◌, OnOk, OnErr, IsErr};
 ghost use Rattle.std.specs.Io.KnownBytes.{Appends};
 ghost use Rattle.sed_outside.specs.Cause.{HasCause};
-ghost use Rattle.sed_outside.specs.OutSink.{writer_of};
+ghost use Rattle.sed_outside.specs.OutSink.{writer_of, text_of, faults_of};
 ghost use Rattle.sed_outside.specs.Sink.{with_text, PutsFront};
 
 use crate::sink::{Sink, SinkFault};
@@ -34,17 +34,18 @@ fn write_through<W: Write>(out: &mut W, bytes: &[u8]) -> io::Result<()>
 }
 
 impl<W: Write> Sink for OutSink<W> {
-    ghost text = { λ _. None };
+    ghost text = { text_of };
 
-    ghost faults = { λ s. s.faults };
+    ghost faults = { faults_of };
 
     /// As every put, and: where the writer's bytes are known, a put that is done adds exactly these.
     fn put(&mut self, bytes: &[u8]) -> Result<(), SinkFault>
-        ensures ok { OnOk result (⟦<OutSink<W> as Sink>⟧.text self.new ≡ with_text (⟦<OutSink<W> as Sink>⟧.text self.old) bytes.now) }
-        ensures err { OnErr result (PutsFront (⟦<OutSink<W> as Sink>⟧.text self.old) (⟦<OutSink<W> as Sink>⟧.text self.new) bytes.now) }
-        ensures cause { HasCause (⟦<OutSink<W> as Sink>⟧.faults self.old) (⟦<OutSink<W> as Sink>⟧.faults self.new) (IsErr result) }
-        ensures by_one { ⟦<OutSink<W> as Sink>⟧.faults self.new ≤ ⟦<OutSink<W> as Sink>⟧.faults self.old + 1 }
-        ensures written { OnOk result (Appends (W.contents (writer_of self.old)) (W.contents (writer_of self.new)) bytes.now) }
+        ensures ok { OnOk result (text_of self.new ≡ with_text (text_of self.old) bytes.now) }
+        ensures err { OnErr result (PutsFront (text_of self.old) (text_of self.new) bytes.now) }
+        ensures cause { HasCause (faults_of self.old) (faults_of self.new) (IsErr result) }
+        ensures by_one { faults_of self.new ≤ faults_of self.old + 1 }
+        ensures written { OnOk result
+            (Appends (W.contents (writer_of self.old)) (W.contents (writer_of self.new)) bytes.now) }
     {
         match write_through(&mut self.out, bytes) {
             Ok(()) => Ok(()),

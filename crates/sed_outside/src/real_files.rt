@@ -40,9 +40,11 @@ fn fault_of(error: &io::Error) -> FileFault
     }
 }
 
-// Reads what the reader has behind the bytes of `into`, up to one byte more than the largest file. Whether it was whole.
+// Reads what the reader has behind the bytes of `into`, up to one byte more than the largest file, and says whether that
+// is all.
 fn read_whole<R: Read + Drop>(reader: R, into: &mut Vec<u8>) -> io::Result<bool>
-    ensures whole { IfOk result (λ whole. IfSome (R.remaining reader) (λ bytes. ReadsWhole bytes into.old.items into.new.items whole)) }
+    ensures whole { IfOk result (λ whole.
+        IfSome (R.remaining reader) (ReadsWhole into.old.items into.new.items whole)) }
     ensures small { IfOk result (λ whole. IsTrue whole → vec_len into.new ≤ vec_len into.old + largest_file) }
     ensures kept { take (vec_len into.old) into.new.items ≡ into.old.items }
 {
