@@ -18,8 +18,14 @@ pub mod RootLaws
 pub mod RootsFit
 pub mod FieldLists
 pub mod FirstFits
+pub mod Positions
 pub mod SlotFields
 pub mod FirstValues
+pub mod Asking
+pub mod MaskedCodes
+pub mod OneCode
+pub mod Numbering
+pub mod SchemaTables
 pub mod TypedCodes
 pub mod Ramp
 pub mod MemberNames
@@ -36,5 +42,8 @@ pub mod CallSteps
 pub mod TextSteps
 pub mod TypedRuns
 pub mod TypedBodies
+pub mod SysMethods
 pub mod TypedRoots
+pub mod Between
+pub mod CodeExamples
 pub mod NotTyped

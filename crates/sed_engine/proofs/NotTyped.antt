@@ -1,5 +1,6 @@
 -- Programs that are nearly that of the ramp, and not typed: each breaks one rule.
-use Rattle.std.proofs.Common.{◌≡◌, ◌≤◌, ◌<◌, ℕ, zero, suc, pos, true, false, [], ◌∷◌, ◌++◌, List, Option, Some, None, codes, refl, lit<, arith}
+use Rattle.std.proofs.Common.{◌≡◌, ◌≤◌, ◌<◌, ℕ, zero, suc, pos, true, false, [], ◌∷◌, ◌++◌, List, Option, Some, None, codes, refl, ap, lit<, arith}
+use Rattle.sed_value.specs.declared.value.Value.{Value}
 use Rattle.sed_value.specs.declared.value.Value.TheVariants as kept
 use Rattle.sed_value.specs.declared.slot_type.Primitive.TheVariants as prim
 use Rattle.sed_value.specs.declared.slot_type.SlotType.TheVariants as slot
@@ -24,7 +25,7 @@ use Rattle.sed_typed.specs.Typed.{Typed, IsBody}
 use Rattle.sed_typed.specs.TypedSchema.{HasSlot}
 use Rattle.sed_typed.specs.declared.operators.Arithmetic.TheVariants as op
 use Rattle.sed_engine.proofs.Building.{Pointer, vec_of, one, two, int, chain, by, field, set}
-use Rattle.sed_engine.proofs.Ramp.{class_of, based_on, ramp_class, int_slot, step_field, out_field, nothing, adding, void_method, program_with, ramp}
+use Rattle.sed_engine.proofs.Ramp.{class_of, based_on, ramp_class, int_slot, int_property, meta_field, step_field, out_field, nothing, adding, void_method, changed_method, sys_methods_in, program_with, ramp}
 
 -- a test cannot be both
 absurd_test : true ≡ false → ⊥
@@ -59,7 +60,7 @@ one_class_twice p typed = let once : 2 ≡ 1 = (typed.classes 5).name_once in om
 -- a class without a base that is not Obj
 without_base : (p : Pointer) → Typed (with_class (record (ramp_class 2) { base = None }) p) → ⊥
 unfolding with_class
-without_base p typed = let first : 5 ≡ 0 = (typed.classes 5).based refl in omega (arith, first)
+without_base p typed = let first : 1 ≡ 0 = ((typed.classes 5).based refl).0 in omega (arith, first)
 
 -- a class that stands before its base
 based_on_later : (p : Pointer) → Typed (program_with (ramp_class 6 ∷ class_of 1 1 (codes "Later") (based_on 2) true true 4 (meta_slot ∷ []) ∷ []) (step_field ∷ out_field ∷ []) p) → ⊥
@@ -79,6 +80,92 @@ not_a_component p typed = absurd_other (typed.classes 5).component
 another_size : (p : Pointer) → Typed (with_class (record (ramp_class 2) { size = 16 }) p) → ⊥
 unfolding with_class
 another_size p typed = let size : 16 ≡ 12 = (typed.classes 5).size in omega (arith, size)
+
+-- ---- what `sys` declares
+
+-- a sixth type of kit 0
+sixth_type : (p : Pointer) → Typed (with_class (record (ramp_class 2) { kit = 0; number = 5 }) p) → ⊥
+unfolding with_class
+sixth_type p typed = let five : 6 ≡ 5 = typed.kits.sys_types.five in omega (arith, five)
+
+-- a field of Component besides `meta`
+field_of_component : (p : Pointer) → Typed (program_with (ramp_class 2 ∷ []) (field 2 (form.Prim prim.Int) (kept.Int (pos 0)) ∷ step_field ∷ out_field ∷ []) p) → ⊥
+field_of_component p typed =
+    let alone : ◌≡◌ {A = List Field} (meta_field ∷ field 2 (form.Prim prim.Int) (kept.Int (pos 0)) ∷ []) (meta_field ∷ []) = (typed.sys 2 refl).fields in
+    let never : ⊥ = cc in
+    never
+
+-- `meta` that does not begin at 0
+meta_at_1 : (p : Pointer) → Typed (record (ramp p) { fields = int_property 2 (codes "meta") 0 1 ∷ step_field ∷ out_field ∷ [] }) → ⊥
+meta_at_1 p typed =
+    let zero_first : ◌≡◌ {A = List Field} (int_property 2 (codes "meta") 0 1 ∷ []) (meta_field ∷ []) = (typed.sys 2 refl).fields in
+    let same : int_of (kept.Int (pos 1)) ≡ int_of (kept.Int (pos 0)) = ap first_int zero_first in
+    omega (arith, same)
+  where
+    int_of : Value → ℕ
+    int_of (kept.Int (pos n)) = n
+    int_of v = 0
+
+    first_int : List Field → ℕ
+    first_int [] = 0
+    first_int (f ∷ fs) = int_of f.initial
+
+-- a static of the App
+static_of_app : (p : Pointer) → Typed (record (ramp p) { statics = record step_field { class = record { 0 = 3 }; slot = None } ∷ [] }) → ⊥
+static_of_app p typed =
+    let none : ◌≡◌ {A = List Field} (record step_field { class = record { 0 = 3 }; slot = None } ∷ []) [] = (typed.sys 3 refl).statics in
+    let never : ⊥ = cc in
+    never
+
+-- the methods of `sys` after another first one, and what follows
+with_sys : (Pointer → List Method) → Pointer → Program
+with_sys methods p = record (ramp p) { methods = methods p ++ void_method 3 (codes "save") (nothing p) ∷ void_method 5 (codes "execute") (adding p) ∷ [] }
+
+-- Component without callbacks, as it once was
+no_callbacks : Pointer → List Method
+no_callbacks p = void_method 2 (codes "execute") (nothing p) ∷ []
+
+without_callbacks : (p : Pointer) → Typed (with_sys no_callbacks p) → ⊥
+unfolding with_sys no_callbacks
+without_callbacks p typed = (typed.sys 2 refl).methods.1
+
+-- a method of Component more
+one_method_more : Pointer → List Method
+one_method_more p =
+    void_method 2 (codes "execute") (nothing p)
+    ∷ void_method 2 (codes "start") (nothing p)
+    ∷ void_method 2 (codes "stop") (nothing p)
+    ∷ changed_method 2 (nothing p)
+    ∷ void_method 2 (codes "loaded") (nothing p)
+    ∷ []
+
+with_one_more : (p : Pointer) → Typed (with_sys one_method_more p) → ⊥
+unfolding with_sys one_method_more
+with_one_more p typed = (typed.sys 2 refl).methods.1.1.1.1
+
+-- `changed` without its argument
+changed_of_nothing : Pointer → List Method
+changed_of_nothing p =
+    void_method 2 (codes "execute") (nothing p)
+    ∷ void_method 2 (codes "start") (nothing p)
+    ∷ void_method 2 (codes "stop") (nothing p)
+    ∷ void_method 2 (codes "changed") (nothing p)
+    ∷ []
+
+without_argument : (p : Pointer) → Typed (with_sys changed_of_nothing p) → ⊥
+unfolding with_sys changed_of_nothing
+without_argument p typed =
+    let takes : ◌≡◌ {A = List Kind} [] (kind.Int ∷ []) = (typed.sys 2 refl).methods.1.1.1.0.form.3 in
+    let never : ⊥ = cc in
+    never
+
+-- an `execute` of Component that does something
+busy : Pointer → List Method
+busy p = void_method 2 (codes "execute") stmt.Break ∷ []
+
+with_busy : (p : Pointer) → Typed (with_sys busy p) → ⊥
+unfolding with_sys busy
+with_busy p typed = (typed.sys 2 refl).methods.0.body
 
 -- ---- slots and fields
 
@@ -138,25 +225,25 @@ static_property p typed =
 -- ---- methods
 
 with_execute : Method → Pointer → Program
-with_execute m p = record (ramp p) { methods = void_method 2 (codes "execute") (nothing p) ∷ void_method 3 (codes "save") (nothing p) ∷ m ∷ [] }
+with_execute m p = record (ramp p) { methods = sys_methods_in 2 3 p ++ m ∷ [] }
 
 -- a method that overrides with another result
 another_result : (p : Pointer) → Typed (with_execute (record (void_method 5 (codes "execute") (adding p)) { result = kind.Int }) p) → ⊥
 unfolding with_execute
 another_result p typed =
-    let result : ◌≡◌ {A = Kind} kind.Int kind.Void = ((typed.members 5 (lit< tt)).methods 2 (void_method 5 [] (nothing p)) (lit< tt) refl).result in
+    let result : ◌≡◌ {A = Kind} kind.Int kind.Void = ((typed.members 5 (lit< tt)).methods 5 (void_method 5 [] (nothing p)) (lit< tt) refl).result in
     let never : ⊥ = cc in
     never
 
 -- a virtual method that is static
 virtual_static : (p : Pointer) → Typed (with_execute (record (void_method 5 (codes "execute") (adding p)) { is_static = true }) p) → ⊥
 unfolding with_execute
-virtual_static p typed = absurd_test ((typed.methods 2 (void_method 5 [] (nothing p)) (lit< tt)).virtual refl).0
+virtual_static p typed = absurd_test ((typed.methods 5 (void_method 5 [] (nothing p)) (lit< tt)).virtual refl).0
 
 -- a method without a body in a class that is not abstract
 without_body : (p : Pointer) → Typed (with_execute (record (void_method 5 (codes "execute") (adding p)) { body = None }) p) → ⊥
 unfolding with_execute
-without_body p typed = absurd_other ((typed.methods 2 (void_method 5 [] (nothing p)) (lit< tt)).no_body refl).1
+without_body p typed = absurd_other ((typed.methods 5 (void_method 5 [] (nothing p)) (lit< tt)).no_body refl).1
 
 -- a method of the name of an inherited field
 named_as_field : (p : Pointer) → Typed (record (program_with (ramp_class 2 ∷ record (ramp_class 5) { number = 1; name = codes "Steep" } ∷ []) (step_field ∷ out_field ∷ []) p) { methods = void_method 6 (codes "step") (nothing p) ∷ [] }) → ⊥
@@ -168,7 +255,7 @@ taking p = record (void_method 5 (codes "take") (nothing p)) { params = kind.Obj
 
 takes_unknown : (p : Pointer) → Typed (record (ramp p) { methods = (ramp p).methods ++ taking p ∷ [] }) → ⊥
 unfolding taking
-takes_unknown p typed = let there : 9999 < 6 = (typed.methods 3 (taking p) (lit< tt)).params 0 kind.Int (lit< tt) in omega (arith, there)
+takes_unknown p typed = let there : 9999 < 6 = (typed.methods 6 (taking p) (lit< tt)).params 0 kind.Int (lit< tt) in omega (arith, there)
 
 -- ---- bodies
 
@@ -177,7 +264,7 @@ with_body body p = with_execute (void_method 5 (codes "execute") (body p)) p
 
 body_in : (body : Pointer → Stmt) (p : Pointer) → Typed (with_body body p) → IsBody (with_body body p) (void_method 5 (codes "execute") (body p)) (body p)
 unfolding with_body with_execute
-body_in body p typed = (typed.methods 2 (void_method 5 [] (nothing p)) (lit< tt)).body
+body_in body p typed = (typed.methods 5 (void_method 5 [] (nothing p)) (lit< tt)).body
 
 -- a value that a void method returns
 returns_a_value : (p : Pointer) → Typed (with_body (λ q. stmt.Return (Some (int 1))) p) → ⊥

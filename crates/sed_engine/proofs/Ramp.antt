@@ -72,6 +72,10 @@ out_field = int_property 5 (codes "out") 2 0
 abbrev pub void_method : ℕ → List ℕ → Stmt → Method
 void_method class name body = record { class = record { 0 = class }; name = name; is_static = false; is_virtual = true; params = []; result = kind.Void; body = Some body }
 
+-- the callback with a slot's number
+abbrev pub changed_method : ℕ → Stmt → Method
+changed_method class body = record (void_method class (codes "changed") body) { params = kind.Int ∷ [] }
+
 -- { }
 abbrev pub nothing : Pointer → Stmt
 nothing p = stmt.Block' (none p) end_of-Stmt
@@ -80,11 +84,21 @@ nothing p = stmt.Block' (none p) end_of-Stmt
 abbrev pub adding : Pointer → Stmt
 adding p = set p prim.Int 2 (chain p (own p prim.Int 2) (by op.Add (own p prim.Int 1)))
 
--- these classes behind those of `sys`, and these fields behind `meta`; `execute` of Component and `save` of App do nothing
+-- the methods of `sys`, where Component and App have these numbers; they do nothing
+abbrev pub sys_methods_in : ℕ → ℕ → Pointer → List Method
+sys_methods_in component app p =
+    void_method component (codes "execute") (nothing p)
+    ∷ void_method component (codes "start") (nothing p)
+    ∷ void_method component (codes "stop") (nothing p)
+    ∷ changed_method component (nothing p)
+    ∷ void_method app (codes "save") (nothing p)
+    ∷ []
+
+-- these classes behind those of `sys`, and these fields behind `meta`
 abbrev pub program_with : List ClassInfo → List Field → Pointer → Program
 program_with classes fields p = record {
   schema = record { kits = record { name = codes "sys"; checksum = pos 0 } ∷ record { name = codes "demo"; checksum = pos 0 } ∷ []; classes = sys_kit ++ classes };
-  methods = void_method 2 (codes "execute") (nothing p) ∷ void_method 3 (codes "save") (nothing p) ∷ void_method 5 (codes "execute") (adding p) ∷ [];
+  methods = sys_methods_in 2 3 p ++ void_method 5 (codes "execute") (adding p) ∷ [];
   fields = meta_field ∷ fields;
   statics = [];
   texts = [];

@@ -1,10 +1,8 @@
 -- Root calls of typed programs end normally or by a trap.
-use Rattle.std.proofs.Common.{◌≡◌, ◌≢◌, ◌<◌, ◌&&◌, not, ℕ, zero, suc, Bool, true, false, if◌then◌else◌, cond, List, [], ◌∷◌, ◌++◌, get_or, length, replicate, codes, Option, Some, None, Result, Ok, Err, refl, sym, ap, subst, ◌∙◌, arith}
-use Rattle.std.specs.Prelude.{IfSome, IsSomeAnd, is_some, ◌==◌, nat_lt, slice_get}
-use Rattle.std.specs.List.{position_or_len}
-use Rattle.std.specs.Option.{option_and_then, option_map, option_map_or}
-use Rattle.std.proofs.lemmas.Bool.{not-true, and_parts, and_from, lt-ltb}
-use Rattle.std.proofs.lemmas.List.Sums.{position_or_len_is}
+use Rattle.std.proofs.Common.{◌≡◌, ◌≢◌, ◌&&◌, not, ℕ, Bool, true, false, if◌then◌else◌, List, [], ◌∷◌, ◌++◌, replicate, codes, Option, Some, None, Result, Ok, Err, refl, sym, ap, subst, ◌∙◌, arith}
+use Rattle.std.specs.Prelude.{IfSome, IsSomeAnd, is_some, slice_get}
+use Rattle.std.specs.Option.{option_map, option_map_or}
+use Rattle.std.proofs.lemmas.Bool.{not-true, and_parts}
 use Rattle.std.proofs.lemmas.Option.{slice_get_within}
 use Rattle.sed_value.specs.declared.value.Value.{Value}
 use Rattle.sed_value.specs.declared.value.Value.TheVariants as kept
@@ -19,10 +17,9 @@ use Rattle.sed_typed.specs.declared.schema.SlotForm.{SlotForm}
 use Rattle.sed_typed.specs.declared.schema.SlotForm.TheVariants.{Prop, Action as OfAction}
 use Rattle.sed_typed.specs.declared.schema.SlotInfo.{SlotInfo}
 use Rattle.sed_typed.specs.Classes.{find, method_name, slot_name}
-use Rattle.sed_typed.specs.Schemas.{numbered, type_at}
-use Rattle.sed_typed.specs.SysTypes.{HasSysTypes, component_class}
-use Rattle.sed_typed.specs.Typed.{Typed, IsRoot, receiver_of}
-use Rattle.sed_typed.specs.TypedSchema.{IsClass, HasSlots, HasSlot, IsAction, argument_kinds}
+use Rattle.sed_typed.specs.SysTypes.{component_type}
+use Rattle.sed_typed.specs.Typed.{Typed, receiver_of}
+use Rattle.sed_typed.specs.TypedSchema.{IsClass, HasSlots, HasSlot, IsAction, argument_kinds, is_below}
 use Rattle.sed_engine.specs.declared.call.CallEnd.TheVariants as end
 use Rattle.sed_engine.specs.declared.call.Callback.TheVariants as callback
 use Rattle.sed_engine.specs.declared.call.Root.{Root}
@@ -33,11 +30,11 @@ use Rattle.sed_engine.specs.Traps.{number_of}
 use Rattle.sed_engine.specs.Stops.{Stop, Traps, Untyped, there, map_ok, and_then}
 use Rattle.sed_engine.specs.Values.{Val, Nothing}
 use Rattle.sed_engine.specs.Code.{is_argument, action_takes, slot_form, may_call, is_creatable}
-use Rattle.sed_engine.specs.Program.{meaning_of}
+use Rattle.sed_engine.specs.Program.{code_of}
 use Rattle.sed_engine.specs.State.{Shared}
 use Rattle.sed_engine.specs.Expressions.{Called, Calls}
 use Rattle.sed_engine.specs.Root.{method_at, callback_method, root_method, argument_of, root_frame, start_root, end_of, most_frames, calls_with}
-use Rattle.sed_engine.specs.Whole.{RootEnds}
+use Rattle.sed_engine.specs.Whole.{NeverGoesWrong}
 use Rattle.sed_engine.proofs.Below.{Below, Itself, below_of, no, of_some, FoundFor, found_below, found_above}
 use Rattle.sed_engine.proofs.CallSteps.{CallsSound}
 use Rattle.sed_engine.proofs.Frames.{FrameHas, no_locals}
@@ -45,6 +42,7 @@ use Rattle.sed_engine.proofs.Kinded.{HasKind}
 use Rattle.sed_engine.proofs.Ranges.{Sound}
 use Rattle.sed_engine.proofs.Ready.{Fitting}
 use Rattle.sed_engine.proofs.Spots.{Concrete, found_body}
+use Rattle.sed_engine.proofs.SysMethods.{IsRoot, SysClass, sys_class, root_there}
 use Rattle.sed_engine.proofs.TypedBodies.{calls_sound}
 
 -- ---- the class of a component
@@ -52,18 +50,28 @@ use Rattle.sed_engine.proofs.TypedBodies.{calls_sound}
 -- a class of which components are made: a concrete one at or below `Component`
 pub record IsComponent (program : Program) (class : ℕ) : Type 0 where
   pub concrete : Concrete program class
-  pub below : Below program.schema.classes component_class class
+  pub component : SysClass program.schema.classes component_type (λ _. Unit {0})
+  pub below : Below program.schema.classes component.class class
 
-component_of : (program : Program) → Typed program → (class : ℕ) → is_creatable (meaning_of program) class ≡ true → IsComponent program class
+component_in : (program : Program) → Typed program → SysClass program.schema.classes component_type (λ _. Unit {0})
+component_in program typed =
+    let c = sys_class program.schema.classes component_type _ typed.kits.sys_types.component in
+    record { class = c.class; is = c.is; info = c.info; there = c.there; kit = c.kit; number_is = c.number_is; has = tt }
+
+component_of : (program : Program) → Typed program → (class : ℕ) → is_creatable (code_of program) class ≡ true → IsComponent program class
 component_of program typed class h = go (slice_get program.schema.classes class) refl (typed.classes class) h
   where
     go : (o : Option ClassInfo) → slice_get program.schema.classes class ≡ o → IfSome o (IsClass program class) → option_map_or (λ c. c.is_component && not c.is_abstract) o false ≡ true → IsComponent program class
     go None is k h = no h
     go (Some info) is k h =
         let parts : (info.is_component ≡ true) × (not info.is_abstract ≡ true) = and_parts info.is_component (not info.is_abstract) h in
+        let c = component_in program typed in
         record {
           concrete = (slice_get_within program.schema.classes class info is, ap (λ (o : Option ClassInfo). option_map_or (λ c. c.is_abstract) o false) is ∙ not-true info.is_abstract parts.1);
-          below = below_of program.schema.classes component_class class (sym k.component ∙ parts.0);
+          component = c;
+          below =
+              below_of program.schema.classes c.class class
+              (sym (ap (λ (o : Option ℕ). option_map_or (λ above. is_below program.schema.classes above class) o false) c.is) ∙ sym k.component ∙ parts.0);
         }
 
 -- ---- the method of a root call
@@ -106,44 +114,21 @@ root_at program typed class known above b a name h =
     subst (λ (o : Option ℕ). Sound (RunsRoot program class a) (map_ok (λ m. Some m) (there o))) (sym f.found)
     (runs_with program typed class known a name f.number f.method f.found f.is (f.same.static ∙ x.2.0) (f.same.params ∙ x.2.3))
 
-and_no : (a b : Bool) → b ≡ false → (a && b) ≡ false
-and_no true b e = e
-and_no false b e = refl
-
--- `Component` is type 2 of kit 0
-component_number : (classes : List ClassInfo) → HasSysTypes classes → type_at classes 0 2 ≡ Some component_class
-component_number [] sys = absurd (omega (arith, sys.there))
-component_number (a ∷ []) sys = absurd (omega (arith, sys.there))
-component_number (a ∷ b ∷ []) sys = absurd (omega (arith, sys.there))
-component_number (a ∷ b ∷ c ∷ rest) sys =
-    let long : 2 < length (a ∷ b ∷ c ∷ rest) = omega (arith, sys.there) in
-    let at : position_or_len (λ (x : ClassInfo). (x.kit == 0) && (x.number == 2)) (a ∷ b ∷ c ∷ rest) ≡ 2 = position_or_len_is (λ (x : ClassInfo). (x.kit == 0) && (x.number == 2)) (a ∷ b ∷ c ∷ rest) 2 a (omega (arith, long)) before here in
-    ap (λ (n : ℕ). option_and_then numbered (cond (nat_lt n (length (a ∷ b ∷ c ∷ rest))) (Some n) None)) at
-    ∙ ap (λ (t : Bool). option_and_then numbered (cond t (Some 2) None)) (lt-ltb 2 (length (a ∷ b ∷ c ∷ rest)) long)
-  where
-    before : (k : ℕ) → k < 2 → ((get_or (a ∷ b ∷ c ∷ rest) k a).kit == 0 && ((get_or (a ∷ b ∷ c ∷ rest) k a).number == 2)) ≡ false
-    before zero h = and_no (a.kit == 0) (a.number == 2) (ap (λ (n : ℕ). n == 2) sys.object.number_is)
-    before (suc zero) h = and_no (b.kit == 0) (b.number == 2) (ap (λ (n : ℕ). n == 2) sys.virtual.number_is)
-    before (suc (suc k)) h = absurd (omega (arith, h))
-
-    here : 2 < length (a ∷ b ∷ c ∷ rest) → ((c.kit == 0) && (c.number == 2)) ≡ true
-    here h = and_from (c.kit == 0) (c.number == 2) (ap (λ (n : ℕ). n == 0) sys.component.kit) (ap (λ (n : ℕ). n == 2) sys.component.number_is)
-
-callback_at : (program : Program) → Typed program → (class : ℕ) → IsComponent program class → (a : ActionArg) (name : List ℕ) → IfSome (find program component_class name) (IsRoot program a) →
+callback_at : (program : Program) → Typed program → (class : ℕ) → (c : IsComponent program class) → (a : ActionArg) (name : List ℕ) → IsSomeAnd (find program c.component.class name) (IsRoot program a) →
     Sound (RunsRoot program class a) (callback_method program class name)
 callback_at program typed class c a name h =
     subst (λ (o : Option ℕ). Sound (RunsRoot program class a) (and_then (there o) (λ (component : ℕ). if is_some (find program component name) then method_at program class name else Ok None)))
-    (sym (component_number program.schema.classes typed.kits.sys_types)) (go (find program component_class name) refl h)
+    (sym c.component.is) (go (find program c.component.class name) refl h)
   where
-    go : (o : Option ℕ) → find program component_class name ≡ o → IfSome o (IsRoot program a) → Sound (RunsRoot program class a) (if is_some o then method_at program class name else Ok None)
-    go None e h = tt
-    go (Some n) e h = root_at program typed class c.concrete component_class c.below a name (subst (λ (o : Option ℕ). IsSomeAnd o (IsRoot program a)) (sym e) h)
+    go : (o : Option ℕ) → find program c.component.class name ≡ o → IsSomeAnd o (IsRoot program a) → Sound (RunsRoot program class a) (if is_some o then method_at program class name else Ok None)
+    go None e h = absurd h
+    go (Some n) e h = root_at program typed class c.concrete c.component.class c.below a name (subst (λ (o : Option ℕ). IsSomeAnd o (IsRoot program a)) (sym e) h)
 
 -- a root call has an argument of a kind, and what it runs takes it
 abbrev Starts : (program : Program) (class : ℕ) → Value → Result (Option ℕ) Stop → Type 0
 Starts program class v m = (a : ActionArg) × (is_argument a v ≡ true) × Sound (RunsRoot program class a) m
 
-action_at : (program : Program) → Typed program → (class slot : ℕ) → IsComponent program class → (v : Value) → action_takes (slot_form (meaning_of program) class slot) v ≡ true →
+action_at : (program : Program) → Typed program → (class slot : ℕ) → IsComponent program class → (v : Value) → action_takes (slot_form (code_of program) class slot) v ≡ true →
     Starts program class v (method_at program class (slot_name program.schema.classes class slot))
 action_at program typed class slot c v h = of_info (slice_get program.schema.classes class) (typed.slots class) h
   where
@@ -160,12 +145,24 @@ action_at program typed class slot c v h = of_info (slice_get program.schema.cla
     of_info None has h = no h
     of_info (Some info) has h = of_slot (slice_get info.slots slot) (has.each slot) h
 
-root_is : (program : Program) → Typed program → (class : ℕ) → IsComponent program class → (which : Root) (v : Value) → may_call (meaning_of program) class which v ≡ true → Starts program class v (root_method program class which)
-root_is program typed class c Execute v h = (argument.Void, h, root_at program typed class c.concrete component_class c.below argument.Void (codes "execute") typed.roots.execute)
+-- the methods of `Component` by name: each takes its argument
+other : {P : Type 0} → false ≡ true → P
+other e = no e
+
+root_is : (program : Program) → Typed program → (class : ℕ) → IsComponent program class → (which : Root) (v : Value) → may_call (code_of program) class which v ≡ true → Starts program class v (root_method program class which)
+root_is program typed class c Execute v h = (
+  argument.Void,
+  h,
+  root_at program typed class c.concrete c.component.class c.below argument.Void (codes "execute")
+      (root_there program typed c.component (codes "execute") argument.Void refl (λ e. refl, (other, (other, (other, tt))))),
+)
 root_is program typed class c (Action slot) v h = action_at program typed class slot.0 c v h
-root_is program typed class c (Callback callback.Start) v h = (argument.Void, h, callback_at program typed class c argument.Void (codes "start") typed.roots.start)
-root_is program typed class c (Callback callback.Stop) v h = (argument.Void, h, callback_at program typed class c argument.Void (codes "stop") typed.roots.stop)
-root_is program typed class c (Callback callback.Changed) v h = (argument.Int, h, callback_at program typed class c argument.Int (codes "changed") typed.roots.changed)
+root_is program typed class c (Callback callback.Start) v h =
+    (argument.Void, h, callback_at program typed class c argument.Void (codes "start") (root_there program typed c.component (codes "start") argument.Void refl (other, (λ e. refl, (other, (other, tt))))))
+root_is program typed class c (Callback callback.Stop) v h =
+    (argument.Void, h, callback_at program typed class c argument.Void (codes "stop") (root_there program typed c.component (codes "stop") argument.Void refl (other, (other, (λ e. refl, (other, tt))))))
+root_is program typed class c (Callback callback.Changed) v h =
+    (argument.Int, h, callback_at program typed class c argument.Int (codes "changed") (root_there program typed c.component (codes "changed") argument.Int refl (other, (other, (other, (λ e. refl, tt))))))
 
 -- ---- the argument
 
@@ -216,13 +213,13 @@ ended (Ok v) left h e = let never : ⊥ = cc in never
 ended (Err (Traps t)) left h e = trap_number t (let same : number_of t ≡ 0 = cc in same)
 ended (Err Untyped) left h e = absurd h
 
-pub roots_end : (program : Program) → Typed program → RootEnds (meaning_of program)
-roots_end program typed class contents statics which argument turns moment creatable fits statics_fit may long =
-    let s : Shared = record { contents = contents; statics = statics; turns = turns; moment = moment } in
-    let c : IsComponent program class = component_of program typed class creatable in
-    let calls : Calls = calls_with program class most_frames in
-    let fitting : Fitting program class s = record { fits = record { contents = fits.values; statics = statics_fit.values }; contents = fits.paths; statics = statics_fit.paths; moment = long } in
-    let starts : Starts program class argument (root_method program class which) = root_is program typed class c which argument may in
-    let e : Called = start_root calls (root_method program class which) (argument_of argument) s in
+pub roots_end : (program : Program) → Typed program → NeverGoesWrong (code_of program)
+roots_end program typed q creatable fits statics_fit may long =
+    let s : Shared = record { contents = q.contents; statics = q.statics; turns = q.turns; moment = q.moment } in
+    let c : IsComponent program q.class = component_of program typed q.class creatable in
+    let calls : Calls = calls_with program q.class most_frames in
+    let fitting : Fitting program q.class s = record { fits = record { contents = fits.values; statics = statics_fit.values }; contents = fits.paths; statics = statics_fit.paths; moment = long } in
+    let starts : Starts program q.class q.argument (root_method program q.class q.which) = root_is program typed q.class c q.which q.argument may in
+    let e : Called = start_root calls (root_method program q.class q.which) (argument_of q.argument) s in
     ended e.result e.shared.turns
-    (started program class calls (calls_sound program typed class c.concrete most_frames) starts.0 (root_method program class which) (argument_of argument) s fitting starts.2 (argument_is program class starts.0 argument starts.1))
+    (started program q.class calls (calls_sound program typed q.class c.concrete most_frames) starts.0 (root_method program q.class q.which) (argument_of q.argument) s fitting starts.2 (argument_is program q.class starts.0 q.argument starts.1))

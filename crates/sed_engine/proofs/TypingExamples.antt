@@ -127,15 +127,15 @@ returns_nothing p h = let result : kind.Int ≡ kind.Void = h in let never : ⊥
 -- ---- calls
 
 -- an argument too many
-with_argument : (p : Pointer) → IsInvocation (ramp p) (Some 5) 2 kind.Void (kind.Int ∷ []) → ⊥
+with_argument : (p : Pointer) → IsInvocation (ramp p) (Some 5) 5 kind.Void (kind.Int ∷ []) → ⊥
 with_argument p h = h.1.1.takes
 
 -- a method that is not the nearest of its name
 not_the_nearest : (p : Pointer) → IsInvocation (ramp p) (Some 5) 0 kind.Void [] → ⊥
-not_the_nearest p h = let same : ◌≡◌ {A = Option ℕ} (Some 2) (Some 0) = h.0 in let never : ⊥ = cc in never
+not_the_nearest p h = let same : ◌≡◌ {A = Option ℕ} (Some 5) (Some 0) = h.0 in let never : ⊥ = cc in never
 
 -- an instance method that is called as a static one
-not_static : (p : Pointer) → IsStaticCall (ramp p) 2 kind.Void [] → ⊥
+not_static : (p : Pointer) → IsStaticCall (ramp p) 5 kind.Void [] → ⊥
 not_static p h = let static : false ≡ true = h.0 in let never : ⊥ = cc in never
 
 super_call : (p : Pointer) → IsSuperCall (ramp p) 5 0 kind.Void []

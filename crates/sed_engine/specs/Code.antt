@@ -1,5 +1,5 @@
 -- A code, as everything above an engine knows it, and the objects that an engine keeps of it.
-use Rattle.std.specs.Prelude.{ℕ, ◌==◌, ℤ, Bool, true, false, ◌&&◌, not, sum_by, List, [], ◌∷◌, position, slice_get, Option, Some, None}
+use Rattle.std.specs.Prelude.{ℕ, ℤ, Bool, true, false, ◌&&◌, not, sum_by, List, [], ◌∷◌, slice_get, Option, Some, None}
 use Rattle.std.specs.Option.{option_map, option_map_or}
 use Rattle.std.specs.FinMap as map
 use Rattle.std.specs.Ordering.{nat_cmp}
@@ -21,16 +21,27 @@ use Rattle.sed_engine.specs.declared.call.Root.TheVariants.{Execute, Action as A
 use Rattle.sed_engine.specs.declared.call.Callback.TheVariants.{Start, Stop, Changed}
 use Rattle.sed_engine.specs.Root.{RootEnd}
 
--- what a code means: its schema, the fields of each class and the statics, first contents, data sizes, and what a
--- root call does on a class, with contents, statics, root, argument, turns and moment
+-- what a root call is asked: to run a root of a class on contents and statics, with an argument, turns and a moment
+pub record Question : Type 0 where
+  pub class : ℕ
+  pub contents : Contents
+  pub statics : Contents
+  pub which : Root-type
+  pub argument : Value
+  pub turns : ℕ
+  pub moment : ℤ
+
+-- what a code means: its schema, the fields of each class, the field behind each slot of a class, the statics, first
+-- contents, data sizes, and what a root call does
 pub record Meaning : Type 0 where
   pub schema : Schema
   pub fields : ℕ → List Shape
+  pub slot_field : ℕ → ℕ → Option ℕ
   pub static_fields : List Shape
   pub initial : ℕ → Contents
   pub initial_statics : Contents
   pub data_size : ℕ → ℕ
-  pub root : ℕ → Contents → Contents → Root-type → Value → ℕ → ℤ → RootEnd
+  pub root : Question → RootEnd
 
 -- what a live place holds
 pub record Object : Type 0 where
@@ -55,7 +66,7 @@ slot_type m class slot = property_type (slot_form m class slot)
 
 -- the path of a property: its field
 abbrev pub slot_path : Meaning → ℕ → ℕ → List ℕ
-slot_path m class slot = option_map_or (λ i. i ∷ []) (position (λ f. option_map_or (λ n. n == slot) f.slot false) (m.fields class)) []
+slot_path m class slot = option_map_or (λ i. i ∷ []) (m.slot_field class slot) []
 
 -- the value in a slot
 abbrev pub slot_value : Meaning → Object → ℕ → Value
@@ -75,8 +86,12 @@ abbrev pub new_object : Meaning → ℕ → Object
 new_object m class = record { class = class; contents = m.initial class }
 
 -- what a root call on an object gives, and the object that it leaves
+abbrev pub asked_of : Object → Contents → Root-type → Value → ℕ → ℤ → Question
+asked_of o statics which argument turns moment =
+    record { class = o.class; contents = o.contents; statics = statics; which = which; argument = argument; turns = turns; moment = moment }
+
 abbrev pub root_of : Meaning → Object → Contents → Root-type → Value → ℕ → ℤ → RootEnd
-root_of m o statics which argument turns moment = m.root o.class o.contents statics which argument turns moment
+root_of m o statics which argument turns moment = m.root (asked_of o statics which argument turns moment)
 
 abbrev pub called : Object → RootEnd → Object
 called o e = record { class = o.class; contents = e.contents }

@@ -1,14 +1,14 @@
 -- Contents that fit the fields of their class.
-use Rattle.std.specs.Prelude.{ℕ, ◌≡◌, ◌==◌, ◌&&◌, nat_lt, nat_le, Bool, false, IsTrue, if◌then◌else◌, List, [], ◌∷◌, length, map, slice_get, Option, Some, None}
+use Rattle.std.specs.Prelude.{ℕ, ◌≡◌, ◌==◌, ◌&&◌, nat_lt, Bool, false, IsTrue, if◌then◌else◌, List, [], ◌∷◌, length, map, slice_get, Option, Some, None}
 use Rattle.std.specs.List.{list_all}
 use Rattle.std.specs.Option.{option_map, option_map_or}
-use Rattle.sed_value.specs.Value.{is_of_type}
+use Rattle.sed_value.specs.Value.{are_bytes, is_of_type}
 use Rattle.sed_value.specs.declared.value.Value.{Value}
 use Rattle.sed_value.specs.declared.value.Value.TheVariants as kept
 use Rattle.sed_value.specs.declared.slot_type.SlotType.TheVariants as slot
 use Rattle.sed_typed.specs.declared.program.FieldForm.{FieldForm}
 use Rattle.sed_typed.specs.declared.program.FieldForm.TheVariants.{Prim, Str, Buf, Array, Object}
-use Rattle.sed_engine.specs.Values.{are_bytes, last_byte}
+use Rattle.sed_engine.specs.Values.{last_byte}
 use Rattle.sed_typed.specs.Contents.{Path, Contents, Shape}
 
 -- the form of a field by its number
@@ -39,8 +39,7 @@ abbrev pub keeps : FieldForm → Value → Bool
 keeps (Prim p) v = is_of_type (slot.Prim p) v
 keeps (Str n) (kept.Buf bytes) = are_bytes bytes && (length bytes == n) && (last_byte bytes == 0)
 keeps (Str n) v = false
-keeps (Buf n) (kept.Buf bytes) = are_bytes bytes && nat_le (length bytes) n
-keeps (Buf n) v = false
+keeps (Buf n) v = is_of_type (slot.Buf n) v
 keeps (Array p n) v = false
 keeps (Object t) v = false
 

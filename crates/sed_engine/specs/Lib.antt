@@ -11,6 +11,8 @@ pub mod Statements
 pub mod Root
 pub mod Code
 pub mod Fits
+pub mod Asked
 pub mod Whole
+pub mod Carries
 pub mod Program
 pub mod Turns

@@ -9,6 +9,7 @@ use Rattle.sed_typed.specs.declared.program.Program.{Program}
 use Rattle.sed_typed.specs.Contents.{Contents}
 use Rattle.sed_typed.specs.Classes.{find, slot_name}
 use Rattle.sed_typed.specs.Schemas.{type_at}
+use Rattle.sed_typed.specs.SysTypes.{component_type}
 use Rattle.sed_typed.specs.Typed.{receiver_of}
 use Rattle.sed_engine.specs.declared.trap.Trap.TheVariants.{TooDeep}
 use Rattle.sed_engine.specs.declared.call.Root.{Root as Root-type}
@@ -71,10 +72,11 @@ callback_name callback.Changed = codes "changed"
 abbrev pub method_at : Program → ℕ → List ℕ → Result (Option ℕ) Stop
 method_at program class name = map_ok (λ m. Some m) (there (find program class name))
 
--- the method of a callback, where `sys::Component`, which is type 2 of kit 0, has one of that name; else none
+-- the method of a callback, where `sys::Component` has one of that name, as that of a typed program does; else none, and
+-- nothing is done
 abbrev pub callback_method : Program → ℕ → List ℕ → Result (Option ℕ) Stop
 callback_method program class name =
-    and_then (there (type_at program.schema.classes 0 2)) (λ (component : ℕ). if is_some (find program component name) then method_at program class name else Ok None)
+    and_then (there (type_at program.schema.classes 0 component_type)) (λ (component : ℕ). if is_some (find program component name) then method_at program class name else Ok None)
 
 -- what a root call runs: the nearest method at or above the class
 abbrev pub root_method : Program → ℕ → Root-type → Result (Option ℕ) Stop

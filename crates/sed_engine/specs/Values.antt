@@ -1,7 +1,7 @@
 -- The values that expressions come to, and how they are kept.
-use Rattle.std.specs.Prelude.{ℕ, zero, suc, ◌-◌, ◌==◌, ◌&&◌, ◌||◌, ℤ, pos, Bool, true, false, not, nat_lt, if◌then◌else◌, List, [], ◌∷◌, length, slice_index, Result, Ok, Err}
-use Rattle.std.specs.List.{list_all}
+use Rattle.std.specs.Prelude.{ℕ, zero, suc, ◌-◌, ◌==◌, ◌&&◌, ◌||◌, ℤ, pos, Bool, true, false, not, if◌then◌else◌, List, [], ◌∷◌, length, slice_index, Result, Ok, Err}
 use Rattle.std.specs.Str.{bytes_eq}
+pub use Rattle.sed_value.specs.Value.{are_bytes}
 use Rattle.sed_value.specs.Value.{stored, widened, is_of_type}
 use Rattle.sed_value.specs.declared.slot_type.SlotType.TheVariants.{Prim}
 use Rattle.sed_value.specs.declared.value.Value.{Value}
@@ -107,9 +107,6 @@ stored_as p v = map_ok (λ x. stored (Prim p) x) (value_of v)
 abbrev pub bytes_of : Value → Result (List ℕ) Stop
 bytes_of (kept.Buf bytes) = Ok bytes
 bytes_of v = Err Untyped
-
-abbrev pub are_bytes : List ℕ → Bool
-are_bytes = list_all (λ b. nat_lt b 256)
 
 abbrev pub last_byte : List ℕ → ℕ
 last_byte bytes = slice_index bytes (length bytes - 1)

@@ -23,7 +23,7 @@ pub enum Root {
 }
 
 /// How a root call ends: with so many turns left, or by the trap of this number, 1 to 5. The
-/// definitions say 0 of a call that comes to what is not typed, as that of no typed program does.
+/// definitions say 0 of a call that may not be made, and of no other.
 #[derive(Clone, Copy, Debug, PartialEq, Eq)]
 pub enum CallEnd {
     Done { left: u32 },

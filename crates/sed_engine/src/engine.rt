@@ -4,7 +4,8 @@ ghost use Rattle.std.specs.Prelude.{◌≡◌, ◌↔◌, ℕ, ◌+◌, ◌<◌,
 ghost use Rattle.std.specs.FinMap as map;
 ghost use Rattle.sed_typed.specs.Contents.{Contents};
 ghost use Rattle.sed_engine.specs.Code.{Meaning, Places, is_creatable, is_property, may_store, may_call, data_of, new_object, slot_value, with_slot, root_of, called};
-ghost use Rattle.sed_engine.specs.Whole.{IsWhole};
+ghost use Rattle.sed_engine.specs.Fits.{Fits};
+ghost use Rattle.sed_engine.specs.Whole.{IsObject, IsWhole};
 
 use crate::call::{AddRefusal, CallEnd, Place, Root};
 use sed_typed::{Schema, SlotNo, TypeNo};
@@ -30,10 +31,13 @@ pub trait Engine: Drop {
     /// A fixed engine never wants memory.
     ghost fixed: { Self → Bool };
 
-    /// The schema of the code.
+    /// The schema of the code, which is whole. Whatever is kept fits: each live object is one of
+    /// which components are made, and its contents and the statics are of their types.
     fn schema(&self) -> &Schema
         ensures same { result.now ≡ (meaning self.now).schema }
-        ensures whole { IsWhole (meaning self.now) };
+        ensures whole { IsWhole (meaning self.now) }
+        ensures objects { (p : ℕ) → IfSome (map.get (live self.now) p) (IsObject (meaning self.now)) }
+        ensures statics { Fits (meaning self.now).fields (meaning self.now).static_fields (meaning self.now).initial_statics (statics self.now) };
 
     /// Makes an object of a component type that is not abstract, at a place that was not live.
     ///

@@ -1,12 +1,15 @@
-//! Laws of the meaning of programs. Each is the contract of a function that does nothing.
+//! Laws of the meaning of programs and of codes. Each is the contract of a function that does nothing.
 ghost use Rattle.std.specs.Prelude.{◌≡◌, ◌+◌, ℕ, ℤ, map};
 ghost use Rattle.sed_value.specs.declared.value.Value.{Value};
 ghost use Rattle.sed_typed.specs.declared.program.Program.{Program};
 ghost use Rattle.sed_typed.specs.Contents.{Contents};
 ghost use Rattle.sed_engine.specs.declared.call.Root.{Root as AnyRoot};
 ghost use Rattle.sed_engine.specs.Root.{root};
-ghost use Rattle.sed_engine.specs.Program.{meaning_of};
-ghost use Rattle.sed_engine.specs.Whole.{IsWhole, RootEnds, RootFits};
+ghost use Rattle.sed_engine.specs.Asked.{MayAsk, masked};
+ghost use Rattle.sed_engine.specs.Carries.{Carries};
+ghost use Rattle.sed_engine.specs.Code.{Meaning, Question};
+ghost use Rattle.sed_engine.specs.Program.{code_of, meaning_of};
+ghost use Rattle.sed_engine.specs.Whole.{AnswersWell, HasTables, IsWhole, NeverGoesWrong, RootFits};
 ghost use Rattle.sed_typed.specs.Typed.{Typed};
 ghost use Rattle.sed_engine.specs.Turns.{LeavesAtMost, IsDone, with_more};
 
@@ -37,9 +40,15 @@ pub fn more_turns_end_alike()
         (root program class contents statics which argument (turns + more) moment).end ≡ with_more more (root program class contents statics which argument turns moment).end }
 {}
 
-/// What a root call leaves fits, where the contents, the statics and the argument that it was given fit.
+/// What a root call leaves fits, where the contents and the statics that it was given fit.
 pub fn what_is_left_fits()
-    ensures { (program : Program) → RootFits (meaning_of program) }
+    ensures { (program : Program) → RootFits (code_of program) }
+{}
+
+/// A typed program never goes wrong: its root calls end normally or by one of the traps, so no step comes to what is not
+/// typed (`Untyped` in `specs/Stops`), which trap 0 would tell.
+pub fn typed_programs_never_go_wrong()
+    ensures { (program : Program) → Typed program → NeverGoesWrong (code_of program) }
 {}
 
 /// The code of a typed program is whole: what everything above a code relies on.
@@ -47,8 +56,18 @@ pub fn typed_programs_are_whole()
     ensures { (program : Program) → Typed program → IsWhole (meaning_of program) }
 {}
 
-/// A typed program never goes wrong: its root calls end normally or by one of the traps, so no step comes to what is not
-/// typed (`Untyped` in `specs/Stops`), which trap 0 would tell.
-pub fn typed_programs_never_go_wrong()
-    ensures { (program : Program) → Typed program → RootEnds (meaning_of program) }
+/// A code is whole once it is masked, where its tables agree and it answers well whatever it may be asked.
+pub fn masked_codes_are_whole()
+    ensures { (m : Meaning) → HasTables m → ((q : Question) → MayAsk m q → AnswersWell m q) → IsWhole (masked m) }
+{}
+
+/// Masked, a code answers what it may be asked as it does itself.
+pub fn masked_codes_answer()
+    ensures { (m : Meaning) (q : Question) → MayAsk m q → (masked m).root q ≡ m.root q }
+{}
+
+/// Two whole codes that are alike in all that may be asked of them are one, so whatever is defined over a code is the
+/// same of both.
+pub fn carried_codes_are_one()
+    ensures { (m n : Meaning) → IsWhole m → IsWhole n → Carries m n → m ≡ n }
 {}

@@ -45,6 +45,10 @@ fields program class =
 abbrev pub slots : List ClassInfo → ℕ → List SlotInfo
 slots classes class = option_map_or (λ info. info.slots) (slice_get classes class) []
 
+-- the methods that a class itself declares
+abbrev pub declared_methods : List Method → ℕ → List Method
+declared_methods methods class = filter (λ m. m.class.0 == class) methods
+
 -- the number of the method of this name that a class itself declares
 abbrev pub declared_method : List Method → List ℕ → ℕ → Option ℕ
 declared_method methods name class = position (λ m. (m.class.0 == class) && bytes_eq m.name name) methods

@@ -3,7 +3,6 @@ use Rattle.std.specs.Prelude.{ℕ, if◌then◌else◌, List, [], ◌∷◌, Opt
 use Rattle.std.specs.Str.{bytes_eq}
 use Rattle.sed_value.specs.declared.value.Value.{Value}
 use Rattle.sed_typed.specs.declared.program.FieldForm.{FieldForm}
-use Rattle.sed_typed.specs.declared.program.FieldForm.TheVariants.{Prim}
 
 -- fields by their numbers, and the index of an element: from an object down to a value that it holds
 abbrev pub Path : Type 0
@@ -28,7 +27,6 @@ changed_at (e ∷ es) path change = (e.0, if bytes_eq e.0 path then change e.1 e
 abbrev pub with_value : Contents → Path → Value → Contents
 with_value m path v = changed_at m path (λ _. v)
 
--- a field as everything above a code knows it: what it holds, and its slot if it is a property
+-- a field as everything above a code knows it: what it holds. Which field is behind a slot the code says.
 pub record Shape : Type 0 where
   pub form : FieldForm
-  pub slot : Option ℕ

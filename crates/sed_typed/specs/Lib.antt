@@ -7,6 +7,7 @@ pub mod Kinds
 pub mod Objects
 pub mod SysTypes
 pub mod TypedSchema
+pub mod SysMembers
 pub mod TypedExpr
 pub mod TypedStmt
 pub mod Depth

@@ -1,31 +1,32 @@
--- The types of kit `sys`.
-use Rattle.std.specs.Prelude.{ℕ, ◌≡◌, ◌≤◌, Bool, true, false, IfSome, List, [], ◌∷◌, length, slice_get, Option, Some, None, codes}
-use Rattle.std.specs.Option.{option_map}
+-- The types of kit `sys`, which is kit 0.
+use Rattle.std.specs.Prelude.{ℕ, ◌≡◌, ◌==◌, Bool, true, false, IsSomeAnd, List, [], ◌∷◌, count_by, slice_get, Option, Some, None, codes}
+use Rattle.std.specs.Option.{option_and_then, option_map}
 use Rattle.sed_value.specs.declared.slot_type.Primitive.TheVariants as prim
 use Rattle.sed_value.specs.declared.slot_type.SlotType.TheVariants as slot
 use Rattle.sed_typed.specs.declared.schema.ActionArg.TheVariants.{Void}
 use Rattle.sed_typed.specs.declared.schema.ClassInfo.{ClassInfo}
 use Rattle.sed_typed.specs.declared.schema.SlotForm.TheVariants.{Prop, Action}
 use Rattle.sed_typed.specs.declared.schema.SlotInfo.{SlotInfo}
+use Rattle.sed_typed.specs.Schemas.{type_at}
 
--- the class from which virtual methods are had, that of components, and the App, by their numbers
-abbrev pub virtual_class : ℕ
-virtual_class = 1
+-- the type from which virtual methods are had, that of components, and the App, by their numbers in the kit; classes of
+-- other kits may stand between them
+abbrev pub virtual_type : ℕ
+virtual_type = 1
 
-abbrev pub component_class : ℕ
-component_class = 2
+abbrev pub component_type : ℕ
+component_type = 2
 
-abbrev pub app_class : ℕ
-app_class = 3
+abbrev pub app_type : ℕ
+app_type = 3
 
--- a class as `sys` has it
-pub record IsSysType (c : ClassInfo) (number : ℕ) (name : List ℕ) (base : Option ℕ) (abstract component : Bool) (all : List SlotInfo) : Type 0 where
-  pub kit : c.kit ≡ 0
-  pub number_is : c.number ≡ number
+-- a class as `sys` has it; its base is a type of the kit too
+pub record IsSysType (classes : List ClassInfo) (name : List ℕ) (base : Option ℕ) (abstract component : Bool) (size : ℕ) (all : List SlotInfo) (c : ClassInfo) : Type 0 where
   pub name_is : c.name ≡ name
-  pub base_is : option_map (λ t. t.0) c.base ≡ base
+  pub base_is : option_map (λ t. t.0) c.base ≡ option_and_then (λ number. type_at classes 0 number) base
   pub is_abstract : c.is_abstract ≡ abstract
   pub is_component : c.is_component ≡ component
+  pub size_is : c.size ≡ size
   pub slots : c.slots ≡ all
 
 -- the slot of every component, and the one that the App has besides
@@ -35,11 +36,15 @@ meta_slot = record { name = codes "meta"; config = true; form = Prop (slot.Prim 
 abbrev pub save_slot : SlotInfo
 save_slot = record { name = codes "save"; config = false; form = Action Void }
 
--- the first five classes are the types of kit 0
+-- the type of this number is there, and is such a class
+abbrev pub HasSysType : List ClassInfo → ℕ → (ClassInfo → Type 0) → Type 0
+HasSysType classes number P = IsSomeAnd (type_at classes 0 number) (λ class. IsSomeAnd (slice_get classes class) P)
+
+-- kit 0 has these five types and no other
 pub record HasSysTypes (classes : List ClassInfo) : Type 0 where
-  pub object : IfSome (slice_get classes 0) (λ c. IsSysType c 0 (codes "Obj") None true false [])
-  pub virtual : IfSome (slice_get classes 1) (λ c. IsSysType c 1 (codes "Virtual") (Some 0) true false [])
-  pub component : IfSome (slice_get classes 2) (λ c. IsSysType c 2 (codes "Component") (Some 1) true true (meta_slot ∷ []))
-  pub app : IfSome (slice_get classes 3) (λ c. IsSysType c 3 (codes "App") (Some 2) false true (meta_slot ∷ save_slot ∷ []))
-  pub folder : IfSome (slice_get classes 4) (λ c. IsSysType c 4 (codes "Folder") (Some 2) false true (meta_slot ∷ []))
-  pub there : 5 ≤ length classes
+  pub five : count_by (λ c. c.kit == 0) classes ≡ 5
+  pub object : HasSysType classes 0 (IsSysType classes (codes "Obj") None true false 0 [])
+  pub virtual : HasSysType classes 1 (IsSysType classes (codes "Virtual") (Some 0) true false 0 [])
+  pub component : HasSysType classes 2 (IsSysType classes (codes "Component") (Some 1) true true 4 (meta_slot ∷ []))
+  pub app : HasSysType classes 3 (IsSysType classes (codes "App") (Some 2) false true 4 (meta_slot ∷ save_slot ∷ []))
+  pub folder : HasSysType classes 4 (IsSysType classes (codes "Folder") (Some 2) false true 4 (meta_slot ∷ []))

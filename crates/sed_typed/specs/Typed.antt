@@ -1,19 +1,18 @@
 -- Typed programs.
-use Rattle.std.specs.Prelude.{ℕ, ◌≡◌, ◌≤◌, ◌<◌, ◌+◌, true, false, IsTrue, All, IfSome, IsSomeAnd, if◌then◌else◌, List, [], ◌∷◌, ◌++◌, count_by, length, map, nat_lt, slice_get, sum_by, None, codes}
+use Rattle.std.specs.Prelude.{ℕ, ◌≡◌, ◌≤◌, ◌<◌, ◌+◌, true, false, IsTrue, All, IfSome, IsSomeAnd, if◌then◌else◌, List, [], ◌∷◌, ◌++◌, count_by, length, map, nat_lt, slice_get, sum_by, None}
 use Rattle.std.specs.List.{list_all}
 use Rattle.std.specs.Option.{option_map_or}
 use Rattle.std.specs.Str.{bytes_eq}
 use Rattle.sed_typed.specs.declared.kind.Kind.{Kind}
 use Rattle.sed_typed.specs.declared.kind.Kind.TheVariants as kind
 use Rattle.sed_typed.specs.declared.program.Method.{Method}
-use Rattle.sed_typed.specs.declared.schema.ActionArg.{ActionArg}
-use Rattle.sed_typed.specs.declared.schema.ActionArg.TheVariants as argument
 use Rattle.sed_typed.specs.declared.program.Program.{Program}
 use Rattle.sed_typed.specs.declared.statement.Stmt.{Stmt}
 use Rattle.sed_typed.specs.Classes.{fields as fields_of, find, method_name}
 use Rattle.sed_typed.specs.Sizes.{form_size, data_size}
-use Rattle.sed_typed.specs.TypedSchema.{HasKits, IsClass, HasSlots, IsAction, IsField, LiesDeeper, HasMembers, is_abstract, is_below}
-use Rattle.sed_typed.specs.SysTypes.{virtual_class, component_class}
+use Rattle.sed_typed.specs.TypedSchema.{HasKits, IsClass, HasSlots, IsField, LiesDeeper, HasMembers, is_abstract, is_below_sys}
+use Rattle.sed_typed.specs.SysTypes.{virtual_type}
+use Rattle.sed_typed.specs.SysMembers.{HasSysMembers}
 use Rattle.sed_typed.specs.TypedExpr.{IsKindOf}
 use Rattle.sed_typed.specs.TypedStmt.{IsStmt}
 use Rattle.sed_typed.specs.Depth.{body_depth}
@@ -53,7 +52,7 @@ pub record IsMethod (program : Program) (m : Method) : Type 0 where
   pub params : All (IsStorable program) m.params
   pub params_most : length m.params ≤ 8
   pub result : IsKindOf program m.result
-  pub virtual : m.is_virtual ≡ true → (m.is_static ≡ false) × IsTrue (is_below program.schema.classes virtual_class m.class.0)
+  pub virtual : m.is_virtual ≡ true → (m.is_static ≡ false) × IsTrue (is_below_sys program.schema.classes virtual_type m.class.0)
   pub no_body : m.body ≡ None → (m.is_virtual ≡ true) × (is_abstract program.schema.classes m.class.0 ≡ true)
   pub body : IfSome m.body (IsBody program m)
 
@@ -62,17 +61,6 @@ abbrev pub HasBodies : Program → ℕ → Type 0
 HasBodies program class =
     is_abstract program.schema.classes class ≡ false → (m : ℕ) →
     IfSome (find program class (method_name program m)) (λ n. IsSomeAnd (slice_get program.methods n) (λ x. x.body ≡ None → ⊥))
-
--- a method that a root call runs by its name, with such an argument
-abbrev pub IsRoot : Program → ActionArg → ℕ → Type 0
-IsRoot program argument n = IsSomeAnd (slice_get program.methods n) (IsAction argument)
-
--- `Component` has `execute`, and a callback only of its form
-pub record HasRoots (program : Program) : Type 0 where
-  pub execute : IsSomeAnd (find program component_class (codes "execute")) (IsRoot program argument.Void)
-  pub start : IfSome (find program component_class (codes "start")) (IsRoot program argument.Void)
-  pub stop : IfSome (find program component_class (codes "stop")) (IsRoot program argument.Void)
-  pub changed : IfSome (find program component_class (codes "changed")) (IsRoot program argument.Int)
 
 -- the bytes of a text literal
 abbrev pub IsText : List ℕ → Type 0
@@ -87,6 +75,7 @@ pub record Typed (program : Program) : Type 0 where
   pub classes : (class : ℕ) → IfSome (slice_get program.schema.classes class) (IsClass program class)
   pub slots : (class : ℕ) → IfSome (slice_get program.schema.classes class) (HasSlots program class)
   pub members : (class : ℕ) → class < length program.schema.classes → HasMembers program class
+  pub sys : (class : ℕ) → IfSome (slice_get program.schema.classes class) (λ info. info.kit ≡ 0 → HasSysMembers program class info)
   pub fields : All (IsField program) program.fields
   pub statics : All (IsField program) program.statics
   pub statics_apart : All (λ f. f.slot ≡ None) program.statics
@@ -97,7 +86,6 @@ pub record Typed (program : Program) : Type 0 where
   pub deeper : (class : ℕ) → All (λ f. LiesDeeper depth class f.form) (fields_of program class)
   pub methods : All (IsMethod program) program.methods
   pub bodies : (class : ℕ) → class < length program.schema.classes → HasBodies program class
-  pub roots : HasRoots program
   pub statics_most : statics_size program < 65536
   pub texts : All IsText program.texts
   pub texts_most : length program.texts ≤ 4096

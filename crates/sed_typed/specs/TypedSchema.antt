@@ -1,6 +1,6 @@
 -- What a typed program's schema, classes and members keep.
-use Rattle.std.specs.Prelude.{ℕ, ◌≡◌, ◌≢◌, ◌==◌, ◌&&◌, ◌||◌, ◌+◌, ◌<◌, ◌≤◌, nat_lt, nat_le, Bool, true, false, IsTrue, All, IfSome, IsSomeAnd, List, [], ◌∷◌, ◌++◌, length, count_by, filter, slice_get, sum_by, None, codes}
-use Rattle.std.specs.List.{list_all, list_any}
+use Rattle.std.specs.Prelude.{ℕ, ◌≡◌, ◌≢◌, ◌==◌, ◌&&◌, ◌||◌, ◌+◌, ◌<◌, ◌≤◌, Bool, true, false, IsTrue, All, IfSome, IsSomeAnd, List, [], ◌∷◌, ◌++◌, length, count_by, filter, slice_get, sum_by, Some, None, codes}
+use Rattle.std.specs.List.{list_any}
 use Rattle.std.specs.Option.{option_and_then, option_map_or}
 use Rattle.std.specs.Str.{bytes_eq}
 use Rattle.sed_value.specs.Names.{is_kit_name}
@@ -25,7 +25,8 @@ use Rattle.sed_typed.specs.declared.schema.SlotForm.TheVariants.{Prop, Action}
 use Rattle.sed_typed.specs.declared.schema.SlotInfo.{SlotInfo}
 use Rattle.sed_typed.specs.Classes.{base_of, lineage, slots as slots_of, fields as fields_of, find}
 use Rattle.sed_typed.specs.Sizes.{data_size, config_size, runtime_size}
-use Rattle.sed_typed.specs.SysTypes.{HasSysTypes, component_class, app_class}
+use Rattle.sed_typed.specs.Schemas.{type_at}
+use Rattle.sed_typed.specs.SysTypes.{HasSysTypes, component_type, app_type}
 
 -- ---- kits and types
 
@@ -53,6 +54,10 @@ pub record HasKits (schema : Schema) : Type 0 where
 abbrev pub is_below : List ClassInfo → ℕ → ℕ → Bool
 is_below classes above class = list_any (λ c. c == above) (lineage classes class)
 
+-- a class that is the type of kit `sys` with this number, or stands below it
+abbrev pub is_below_sys : List ClassInfo → ℕ → ℕ → Bool
+is_below_sys classes number class = option_map_or (λ above. is_below classes above class) (type_at classes 0 number) false
+
 abbrev pub is_abstract : List ClassInfo → ℕ → Bool
 is_abstract classes class = option_map_or (λ c. c.is_abstract) (slice_get classes class) false
 
@@ -71,7 +76,7 @@ Begins {X} front whole = (rest : List X) × (whole ≡ front ++ rest)
 -- a class against its base
 pub record HasBase (program : Program) (class base : ℕ) : Type 0 where
   pub before : base < class
-  pub no_app : base ≢ app_class
+  pub no_app : type_at program.schema.classes 0 app_type ≢ Some base
   pub slots : Begins (slots_of program.schema.classes base) (slots_of program.schema.classes class)
   pub size : data_size program base ≤ data_size program class
 
@@ -79,9 +84,9 @@ pub record HasBase (program : Program) (class base : ℕ) : Type 0 where
 pub record IsClass (program : Program) (class : ℕ) (info : ClassInfo) : Type 0 where
   pub name_free : is_reserved info.name ≡ false
   pub name_once : classes_named program.schema.classes info.kit info.name ≡ 1
-  pub based : info.base ≡ None → class ≡ 0
+  pub based : info.base ≡ None → (info.kit ≡ 0) × (info.number ≡ 0)
   pub base : IfSome (base_of program.schema.classes class) (HasBase program class)
-  pub component : info.is_component ≡ is_below program.schema.classes component_class class
+  pub component : info.is_component ≡ is_below_sys program.schema.classes component_type class
   pub size : info.size ≡ data_size program class
   pub size_most : info.size < 65536
   pub slots_most : length info.slots ≤ 64
@@ -126,8 +131,7 @@ pub record HasSlots (program : Program) (class : ℕ) (info : ClassInfo) : Type 
 -- an initial value that a field of this form has
 abbrev pub is_initial : FieldForm → Value → Bool
 is_initial (Prim p) v = is_of_type (slot.Prim p) v
-is_initial (Buf n) (kept.Buf bytes) = list_all (λ b. nat_lt b 256) bytes && nat_le (length bytes) n
-is_initial (Buf n) v = false
+is_initial (Buf n) v = is_of_type (slot.Buf n) v
 is_initial (Str n) kept.Nothing = true
 is_initial (Str n) v = false
 is_initial (Array p n) kept.Nothing = true
@@ -144,7 +148,7 @@ IsForm program f (Array p n) = (1 ≤ n) × (f.slot ≡ None)
 IsForm program f (Object t) =
     (t.0 < length program.schema.classes)
     × (is_abstract program.schema.classes t.0 ≡ false)
-    × (is_below program.schema.classes component_class t.0 ≡ false)
+    × (is_below_sys program.schema.classes component_type t.0 ≡ false)
     × (0 < length (fields_of program t.0))
     × (f.slot ≡ None)
 

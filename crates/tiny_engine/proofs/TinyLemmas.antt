@@ -1,5 +1,5 @@
 -- What the map of at most one object has, and what is true of the code of `sys`.
-use Rattle.std.proofs.Common.{◌≡◌, ◌⊎◌, inl, inr, ℕ, ℤ, pos, zero, suc, ◌+◌, ◌==◌, ◌||◌, Bool, true, false, cond, if◌then◌else◌, List, [], ◌∷◌, length, map, Option, Some, None, refl, sym, ap, subst, ◌∙◌, arith}
+use Rattle.std.proofs.Common.{◌≡◌, ◌⊎◌, inl, inr, ℕ, ℤ, pos, zero, suc, ◌+◌, ◌≤◌, ◌==◌, ◌&&◌, ◌||◌, Bool, true, false, cond, if◌then◌else◌, List, [], ◌∷◌, length, map, Option, Some, None, refl, sym, ap, subst, ◌∙◌, arith}
 use Rattle.std.specs.Prelude.{IsTrue, IsSome, IfSome, IsSomeAnd, is_some, sum_by, nat_lt}
 use Rattle.std.specs.FinMap as finite
 use Rattle.std.specs.Ordering.{nat_cmp, eq_by_cmp}
@@ -16,9 +16,17 @@ use Rattle.std.specs.Option.{option_map, option_map_or}
 use Rattle.sed_typed.specs.Contents.{with_value}
 use Rattle.sed_typed.specs.declared.schema.ClassInfo.{ClassInfo}
 use Rattle.sed_typed.specs.declared.schema.Schema.{Schema}
-use Rattle.sed_engine.specs.Code.{Object, Places, data_of, is_creatable, is_property, may_store, slot_value, slot_type, slot_path, with_slot}
+use Rattle.std.specs.Int.{w64}
+use Rattle.sed_value.specs.Value.{is_signed}
+use Rattle.sed_engine.specs.declared.call.CallEnd.TheVariants.{Done}
+use Rattle.sed_engine.specs.declared.call.Root.{Root}
+use Rattle.sed_engine.specs.Asked.{MayAsk}
+use Rattle.sed_engine.specs.Code.{Object, Places, Question, asked_of, called, data_of, is_creatable, is_property, may_call, may_store, root_of, slot_value, slot_type, slot_path, with_slot}
+use Rattle.sed_engine.specs.Root.{RootEnd}
+use Rattle.sed_engine.specs.Whole.{IsObject}
 use Rattle.tiny_engine.specs.Sys.{sys_classes}
-use Rattle.tiny_engine.specs.Tiny.{Held, One, meta_is, meta_shape, meaning_of, object_of, live_of, int_or, has_meta, IsCreated, IsSys}
+use Rattle.tiny_engine.specs.Tiny.{Held, One, code_of, meta_is, meaning_of, object_of, live_of, int_or, has_meta, IsCreated, IsSys, KeepsInt}
+use Rattle.tiny_engine.proofs.WholeSys.{created_has, created_may, one_fits}
 
 no_entry : {A : Type 0} (es : List A) → length es ≡ 0 → es ≡ []
 no_entry [] e = refl
@@ -105,9 +113,6 @@ emptied (Some o) p h =
 
 -- ---- the code
 
-created_has : (n : ℕ) → ((n == 3) || (n == 4)) ≡ true → has_meta n ≡ true
-created_has n h = grind (arith, nat_tests)
-
 -- the data of what is live
 pub data_none : (schema : Schema) → data_of (meaning_of schema) (live_of None) ≡ 0
 data_none schema = ap (λ (es : List (ℕ × Object)). sum_by (λ (o : Object). (meaning_of schema).data_size o.class) (map (λ e. e.1) es)) entries_none
@@ -148,7 +153,7 @@ property_is schema sys o created slot h =
         three_or_four n c = elim (cases_eq n 3) [ inl e ↦ inl e | inr ne ↦ inr (grind (arith, nat_tests)) ]
 
 meta_at : (schema : Schema) (o : One) (b : Bool) → b ≡ true →
-    slot_value (record (meaning_of schema) { fields = λ _. if b then meta_shape ∷ [] else [] }) (object_of o) 0 ≡ kept.Int o.meta
+    slot_value (record (meaning_of schema) { slot_field = λ _ slot. if b && (slot == 0) then Some 0 else None }) (object_of o) 0 ≡ kept.Int o.meta
 meta_at schema o true h = refl
 meta_at schema o false h = let never : ⊥ = cc in absurd never
 
@@ -166,7 +171,7 @@ type_is schema sys n c =
     ]
 
 set_at : (schema : Schema) (o : One) (v : Value) (n : ℤ) (b : Bool) → b ≡ true → stored (Prim prim.Int) v ≡ kept.Int n →
-    with_value (meta_is o.meta) (slot_path (record (meaning_of schema) { fields = λ _. if b then meta_shape ∷ [] else [] }) o.class 0) (stored (Prim prim.Int) v) ≡ meta_is n
+    with_value (meta_is o.meta) (slot_path (record (meaning_of schema) { slot_field = λ _ slot. if b && (slot == 0) then Some 0 else None }) o.class 0) (stored (Prim prim.Int) v) ≡ meta_is n
 set_at schema o v n true h e = ap (λ (x : Value). (0 ∷ [], x) ∷ []) e
 set_at schema o v n false h e = let never : ⊥ = cc in absurd never
 
@@ -265,3 +270,57 @@ seen_meta f (Some c) = refl
 pub seen_change : {C D : Type 0} (f : D → One) (g : C → D) (h : One → One) (k : C → One) → ((c : C) → f (g c) ≡ h (k c)) → (one : Option C) → option_map f (option_map g one) ≡ option_map h (option_map k one)
 seen_change f g h k e None = refl
 seen_change f g h k e (Some c) = ap (λ (o : One). Some o) (e c)
+
+-- ---- objects and root calls
+
+-- what is live may be kept
+pub objects_are : (schema : Schema) → IsSys schema → (one : Option One) → IsCreated one → KeepsInt one → (p : ℕ) → IfSome (finite.get (live_of one) p) (IsObject (meaning_of schema))
+objects_are schema sys None created int p = subst (λ (r : Option Object). IfSome r (IsObject (meaning_of schema))) (sym (get_none p)) tt
+objects_are schema sys (Some o) created int p = subst (λ (r : Option Object). IfSome r (IsObject (meaning_of schema))) (sym (get_one o p)) (go (p == 0))
+  where
+    go : (b : Bool) → IfSome (cond b (Some (object_of o)) None) (IsObject (meaning_of schema))
+    go true = record { creatable = created_may schema sys o.class created; fits = one_fits o created int }
+    go false = tt
+
+-- an engine that masks a code answers as the code does what may be asked
+abbrev pub Answers : Schema → Type 0
+Answers schema = (q : Question) → MayAsk (code_of schema) q → (meaning_of schema).root q ≡ (code_of schema).root q
+
+-- a root call on the object that is live, which does nothing
+asked_one : (schema : Schema) → IsSys schema → (o : One) → IsCreated (Some o) → KeepsInt (Some o) → (which : Root) (argument : Value) (turns : ℕ) (moment : ℤ) → may_call (code_of schema) o.class which argument ≡ true →
+    1 ≤ turns → turns ≤ 1000000 → is_signed w64 moment ≡ true → MayAsk (code_of schema) (asked_of (object_of o) [] which argument turns moment)
+asked_one schema sys o created int which argument turns moment may some most long = record {
+  creatable = created_may schema sys o.class created;
+  contents = one_fits o created int;
+  statics = record { paths = refl; values = refl };
+  argument = may;
+  some_turns = some;
+  most_turns = most;
+  moment = long;
+}
+
+-- what a call that does nothing answers and leaves
+pub record DoesNothing (schema : Schema) (live : Places) (p : ℕ) (which : Root) (argument : Value) (turns : ℕ) (moment : ℤ) : Type 0 where
+  pub end : IfSome (finite.get live p) (λ x. Done turns ≡ (root_of (meaning_of schema) x [] which argument turns moment).end)
+  pub left : IfSome (finite.get live p) (λ x. live ≡ finite.insert live p (called x (root_of (meaning_of schema) x [] which argument turns moment)))
+  pub statics : IfSome (finite.get live p) (λ x. [] ≡ (root_of (meaning_of schema) x [] which argument turns moment).statics)
+
+pub call_leaves : (h : Held) → Answers h.schema → IsSys h.schema → IsCreated h.one → KeepsInt h.one → (p : ℕ) (which : Root) (argument : Value) (turns : ℕ) (moment : ℤ) →
+    1 ≤ turns → turns ≤ 1000000 → is_signed w64 moment ≡ true →
+    IsSomeAnd (finite.get (live_of h.one) p) (λ x. IsTrue (may_call (meaning_of h.schema) x.class which argument)) → DoesNothing h.schema (live_of h.one) p which argument turns moment
+call_leaves h answers sys created int p which argument turns moment some most long has = go h.one created int has
+  where
+    go : (one : Option One) → IsCreated one → KeepsInt one → IsSomeAnd (finite.get (live_of one) p) (λ x. IsTrue (may_call (meaning_of h.schema) x.class which argument)) →
+        DoesNothing h.schema (live_of one) p which argument turns moment
+    go None created int has = absurd (none_has (λ x. IsTrue (may_call (meaning_of h.schema) x.class which argument)) p has)
+    go (Some o) created int has =
+        let P : Object → Type 0 = λ x. IsTrue (may_call (meaning_of h.schema) x.class which argument) in
+        let zero_is : p ≡ 0 = at_zero o p (is_some_of P (finite.get (live_of (Some o)) p) has) in
+        let done : root_of (meaning_of h.schema) (object_of o) [] which argument turns moment ≡ record { contents = (object_of o).contents; statics = []; end = Done turns } =
+        answers (asked_of (object_of o) [] which argument turns moment) (asked_one h.schema sys o created int which argument turns moment (holds P o p has) some most long) in
+        record {
+          end = told (λ x. Done turns ≡ (root_of (meaning_of h.schema) x [] which argument turns moment).end) o p zero_is (ap (λ (a : RootEnd). a.end) (sym done));
+          left = told (λ x. live_of (Some o) ≡ finite.insert (live_of (Some o)) p (called x (root_of (meaning_of h.schema) x [] which argument turns moment))) o p zero_is
+              (put_again (live_of (Some o)) p (object_of o) (one_has o p zero_is) ∙ ap (λ (a : RootEnd). finite.insert (live_of (Some o)) p (called (object_of o) a)) (sym done));
+          statics = told (λ x. [] ≡ (root_of (meaning_of h.schema) x [] which argument turns moment).statics) o p zero_is (ap (λ (a : RootEnd). a.statics) (sym done));
+        }

@@ -1,9 +1,13 @@
--- The classes of kit `sys`.
-use Rattle.std.specs.Prelude.{ℕ, nat_lt, Bool, true, false, if◌then◌else◌, List, [], ◌∷◌, length, codes, Option, Some, None}
+-- The kit `sys` and its classes.
+use Rattle.std.specs.Prelude.{ℕ, pos, nat_lt, Bool, true, false, if◌then◌else◌, List, [], ◌∷◌, length, codes, Option, Some, None}
+use Rattle.sed_value.specs.declared.kit.KitRef.{KitRef}
 use Rattle.sed_typed.specs.declared.number.TypeNo.{TypeNo}
 use Rattle.sed_typed.specs.declared.schema.ClassInfo.{ClassInfo}
 use Rattle.sed_typed.specs.declared.schema.SlotInfo.{SlotInfo}
 pub use Rattle.sed_engine.specs.Whole.{meta_slot, save_slot}
+
+abbrev pub sys_kits : List KitRef
+sys_kits = record { name = codes "sys"; checksum = pos 0 } ∷ []
 
 -- a class of kit 0; those that have slots are components, of 4 bytes
 abbrev pub class_of : ℕ → List ℕ → Option TypeNo → Bool → List SlotInfo → ClassInfo

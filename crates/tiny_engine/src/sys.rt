@@ -1,10 +1,10 @@
-//! The classes of kit `sys`.
+//! The kit `sys` and its classes.
 ghost use Rattle.std.specs.Prelude.{◌≡◌, [], ◌∷◌, IfOk, IsTrue};
-ghost use Rattle.sed_value.specs.Names.{is_word};
-ghost use Rattle.tiny_engine.specs.Sys.{class_of, meta_slot, save_slot, sys_classes};
+ghost use Rattle.sed_value.specs.Names.{is_kit_name, is_word};
+ghost use Rattle.tiny_engine.specs.Sys.{class_of, meta_slot, save_slot, sys_classes, sys_kits};
 
 use sed_typed::{ActionArg, ClassInfo, SlotForm, SlotInfo, TypeNo};
-use sed_value::{Items, Prim, SlotType, Word};
+use sed_value::{Items, KitName, KitRef, Prim, SlotType, Word};
 use std::alloc::{AllocError, Global};
 
 // A class of kit 0.
@@ -55,6 +55,24 @@ fn save() -> SlotInfo
         config: false,
         form: SlotForm::Action(ActionArg::Void),
     }
+}
+
+fn kit_name(text: &[u8]) -> KitName
+    requires { IsTrue (is_kit_name text.now) }
+    ensures { result ≡ text.now }
+{
+    KitName::read(text).unwrap()
+}
+
+/// The kits: `sys` alone.
+pub fn kits(alloc: Global) -> Result<Vec<KitRef>, AllocError>
+    ensures { IfOk result (λ v. v.items ≡ sys_kits) }
+{
+    let sys = KitRef {
+        name: kit_name(b"sys".as_slice()),
+        checksum: 0,
+    };
+    Ok(vec![in alloc; sys]?)
 }
 
 /// The five classes of `sys` in their order.

@@ -9,7 +9,9 @@ ghost use Rattle.sed_value.specs.declared.slot_type.Primitive.TheVariants.{Int a
 ghost use Rattle.tiny_engine.specs.Tiny.{meaning_of, live_of, int_or, IsSys};
 
 use crate::sys;
-use sed_engine::{AddRefusal, CallEnd, Engine, Place, Root};
+use sed_engine::{
+    AddRefusal, CallEnd, Engine, Place, Root, masked_codes_answer, masked_codes_are_whole,
+};
 use sed_typed::{Schema, SlotNo, TypeNo};
 use sed_value::{Items, Prim, SlotBuf, SlotType, Value};
 use std::alloc::{AllocError, Global};
@@ -32,13 +34,13 @@ pub struct Tiny {
 
 impl Model for Tiny {
     ghost use Rattle.std.specs.Option.{option_map};
-    ghost use Rattle.tiny_engine.specs.Tiny.{Held, IsSys, IsCreated};
+    ghost use Rattle.tiny_engine.specs.Tiny.{Held, IsSys, IsCreated, KeepsInt};
 
     ghost Value = { Held };
 
     ghost view = { λ t. record { schema = t.schema; limit = t.limit; one = option_map (λ o. record { class = o.class; meta = o.meta }) t.one } };
 
-    ghost invariant = { λ t. IsSys t.schema × IsCreated (option_map (λ o. record { class = o.class; meta = o.meta }) t.one) };
+    ghost invariant = { λ t. IsSys t.schema × IsCreated (option_map (λ o. record { class = o.class; meta = o.meta }) t.one) × KeepsInt (option_map (λ o. record { class = o.class; meta = o.meta }) t.one) };
 }
 
 impl Tiny {
@@ -49,7 +51,7 @@ impl Tiny {
         ensures sys { IfOk result (λ t. IsSys t.schema) }
     {
         let schema = Schema {
-            kits: Items::new(Vec::new(alloc)),
+            kits: Items::new(sys::kits(alloc)?),
             classes: Items::new(sys::classes(alloc)?),
         };
         Ok(Tiny {
@@ -121,6 +123,7 @@ impl Engine for Tiny {
     ghost fixed = { λ t. false };
 
     fn schema(&self) -> &Schema {
+        masked_codes_are_whole();
         &self.schema
     }
 
@@ -151,6 +154,8 @@ impl Engine for Tiny {
     }
 
     fn call(&mut self, _p: Place, _r: Root, _arg: &SlotBuf, turns: u32, _ticks: i64) -> CallEnd {
+        masked_codes_answer();
+        let _limit = self.limit;
         CallEnd::Done { left: turns }
     }
 }

@@ -1,0 +1,79 @@
+-- A code that answers well whatever it may be asked is whole once it is masked.
+use Rattle.std.proofs.Common.{◌≡◌, ◌≢◌, inl, inr, Bool, true, false, if◌then◌else◌, sym, ap, subst, ◌∙◌}
+use Rattle.std.proofs.lemmas.Bool.{cases_Bool}
+use Rattle.sed_engine.specs.declared.call.CallEnd.TheVariants.{Trap}
+use Rattle.sed_engine.specs.Asked.{MayAsk, may_ask, unasked, masked}
+use Rattle.sed_engine.specs.Code.{Meaning, Question}
+use Rattle.sed_engine.specs.Fits.{Fits}
+use Rattle.sed_engine.specs.Root.{RootEnd}
+use Rattle.sed_engine.specs.Whole.{AnswersWell, HasTables, IsWhole, FollowsBase, SaysNothing, RootFits, RootEnds}
+use Rattle.sed_engine.proofs.Asking.{may_from, may_then, masked_asks}
+
+-- ---- what a masked code answers
+
+own : (b : Bool) (x y : RootEnd) → b ≡ true → (if b then x else y) ≡ x
+own b x y e = ap (λ (t : Bool). if t then x else y) e
+
+other : (b : Bool) (x y : RootEnd) → b ≡ false → (if b then x else y) ≡ y
+other b x y e = ap (λ (t : Bool). if t then x else y) e
+
+-- the code's own answer, where it may be asked; what an engine uses
+pub answer_is : (m : Meaning) (q : Question) → MayAsk m q → (masked m).root q ≡ m.root q
+answer_is m q h = own (may_ask m q) (m.root q) (unasked q) (may_then m q h)
+
+pub to_masked : (m : Meaning) (q : Question) → MayAsk m q → MayAsk (masked m) q
+to_masked m q h = may_from (masked m) q (masked_asks m q ∙ may_then m q h)
+
+pub from_masked : (m : Meaning) (q : Question) → MayAsk (masked m) q → MayAsk m q
+from_masked m q h = may_from m q (sym (masked_asks m q) ∙ may_then (masked m) q h)
+
+-- ---- the masked code is whole
+
+-- nothing of the tables is changed
+tables_masked : (m : Meaning) → HasTables m → HasTables (masked m)
+tables_masked m t = record {
+  limits = t.limits;
+  names = t.names;
+  components = t.components;
+  bases = λ class base e. let f : FollowsBase m class base = t.bases class base e in record { before = f.before; slots = f.slots; fields = f.fields; slot_fields = f.slot_fields };
+  sizes = t.sizes;
+  slot_fields = t.slot_fields;
+  no_fields = t.no_fields;
+  values = t.values;
+  first = t.first;
+  first_statics = t.first_statics;
+  beyond = λ class h. let n : SaysNothing m class = t.beyond class h in record { fields = n.fields; initial = n.initial; size = n.size };
+}
+
+module _ (m : Meaning) (well : (q : Question) → MayAsk m q → AnswersWell m q) where
+  unasked_masked : (q : Question) → (MayAsk (masked m) q → ⊥) → (masked m).root q ≡ unasked q
+  unasked_masked q h = elim (cases_Bool (may_ask m q)) [
+    | inl e ↦ absurd (h (to_masked m q (may_from m q e)))
+    | inr e ↦ other (may_ask m q) (m.root q) (unasked q) e
+  ]
+
+  fits_masked : RootFits (masked m)
+  fits_masked q given given_statics = elim (cases_Bool (may_ask m q)) [
+    | inl e ↦
+        let a : AnswersWell m q = well q (may_from m q e) in
+        subst (λ (x : RootEnd). Fits m.fields (m.fields q.class) (m.initial q.class) x.contents × Fits m.fields m.static_fields m.initial_statics x.statics)
+        (sym (own (may_ask m q) (m.root q) (unasked q) e)) (a.contents, a.statics)
+    | inr e ↦
+        subst (λ (x : RootEnd). Fits m.fields (m.fields q.class) (m.initial q.class) x.contents × Fits m.fields m.static_fields m.initial_statics x.statics)
+        (sym (other (may_ask m q) (m.root q) (unasked q) e)) (given, given_statics)
+  ]
+
+  ends_masked : RootEnds (masked m)
+  ends_masked q = (ends, asks)
+    where
+      ends : MayAsk (masked m) q → ((masked m).root q).end ≢ Trap 0
+      ends h = let a : MayAsk m q = from_masked m q h in subst (λ (x : RootEnd). x.end ≢ Trap 0) (sym (answer_is m q a)) (well q a).end
+
+      asks : ((masked m).root q).end ≢ Trap 0 → MayAsk (masked m) q
+      asks h = elim (cases_Bool (may_ask m q)) [
+        | inl e ↦ to_masked m q (may_from m q e)
+        | inr e ↦ absurd (h (ap (λ (x : RootEnd). x.end) (other (may_ask m q) (m.root q) (unasked q) e)))
+      ]
+
+  pub masked_whole : HasTables m → IsWhole (masked m)
+  masked_whole tables = record { tables = tables_masked m tables; unasked = unasked_masked; roots = fits_masked; ends = ends_masked }
