@@ -117,7 +117,7 @@ changed_keeps : (form : Path → Option FieldForm) (e : Path × Value) (path : P
 changed_keeps form e path new true same h k = subst (λ (p : Path). is_kept (form p) new ≡ true) (sym (bytes_equal e.0 path same)) k
 changed_keeps form e path new false other h k = h
 
-all_kept-with_value : (form : Path → Option FieldForm) (m : Contents) (path : Path) (new : Value) → all_kept form m ≡ true → is_kept (form path) new ≡ true → all_kept form (with_value m path new) ≡ true
+pub all_kept-with_value : (form : Path → Option FieldForm) (m : Contents) (path : Path) (new : Value) → all_kept form m ≡ true → is_kept (form path) new ≡ true → all_kept form (with_value m path new) ≡ true
 all_kept-with_value form [] path new h k = h
 all_kept-with_value form (e ∷ es) path new h k =
     both _ _ (changed_keeps form e path new (bytes_eq e.0 path) refl (first_of_both (is_kept (form e.0) e.1) (all_kept form es) h) k)

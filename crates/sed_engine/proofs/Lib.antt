@@ -24,6 +24,7 @@ pub mod FirstValues
 pub mod Asking
 pub mod MaskedCodes
 pub mod OneCode
+pub mod KeptObjects
 pub mod Numbering
 pub mod SchemaTables
 pub mod TypedCodes

@@ -39,7 +39,7 @@ after_keeps (Err x) s t h each w = w
 then_keeps : {A B : Type 0} {f : State → End A} {h : A → State → End B} → Keeps A f → ((a : A) → Keeps B (h a)) → Keeps B (λ s. then_do (f s) h)
 then_keeps {A} {B} {f} {h} first rest = record { keeps = λ s. after_keeps (f s).result s.shared (f s).state h rest (first.keeps s) }
 
-paths-changed_at : (m : Contents) (path : Path) (change : Value → Value) → paths (changed_at m path change) ≡ paths m
+pub paths-changed_at : (m : Contents) (path : Path) (change : Value → Value) → paths (changed_at m path change) ≡ paths m
 paths-changed_at [] path change = refl
 paths-changed_at (e ∷ es) path change = ap (λ (rest : List Path). e.0 ∷ rest) (paths-changed_at es path change)
 

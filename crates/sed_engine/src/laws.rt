@@ -1,5 +1,5 @@
 //! Laws of the meaning of programs and of codes. Each is the contract of a function that does nothing.
-ghost use Rattle.std.specs.Prelude.{◌≡◌, ◌+◌, ℕ, ℤ, map};
+ghost use Rattle.std.specs.Prelude.{◌≡◌, ◌+◌, ℕ, ℤ, IsTrue, map};
 ghost use Rattle.sed_value.specs.declared.value.Value.{Value};
 ghost use Rattle.sed_typed.specs.declared.program.Program.{Program};
 ghost use Rattle.sed_typed.specs.Contents.{Contents};
@@ -7,11 +7,14 @@ ghost use Rattle.sed_engine.specs.declared.call.Root.{Root as AnyRoot};
 ghost use Rattle.sed_engine.specs.Root.{root};
 ghost use Rattle.sed_engine.specs.Asked.{MayAsk, masked};
 ghost use Rattle.sed_engine.specs.Carries.{Carries};
-ghost use Rattle.sed_engine.specs.Code.{Meaning, Question};
+ghost use Rattle.sed_engine.specs.Code.{Meaning, Object, Question, called, is_creatable, may_store, new_object, root_of, with_slot};
+ghost use Rattle.sed_engine.specs.Fits.{Fits};
 ghost use Rattle.sed_engine.specs.Program.{code_of, meaning_of};
-ghost use Rattle.sed_engine.specs.Whole.{AnswersWell, HasTables, IsWhole, NeverGoesWrong, RootFits};
+ghost use Rattle.sed_engine.specs.Whole.{AnswersWell, HasTables, IsObject, IsWhole, NeverGoesWrong, RootFits};
 ghost use Rattle.sed_typed.specs.Typed.{Typed};
 ghost use Rattle.sed_engine.specs.Turns.{LeavesAtMost, IsDone, with_more};
+
+use sed_value::low_bits_are_exact;
 
 /// A root call that ends normally leaves no more turns than it was given.
 pub fn turns_do_not_grow()
@@ -65,6 +68,20 @@ pub fn masked_codes_are_whole()
 pub fn masked_codes_answer()
     ensures { (m : Meaning) (q : Question) → MayAsk m q → (masked m).root q ≡ m.root q }
 {}
+
+/// What an engine keeps goes on to fit: a new object, the object and the statics that a root call leaves, and an object with
+/// another value in a slot.
+pub fn what_is_kept_fits()
+    ensures new { (m : Meaning) (class : ℕ) → IsWhole m → IsTrue (is_creatable m class) → IsObject m (new_object m class) }
+    ensures called { (m : Meaning) (o : Object) (statics : Contents) (which : AnyRoot) (argument : Value) (turns : ℕ) (moment : ℤ) →
+        IsWhole m → IsObject m o → Fits m.fields m.static_fields m.initial_statics statics → IsObject m (called o (root_of m o statics which argument turns moment)) }
+    ensures statics { (m : Meaning) (o : Object) (statics : Contents) (which : AnyRoot) (argument : Value) (turns : ℕ) (moment : ℤ) →
+        IsWhole m → IsObject m o → Fits m.fields m.static_fields m.initial_statics statics →
+        Fits m.fields m.static_fields m.initial_statics (root_of m o statics which argument turns moment).statics }
+    ensures stored { (m : Meaning) (o : Object) (slot : ℕ) (v : Value) → IsWhole m → IsObject m o → IsTrue (may_store m o.class slot v) → IsObject m (with_slot m o slot v) }
+{
+    low_bits_are_exact();
+}
 
 /// Two whole codes that are alike in all that may be asked of them are one, so whatever is defined over a code is the
 /// same of both.
