@@ -1,10 +1,10 @@
-//! A caller that knows an engine by its trait alone, and its use at the tiny engine.
-ghost use Rattle.std.specs.Prelude.{◌≡◌, ◌≢◌, ◌↔◌, ℕ, ◌+◌, ◌<◌, ◌≤◌, false, IsTrue, IfOk, OnErr};
+//! Callers that know an engine by its trait alone, and their use at the tiny engine.
+ghost use Rattle.std.specs.Prelude.{◌≡◌, ◌≢◌, ◌↔◌, ℕ, ◌+◌, ◌<◌, ◌≤◌, false, IsTrue, IfOk, IsSomeAnd, OnErr};
 ghost use Rattle.std.specs.FinMap as map;
-ghost use Rattle.sed_engine.specs.Code.{data_of, is_creatable, may_store, new_object, slot_value, with_slot};
+ghost use Rattle.sed_engine.specs.Code.{data_of, is_creatable, may_call, may_store, new_object, slot_value, with_slot};
 
 use crate::tiny::{Tiny, int_kept};
-use sed_engine::{AddRefusal, Engine, Place};
+use sed_engine::{AddRefusal, CallEnd, Engine, Place, Root};
 use sed_typed::{SlotNo, TypeNo};
 use sed_value::{SlotBuf, Value};
 use std::alloc::Global;
@@ -36,6 +36,47 @@ pub fn make_with<E: Engine>(
     engine.set(p, s, v);
     engine.get(p, s, out);
     Ok(p)
+}
+
+/// Runs a root call, which ends normally or by a trap: never by 0, which tells of no trap.
+///
+/// The engine's `schema` says that what is kept fits, so the code may be asked this.
+pub fn call_well<E: Engine>(
+    engine: &mut E,
+    p: Place,
+    r: Root,
+    arg: &SlotBuf,
+    turns: u32,
+    ticks: i64,
+) -> CallEnd
+    requires live { IsSomeAnd (map.get (E.live engine.old) p.0) (λ o. IsTrue (may_call (E.meaning engine.old) o.class r arg.now)) }
+    requires some_turns { 1 ≤ turns }
+    requires most_turns { turns ≤ 1000000 }
+    ensures end { result ≢ CallEnd.Trap 0 }
+    ensures meaning { E.meaning engine.new ≡ E.meaning engine.old }
+{
+    let _schema = engine.schema();
+    engine.call(p, r, arg, turns, ticks)
+}
+
+/// Makes a folder in a new tiny engine and executes it once. It ends by no trap but the five.
+pub fn end_of_folder(alloc: Global, turns: u32) -> Result<CallEnd, AddRefusal>
+    requires some_turns { 1 ≤ turns }
+    requires most_turns { turns ≤ 1000000 }
+    ensures { IfOk result (λ end. end ≢ CallEnd.Trap 0) }
+{
+    let mut engine = match Tiny::new(alloc, 4) {
+        Ok(engine) => engine,
+        Err(_) => return Err(AddRefusal::Memory),
+    };
+    let mut v = SlotBuf::new();
+    v.put(Value::Int(0));
+    let mut out = SlotBuf::new();
+    let nothing = SlotBuf::new();
+    match make_with(&mut engine, TypeNo(4), SlotNo(0), &v, &mut out) {
+        Ok(p) => Ok(call_well(&mut engine, p, Root::Execute, &nothing, turns, 0)),
+        Err(refusal) => Err(refusal),
+    }
 }
 
 /// Makes a folder with this `meta` in a new tiny engine, and gives what its `meta` then is.
@@ -75,6 +116,13 @@ mod tests {
         for (limit, meta, expected) in rows {
             assert!(rt; meta_of_folder(rt.alloc(), limit, meta) == expected);
         }
+        Ok(())
+    }
+
+    // `execute` of a folder does nothing, and takes no turn.
+    #[test]
+    fn a_folder_is_executed(rt: HostRuntime) -> Result<(), AllocError> {
+        assert!(rt; end_of_folder(rt.alloc(), 10) == Ok(CallEnd::Done { left: 10 }));
         Ok(())
     }
 }
