@@ -1,0 +1,5 @@
+mod Entries
+mod LeftSteps
+mod Rooms
+mod Steps
+mod Tried

@@ -1,0 +1,7 @@
+pub mod Disk
+pub mod Written
+pub mod Replay
+pub mod Held
+pub mod Recorded
+pub mod Left
+pub mod SystemDisk

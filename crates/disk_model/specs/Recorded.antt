@@ -1,0 +1,59 @@
+-- The entries of a record, with the bytes of all writes one behind the other.
+use Rattle.std.specs.Prelude.{ℕ, ◌≡◌, ◌⊎◌, ◌≤◌, Bool, false, List, [], ◌∷◌, ◌++◌, length, take, drop, sum_by}
+use Rattle.disk_model.specs.Disk.{Image}
+use Rattle.disk_model.specs.Held.{Held}
+use Rattle.disk_model.specs.Replay.{Call, wrote, synced, other, marked, begun, after_all}
+use Rattle.disk_model.specs.declared.journal.Entry.{Entry}
+use Rattle.disk_model.specs.declared.journal.Entry.TheVariants.{Wrote, Synced, Other, Marked}
+
+-- The entries so far, and whether a mark was made since the last call.
+pub record Tape : Type 0 where
+  pub entries : List Entry
+  pub is_marked : Bool
+
+-- With one call more.
+abbrev pub with_entry : Tape → Entry → Tape
+with_entry tape entry = record { entries = tape.entries ++ entry ∷ []; is_marked = false }
+
+-- With this call more, or as it was, where the record is full.
+abbrev pub IsTried : Tape → Tape → Entry → Type 0
+IsTried old new entry = (new ≡ with_entry old entry) ⊎ (new ≡ old)
+
+-- The call that an entry is, where the bytes of its write come first, and the bytes behind them.
+abbrev pub call_of : List ℕ → Entry → Call
+call_of log (Wrote at len) = wrote at (take len log)
+call_of log Synced = synced
+call_of log Other = other
+call_of log Marked = marked
+
+abbrev pub bytes_behind : List ℕ → Entry → List ℕ
+bytes_behind log (Wrote at len) = drop len log
+bytes_behind log Synced = log
+bytes_behind log Other = log
+bytes_behind log Marked = log
+
+-- The calls that the entries are.
+abbrev pub calls_of : List ℕ → List Entry → List Call
+calls_of log [] = []
+calls_of log (e ∷ entries) = call_of log e ∷ calls_of (bytes_behind log e) entries
+
+-- The bytes of their writes.
+abbrev pub size_of : Entry → ℕ
+size_of (Wrote at len) = len
+size_of Synced = 0
+size_of Other = 0
+size_of Marked = 0
+
+-- Whether an entry counts as a call.
+abbrev pub is_call : Entry → ℕ
+is_call (Wrote at len) = 1
+is_call Synced = 1
+is_call Other = 1
+is_call Marked = 0
+
+-- The file is what the calls leave of the first one, the log has the bytes of all writes, and there is room.
+pub record IsRecord (first : Image) (file log name : Held) (entries : List Entry) : Type 0 where
+  pub kept : file.bytes ≡ (after_all (begun first) (calls_of log.bytes entries)).content
+  pub logged : length log.bytes ≡ sum_by size_of entries
+  pub rooms : log.room ≤ file.room
+  pub name_room : 4096 ≤ name.room
