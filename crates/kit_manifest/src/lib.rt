@@ -20,6 +20,3 @@ pub use laws::order_is_one;
 pub use manifest::{Manifest, Text};
 pub use order::order_kits;
 pub use reading::read_manifest;
-
-#[cfg(test)]
-mod tests;

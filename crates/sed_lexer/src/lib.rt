@@ -13,8 +13,6 @@ mod lexing;
 mod numbers;
 mod piece;
 mod spellings;
-#[cfg(test)]
-mod tests;
 mod tokens;
 mod words;
 

@@ -24,8 +24,6 @@ mod parsing;
 mod reading;
 mod statements;
 mod tables;
-#[cfg(test)]
-mod tests;
 
 pub use classes::{Class, Member, MemberForm, Unit};
 pub use expressions::{Expr, Link, Node, Step};

@@ -20,8 +20,6 @@ mod refusal;
 mod shown;
 mod slot_buf;
 mod slot_type;
-#[cfg(test)]
-mod tests;
 mod value;
 mod word;
 mod wrap;
