@@ -2,7 +2,7 @@
 use Rattle.std.specs.Prelude.{ℕ, ◌+◌, ◌≤◌, List, [], ◌∷◌}
 use Rattle.std.proofs.Common.{arith}
 use denote.Param.Weighed.{most}
-use Rattle.sed_parser.specs.Tree.{Tree, Absent, Part, row, tree_size}
+use Rattle.sed_parser.specs.Tree.{Tree, row, tree_size}
 use Rattle.sed_parser.specs.ExpressionTree.{node_tree, step_tree}
 use Rattle.sed_parser.specs.declared.expressions.Node.{Node}
 use Rattle.sed_parser.specs.declared.expressions.Node.TheVariants as node

@@ -1,5 +1,5 @@
 -- The tree of an expression.
-use Rattle.std.specs.Prelude.{ℕ, List, [], ◌∷◌}
+use Rattle.std.specs.Prelude.{ℕ}
 use Rattle.sed_parser.specs.Tree.{Tree, Absent, Part, row}
 use Rattle.sed_parser.specs.declared.label.Label.TheVariants as label
 use Rattle.sed_parser.specs.declared.expressions.Node.{Node}

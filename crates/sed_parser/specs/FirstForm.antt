@@ -4,7 +4,6 @@ use Rattle.std.specs.Option.{option_map}
 use Rattle.std.specs.Str.{bytes_eq}
 use Rattle.sed_value.specs.Names.{is_word}
 use Rattle.sed_value.specs.Decimal.{number_of}
-use Rattle.sed_value.specs.declared.slot_type.Primitive.{Primitive}
 use Rattle.sed_value.specs.declared.slot_type.Primitive.TheVariants as prim
 use Rattle.sed_parser.specs.declared.leaves.Ident.{Ident}
 use Rattle.sed_parser.specs.declared.leaves.Literal.{Literal}
@@ -14,13 +13,10 @@ use Rattle.sed_parser.specs.declared.leaves.TypeName.{TypeName}
 use Rattle.sed_parser.specs.declared.leaves.Base.{Base}
 use Rattle.sed_parser.specs.declared.leaves.Base.TheVariants as base
 use Rattle.sed_parser.specs.declared.leaves.Size.{Size}
-use Rattle.sed_parser.specs.declared.leaves.TypeRef.{TypeRef}
 use Rattle.sed_parser.specs.declared.leaves.Facet.{Facet}
 use Rattle.sed_parser.specs.declared.leaves.Modifier.{Modifier}
 use Rattle.sed_parser.specs.declared.leaves.ModifierWord.{ModifierWord}
 use Rattle.sed_parser.specs.declared.leaves.ModifierWord.TheVariants as modifier
-use Rattle.sed_parser.specs.declared.leaves.Param.{Param}
-use Rattle.sed_parser.specs.declared.leaves.Init.{Init}
 use Rattle.sed_parser.specs.declared.leaves.InitValue.{InitValue}
 use Rattle.sed_parser.specs.declared.leaves.InitValue.TheVariants as init
 use Rattle.sed_parser.specs.declared.operators.BinaryOp.TheVariants as binary
@@ -36,7 +32,7 @@ use Rattle.sed_parser.specs.declared.form.FirstProp.{FirstProp}
 use Rattle.sed_parser.specs.declared.form.FirstAssign.{FirstAssign}
 use Rattle.sed_parser.specs.declared.form.FirstTerm.{FirstTerm}
 use Rattle.sed_parser.specs.declared.form.FirstTerm.TheVariants.{Name, Number}
-use Rattle.sed_parser.specs.Tree.{Tree, Absent, Part, row_items}
+use Rattle.sed_parser.specs.Tree.{Tree, Part, row_items}
 use Rattle.sed_parser.specs.Naming.{is_well_named}
 
 -- a step, and the next on what it gives

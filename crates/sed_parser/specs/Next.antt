@@ -1,5 +1,5 @@
 -- What is next: tests of the tokens from a place on.
-use Rattle.std.specs.Prelude.{◌≡◌, ℕ, Bool, true, false, ◌||◌, ◌&&◌, not, List, [], ◌∷◌, drop, Option, Some, None, codes}
+use Rattle.std.specs.Prelude.{ℕ, Bool, true, false, ◌||◌, ◌&&◌, List, [], ◌∷◌, drop, codes}
 use Rattle.std.specs.Str.{bytes_eq}
 use Rattle.sed_lexer.specs.Token.{Token}
 use Rattle.sed_parser.specs.Words.{is_some, is_mark, is_key, is_id, literal_kind, prim_of, modifier_of, binary_of, assignment_of, update_of, prefix_of, goes}

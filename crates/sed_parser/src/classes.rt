@@ -1,8 +1,8 @@
 // Classes and their members.
 
-use sed_value::Items;
 use crate::leaves::{Facet, Ident, Init, Modifier, Param, TypeName, TypeRef};
 use crate::statements::Stmt;
+use sed_value::Items;
 
 /// What follows the name of a member.
 #[derive(Drop)]

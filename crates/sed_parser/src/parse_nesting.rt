@@ -5,12 +5,12 @@ ghost use Rattle.sed_parser.specs.Tree as tree;
 ghost use Rattle.sed_parser.specs.declared.label.Label.TheVariants as label;
 ghost use Rattle.sed_parser.specs.Halts.{Gives};
 
-use sed_value::Items;
 use crate::boxed::Boxed;
 use crate::expressions::Expr;
 use crate::halt::Halt;
 use crate::parser::Parser;
 use crate::statements::{Case, Form, Stmt};
+use sed_value::Items;
 use std::alloc::Global;
 
 fn choice(at: usize, c: Expr, s: Boxed<Stmt>, other: Option<Boxed<Stmt>>) -> Stmt

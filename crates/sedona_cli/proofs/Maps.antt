@@ -1,6 +1,6 @@
 -- The slots of a component, as the map that they stand for.
-use Rattle.std.proofs.Common.{◌≡◌, ℕ, ℤ, pos, Bool, true, false, ◌||◌, ◌&&◌, cond, is_some, unwrap_or, List, [], ◌∷◌, map, codes, All, Option, Some, None, ◌<◌, ◌+◌, length, take, get_or, fold, refl, sym, ap, subst, ◌∙◌}
-use Rattle.std.specs.List.{list_all, list_any, AllByRecursion}
+use Rattle.std.proofs.Common.{◌≡◌, ℕ, ℤ, pos, Bool, true, false, ◌||◌, ◌&&◌, cond, is_some, unwrap_or, List, [], ◌∷◌, map, codes, Option, Some, None, ◌<◌, ◌+◌, length, take, get_or, fold, refl, sym, ap, ◌∙◌}
+use Rattle.std.specs.List.{list_all, AllByRecursion}
 use Rattle.std.specs.Str.{bytes_eq}
 use Rattle.std.specs.Ordering.{nat_cmp, eq_by_cmp}
 use Rattle.std.specs.Cmp.Lexicographic.{slice_cmp, nat_list_cmp_total}

@@ -1,8 +1,8 @@
 -- What a put that may fail did, and what a read gave.
-use Rattle.std.proofs.Common.{◌≡◌, ℕ, List, [], Some, None, length, take, Option, Result, Ok, Err, OnOk, OnErr, IsErr, refl, sym, ap, ◌∙◌}
+use Rattle.std.proofs.Common.{◌≡◌, ℕ, List, [], Some, None, length, Option, Result, Ok, Err, OnOk, OnErr, IsErr, refl, sym, ap, ◌∙◌}
 use Rattle.std.proofs.Math.Seq.{take-length}
 use Rattle.sed_outside.specs.declared.sink.SinkFault.{SinkFault}
-use Rattle.sed_outside.specs.Cause.{Rose, HasCause}
+use Rattle.sed_outside.specs.Cause.{HasCause}
 use Rattle.sed_outside.specs.Sink.{with_text, PutsFront}
 use Rattle.sed_outside.specs.Files.{Contents, ReadsFile, put_behind}
 use Rattle.sedona_cli.specs.Program.{Puts, IsTold}

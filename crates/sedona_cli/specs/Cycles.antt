@@ -1,13 +1,12 @@
 -- What a component of a class of the first form means: a finite map from the names of its slots to ints, and what cycles
 -- do to it.
-use Rattle.std.specs.Prelude.{ℕ, ℤ, zero, suc, pos, ◌+ℤ◌, List, [], ◌∷◌, map, fold, unwrap_or, codes}
+use Rattle.std.specs.Prelude.{ℕ, ℤ, zero, suc, pos, ◌+ℤ◌, List, ◌∷◌, map, fold, unwrap_or, codes}
 use Rattle.std.specs.Int.{w32}
 use Rattle.std.specs.Ordering.{nat_cmp}
 use Rattle.std.specs.Cmp.Lexicographic.{slice_cmp}
 use Rattle.std.specs.FinMap as map_of
 use Rattle.sed_value.specs.Wrap.{wrap}
 use Rattle.sed_parser.specs.declared.form.First.{First}
-use Rattle.sed_parser.specs.declared.form.FirstProp.{FirstProp}
 use Rattle.sed_parser.specs.declared.form.FirstAssign.{FirstAssign}
 use Rattle.sed_parser.specs.declared.form.FirstTerm.{FirstTerm}
 use Rattle.sed_parser.specs.declared.form.FirstTerm.TheVariants.{Name, Number}

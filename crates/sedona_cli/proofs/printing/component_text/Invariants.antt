@@ -1,4 +1,4 @@
-use Rattle.std.proofs.Common.{◌≡◌, ◌∷◌, map, take, codes}
+use Rattle.std.proofs.Common.{◌≡◌, take}
 use Rattle.std.specs.List.{flat_map}
 use Rattle.sedona_cli.specs.Text.{property_line, slot_names}
 use Rattle.sedona_cli.proofs.printing.component_text.Given as goal

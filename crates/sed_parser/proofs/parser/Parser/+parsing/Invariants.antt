@@ -1,5 +1,4 @@
-use Rattle.std.proofs.Common.{◌≡◌, ◌-◌, ◌+◌, ◌*◌, [], ◌∷◌, length, true}
-use Rattle.sed_parser.specs.Rule.{Rule}
+use Rattle.std.proofs.Common.{◌≡◌, ◌-◌, ◌+◌, ◌*◌, length}
 use Rattle.sed_parser.specs.Many.{many_at}
 use Rattle.sed_parser.specs.Next.{next_mark}
 use Rattle.std.specs.Prelude.{codes}
