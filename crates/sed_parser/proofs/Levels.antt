@@ -1,7 +1,8 @@
 -- An expression of a level is one of the form of that level.
-use Rattle.std.proofs.Common.{◌≡◌, ℕ, zero, suc, ◌-◌, ◌≤◌, ◌<◌, ◌==◌, Bool, true, false, List, [], ◌∷◌, length, codes, Option, None, refl, ap, arith}
+use Rattle.std.proofs.Common.{◌≡◌, ℕ, zero, suc, ◌-◌, ◌<◌, ◌==◌, Bool, false, List, [], ◌∷◌, length, codes, refl, arith}
 use Rattle.sed_lexer.specs.Token.{Token}
 use Rattle.sed_parser.specs.Tree.{Tree}
+use Rattle.sed_parser.specs.Reading.{Stuck}
 use Rattle.sed_parser.specs.Rule.{Rule}
 use Rattle.sed_parser.specs.Many.{many_at}
 use Rattle.sed_parser.specs.Next.{next_mark}
@@ -38,7 +39,7 @@ operand_level inner (suc level) inside tokens above below =
     let less : suc level - 1 ≡ level = omega arith in
     rw (whole, conditional, prefix, less) refl
 
-pub no_room : (level : ℕ) (inside : Bool) (tokens : List Token) → (deeper 0 level inside).reads tokens ≡ None
+pub no_room : (level : ℕ) (inside : Bool) (tokens : List Token) → (deeper 0 level inside).reads tokens ≡ Stuck tokens
 unfolding deeper
 no_room level inside tokens = refl
 

@@ -1,12 +1,13 @@
 -- Statements within statements, and rows of them.
-use Rattle.std.proofs.Common.{◌≡◌, ℕ, zero, suc, ◌-◌, ◌<◌, List, length, None, refl, arith}
+use Rattle.std.proofs.Common.{◌≡◌, ℕ, zero, suc, ◌-◌, ◌<◌, List, length, refl, arith}
 use Rattle.sed_lexer.specs.Token.{Token}
 use Rattle.sed_parser.specs.Tree.{Tree}
+use Rattle.sed_parser.specs.Reading.{Stuck}
 use Rattle.sed_parser.specs.Rule.{Rule}
 use Rattle.sed_parser.specs.Many.{many_at}
 use Rattle.sed_parser.specs.Statements.{inner, statement_of, statements, next_statement, cases, case_of, next_case}
 
-pub no_room : (tokens : List Token) → (inner 0).reads tokens ≡ None
+pub no_room : (tokens : List Token) → (inner 0).reads tokens ≡ Stuck tokens
 unfolding inner
 no_room tokens = refl
 

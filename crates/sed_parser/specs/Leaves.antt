@@ -1,7 +1,6 @@
 -- The grammar of names, literals, types, facets, modifiers, parameters and initial values.
-use Rattle.std.specs.Prelude.{◌≡◌, ℕ, Bool, true, false, not, ◌&&◌, List, [], ◌∷◌, Option, Some, None, codes}
+use Rattle.std.specs.Prelude.{ℕ, List, Option, Some, None, codes}
 use Rattle.sed_value.specs.declared.slot_type.Primitive.{Primitive as Prim}
-use Rattle.sed_lexer.specs.Token.{Token}
 use Rattle.sed_parser.specs.declared.leaves.Ident.{Ident}
 use Rattle.sed_parser.specs.declared.leaves.Literal.{Literal}
 use Rattle.sed_parser.specs.declared.leaves.TypeName.{TypeName}
@@ -21,7 +20,7 @@ use Rattle.sed_parser.specs.declared.operators.BinaryOp.{BinaryOp}
 use Rattle.sed_parser.specs.declared.operators.AssignOp.{AssignOp}
 use Rattle.sed_parser.specs.declared.operators.PrefixOp.{PrefixOp}
 use Rattle.sed_parser.specs.declared.operators.UpdateOp.{UpdateOp}
-use Rattle.sed_parser.specs.Rule.{Rule, give, seen, token, when, must, ◌>>=◌, ◌>>◌}
+use Rattle.sed_parser.specs.Rule.{Rule, give, look, token, when, must, ◌>>=◌, ◌>>◌}
 use Rattle.sed_parser.specs.Words.{mark_of, key_of, ident_of, literal_of, integer_of, prim_of, modifier_of, binary_of, assignment_of, update_of, prefix_of}
 use Rattle.sed_parser.specs.Next.{start_of, next_mark, next_key, next_literal, next_prim, may_end}
 
@@ -61,7 +60,7 @@ prefix = token (λ t. prefix_of t.kind t.bytes)
 
 -- the place where the next token begins
 abbrev pub place : Rule ℕ
-place = seen start_of
+place = look start_of
 
 -- `;` where that is next. Else nothing, where the next token is the first on its line or is `}`, or none is left.
 unfoldable pub end : Rule (Unit {0})

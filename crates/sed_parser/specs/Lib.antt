@@ -1,4 +1,5 @@
 pub mod Phrase
+pub mod Reading
 pub mod Rule
 pub mod Many
 pub mod Tree

@@ -1,10 +1,11 @@
 -- What stands several times in a row.
-use Rattle.std.specs.Prelude.{◌≡◌, ◌≤◌, ℕ, zero, suc, ◌+◌, Bool, true, false, cond, List, [], ◌∷◌, ◌++◌, length, Option, Some, None, refl}
-use Rattle.std.proofs.Common.{arith, ap, subst, sym, ◌∙◌}
+use Rattle.std.specs.Prelude.{◌≡◌, ◌⊎◌, ◌≤◌, ℕ, zero, suc, ◌+◌, Bool, true, false, cond, List, [], ◌∷◌, ◌++◌, length, refl}
+use Rattle.std.proofs.Common.{arith, ap, subst, sym, inl, inr, ◌∙◌}
 use Rattle.std.proofs.lemmas.List.{length-append}
 use Rattle.sed_lexer.specs.Token.{Token}
 use Rattle.sed_parser.specs.Phrase.{Phrase}
-use Rattle.sed_parser.specs.Rule.{Rule, IsLeft, Reads, then, then_first, give_sound, give_whole, none_some, none_taken, both_taken}
+use Rattle.sed_parser.specs.Reading.{Reading, Found, Stuck, Reads}
+use Rattle.sed_parser.specs.Rule.{Rule, IsLeft, read_on, read_on_found, read_on_stuck, found_eq, found_again, stuck_eq, not_found, not_stuck, none_taken, both_taken}
 
 -- an item wherever one is wanted, by what is next
 abbrev pub Many : {A : Type 0} → (List Token → Bool) → (A → Phrase) → List A → Phrase
@@ -13,50 +14,50 @@ Many go item (a ∷ xs) tokens rest = (go tokens ≡ true) × ((middle : List To
 
 -- at most so many
 abbrev pub many_at : {A : Type 0} → (List Token → Bool) → Reads A → ℕ → Reads (List A)
-many_at go item zero tokens = cond (go tokens) None (Some ([], tokens))
-many_at go item (suc most) tokens = cond (go tokens) (then (item tokens) (λ a middle. then (many_at go item most middle) (λ xs rest. Some (a ∷ xs, rest)))) (Some ([], tokens))
+many_at go item zero tokens = cond (go tokens) (Stuck tokens) (Found [] tokens)
+many_at go item (suc most) tokens = cond (go tokens) (read_on (item tokens) (λ a middle. read_on (many_at go item most middle) (λ xs rest. Found (a ∷ xs) rest))) (Found [] tokens)
 
 abbrev pub ManyAt : {A : Type 0} → (List Token → Bool) → (A → Phrase) → ℕ → List A → Phrase
 ManyAt go item most xs tokens rest = Many go item xs tokens rest × (length xs ≤ most)
 
 none_sound : {A : Type 0} (go : List Token → Bool) (item : A → Phrase) (most : ℕ) (tokens : List Token) (xs : List A) (rest : List Token) → go tokens ≡ false
-    → ◌≡◌ {A = Option (List A × List Token)} (Some ([], tokens)) (Some (xs, rest)) → ManyAt go item most xs tokens rest
+    → ◌≡◌ {A = Reading (List A)} (Found [] tokens) (Found xs rest) → ManyAt go item most xs tokens rest
 none_sound {A} go item most tokens xs rest stop e =
-    let g = give_sound {A = List A} [] tokens xs rest e in
+    let g = found_eq {A = List A} [] tokens xs rest e in
     subst (λ (x : List A). ManyAt go item most x tokens rest) g.0 ((stop, g.1), omega arith)
 
 pub many_sound : {A : Type 0} (go : List Token → Bool) (item : Rule A) (most : ℕ) (tokens : List Token) (xs : List A) (rest : List Token)
-    → many_at go item.reads most tokens ≡ Some (xs, rest) → ManyAt go item.holds most xs tokens rest
+    → many_at go item.reads most tokens ≡ Found xs rest → ManyAt go item.holds most xs tokens rest
 many_sound {A} go item zero tokens xs rest e = by_go (go tokens) refl e
   where
-    by_go : (b : Bool) → go tokens ≡ b → ◌≡◌ {A = Option (List A × List Token)} (cond b None (Some ([], tokens))) (Some (xs, rest)) → ManyAt go item.holds 0 xs tokens rest
-    by_go true goes e = absurd (none_some _ e)
+    by_go : (b : Bool) → go tokens ≡ b → ◌≡◌ {A = Reading (List A)} (cond b (Stuck tokens) (Found [] tokens)) (Found xs rest) → ManyAt go item.holds 0 xs tokens rest
+    by_go true goes e = absurd (not_found tokens rest xs e)
     by_go false stop e = none_sound go item.holds 0 tokens xs rest stop e
 many_sound {A} go item (suc most) tokens xs rest e = by_go (many_sound go item most) (go tokens) refl e
   where
-    by_go : ((ts : List Token) (ys : List A) (r : List Token) → many_at go item.reads most ts ≡ Some (ys, r) → ManyAt go item.holds most ys ts r)
+    by_go : ((ts : List Token) (ys : List A) (r : List Token) → many_at go item.reads most ts ≡ Found ys r → ManyAt go item.holds most ys ts r)
         → (b : Bool) → go tokens ≡ b
-        → cond b (then (item.reads tokens) (λ a middle. then (many_at go item.reads most middle) (λ ys r. Some (a ∷ ys, r)))) (Some ([], tokens)) ≡ Some (xs, rest)
+        → cond b (read_on (item.reads tokens) (λ a middle. read_on (many_at go item.reads most middle) (λ ys r. Found (a ∷ ys) r))) (Found [] tokens) ≡ Found xs rest
         → ManyAt go item.holds (suc most) xs tokens rest
     by_go shorter true goes e =
-        let s = then_first (item.reads tokens) (λ a middle. then (many_at go item.reads most middle) (λ ys r. Some (a ∷ ys, r))) (xs, rest) e in
-        let m = then_first (many_at go item.reads most s.1) (λ ys r. Some (s.0 ∷ ys, r)) (xs, rest) s.3 in
+        let s = read_on_found (item.reads tokens) (λ a middle. read_on (many_at go item.reads most middle) (λ ys r. Found (a ∷ ys) r)) xs rest e in
+        let m = read_on_found (many_at go item.reads most s.1) (λ ys r. Found (s.0 ∷ ys) r) xs rest s.3 in
         let h = shorter s.1 m.0 m.1 m.2 in
         let few : length m.0 ≤ most = h.1 in
-        let g = give_sound (s.0 ∷ m.0) m.1 xs rest m.3 in
+        let g = found_eq (s.0 ∷ m.0) m.1 xs rest m.3 in
         let many : ManyAt go item.holds (suc most) (s.0 ∷ m.0) tokens m.1 = ((goes, (s.1, item.sound tokens s.0 s.1 s.2, h.0)), omega (arith, few)) in
         let here : ManyAt go item.holds (suc most) xs tokens m.1 = subst (λ (x : List A). ManyAt go item.holds (suc most) x tokens m.1) g.0 many in
         subst (λ (r : List Token). ManyAt go item.holds (suc most) xs tokens r) g.1 here
     by_go shorter false stop e = none_sound go item.holds (suc most) tokens xs rest stop e
 
 pub many_whole : {A : Type 0} (go : List Token → Bool) (item : Rule A) (most : ℕ) (tokens : List Token) (xs : List A) (rest : List Token)
-    → ManyAt go item.holds most xs tokens rest → many_at go item.reads most tokens ≡ Some (xs, rest)
-many_whole {A} go item zero tokens [] rest h = rw h.0.0 (give_whole {A = List A} [] tokens [] rest (refl, h.0.1))
-many_whole {A} go item (suc most) tokens [] rest h = rw h.0.0 (give_whole {A = List A} [] tokens [] rest (refl, h.0.1))
+    → ManyAt go item.holds most xs tokens rest → many_at go item.reads most tokens ≡ Found xs rest
+many_whole {A} go item zero tokens [] rest h = rw h.0.0 (found_again {A = List A} [] tokens [] rest (refl, h.0.1))
+many_whole {A} go item (suc most) tokens [] rest h = rw h.0.0 (found_again {A = List A} [] tokens [] rest (refl, h.0.1))
 many_whole go item zero tokens (a ∷ xs) rest h = let few : suc (length xs) ≤ 0 = h.1 in absurd (omega (arith, few))
 many_whole {A} go item (suc most) tokens (a ∷ xs) rest ((goes, (middle, first, others)), few) =
     let fewer : length xs ≤ most = omega (arith, few) in
-    let more : many_at go item.reads most middle ≡ Some (xs, rest) = many_whole go item most middle xs rest (others, fewer) in
+    let more : many_at go item.reads most middle ≡ Found xs rest = many_whole go item most middle xs rest (others, fewer) in
     rw (goes, item.whole tokens a middle first, more) refl
 
 pub many_left : {A : Type 0} (go : List Token → Bool) (item : Rule A) (xs : List A) (tokens rest : List Token) → Many go item.holds xs tokens rest → IsLeft tokens rest
@@ -72,7 +73,7 @@ no_end : {A : Type 0} (go : List Token → Bool) (item : Rule A) (a : A) (xs : L
     → Many go item.holds xs tokens rest → ⊥
 no_end go item a [] tokens rest goes nothing_taken h = not_both (sym goes ∙ h.0)
 no_end {A} go item a (b ∷ xs) tokens rest goes nothing_taken (again, (middle, first, others)) =
-    let same : tokens ≡ middle = (give_sound a tokens b middle (sym (item.whole tokens a tokens nothing_taken) ∙ item.whole tokens b middle first)).1 in
+    let same : tokens ≡ middle = (found_eq a tokens b middle (sym (item.whole tokens a tokens nothing_taken) ∙ item.whole tokens b middle first)).1 in
     no_end go item a xs tokens rest goes nothing_taken (subst (λ (ts : List Token). Many go item.holds xs ts rest) (sym same) others)
 
 -- so a row has no more items than tokens
@@ -89,6 +90,36 @@ few {A} go item (a ∷ xs) tokens rest (goes, (middle, first, others)) = by_fron
         let both : length (ts ++ middle) ≡ length ts + length middle = length-append ts middle in
         omega (arith, all, both, fewer)
 
+-- where a row gets stuck: at its end, or in an item
+pub many_stuck : {A : Type 0} (go : List Token → Bool) (item : Rule A) (most : ℕ) (tokens rest : List Token)
+    → many_at go item.reads most tokens ≡ Stuck rest → IsLeft tokens rest
+many_stuck {A} go item zero tokens rest e = by_go (go tokens) e
+  where
+    by_go : (b : Bool) → ◌≡◌ {A = Reading (List A)} (cond b (Stuck tokens) (Found [] tokens)) (Stuck rest) → IsLeft tokens rest
+    by_go true e = none_taken tokens rest (stuck_eq {A = List A} tokens rest e)
+    by_go false e = absurd (not_stuck {A = List A} tokens rest [] e)
+many_stuck {A} go item (suc most) tokens rest e = by_go (many_stuck go item most) (go tokens) e
+  where
+    others : ((ts : List Token) (r : List Token) → many_at go item.reads most ts ≡ Stuck r → IsLeft ts r)
+        → (a : A) (middle : List Token) → IsLeft tokens middle
+        → (many_at go item.reads most middle ≡ Stuck rest) ⊎ ((xs : List A) × (behind : List Token) × (many_at go item.reads most middle ≡ Found xs behind) × (Found (a ∷ xs) behind ≡ Stuck rest))
+        → IsLeft tokens rest
+    others shorter a middle taken (inl e) = both_taken tokens middle rest taken (shorter middle rest e)
+    others shorter a middle taken (inr (xs, behind, found, e)) = absurd (not_stuck behind rest (a ∷ xs) e)
+
+    by_item : ((ts : List Token) (r : List Token) → many_at go item.reads most ts ≡ Stuck r → IsLeft ts r)
+        → (item.reads tokens ≡ Stuck rest) ⊎ ((a : A) × (middle : List Token) × (item.reads tokens ≡ Found a middle) × (read_on (many_at go item.reads most middle) (λ xs r. Found (a ∷ xs) r) ≡ Stuck rest))
+        → IsLeft tokens rest
+    by_item shorter (inl e) = item.stuck tokens rest e
+    by_item shorter (inr (a, middle, found, e)) =
+        others shorter a middle (item.left tokens a middle (item.sound tokens a middle found)) (read_on_stuck (many_at go item.reads most middle) (λ xs r. Found (a ∷ xs) r) rest e)
+
+    by_go : ((ts : List Token) (r : List Token) → many_at go item.reads most ts ≡ Stuck r → IsLeft ts r)
+        → (b : Bool) → cond b (read_on (item.reads tokens) (λ a middle. read_on (many_at go item.reads most middle) (λ xs r. Found (a ∷ xs) r))) (Found [] tokens) ≡ Stuck rest
+        → IsLeft tokens rest
+    by_go shorter true e = by_item shorter (read_on_stuck (item.reads tokens) (λ a middle. read_on (many_at go item.reads most middle) (λ xs r. Found (a ∷ xs) r)) rest e)
+    by_go shorter false e = absurd (not_stuck {A = List A} tokens rest [] e)
+
 -- items up to where none is wanted
 abbrev pub many : {A : Type 0} → (List Token → Bool) → Rule A → Rule (List A)
 many go item = record {
@@ -97,4 +128,5 @@ many go item = record {
   sound = λ tokens xs rest e. (many_sound go item (length tokens) tokens xs rest e).0;
   whole = λ tokens xs rest h. many_whole go item (length tokens) tokens xs rest (h, few go item xs tokens rest h);
   left = λ tokens xs rest h. many_left go item xs tokens rest h;
+  stuck = λ tokens rest e. many_stuck go item (length tokens) tokens rest e;
 }

@@ -12,9 +12,8 @@ use Rattle.sed_parser.specs.declared.statements.ForFirst.{ForFirst}
 use Rattle.sed_parser.specs.declared.statements.ForFirst.TheVariants as first
 use Rattle.sed_parser.specs.Tree.{Tree, Absent, Part, row, optional}
 use Rattle.sed_parser.specs.StatementTree.{local_tree, for_tree, case_tree}
-use Rattle.sed_parser.specs.Rule.{Rule, give, nothing, when, must, ◌>>=◌, ◌>>◌}
+use Rattle.sed_parser.specs.Rule.{Rule, give, nothing, when, must, headed, ◌>>=◌, ◌>>◌}
 use Rattle.sed_parser.specs.Many.{many}
-use Rattle.sed_parser.specs.Words.{is_some}
 use Rattle.sed_parser.specs.Next.{next_mark, next_key, next_first, may_end}
 use Rattle.sed_parser.specs.Leaves as part
 use Rattle.sed_parser.specs.Expressions.{expression, deeper}
@@ -29,10 +28,6 @@ local_head = do
   kind ← part.type_of
   on_line
   part.ident
-
--- What can be a local is one.
-abbrev pub next_local : List Token → Bool
-next_local tokens = is_some (local_head.reads tokens)
 
 unfoldable pub local_value : Rule Tree → Rule (Option Tree)
 local_value value = when (next_mark (codes "="))
@@ -59,25 +54,30 @@ return_value room = when (λ tokens. next_mark (codes ";") tokens || may_end tok
       e ← expression room 13 false
       give (Some e))
 
--- `return`, a local or an expression
-unfoldable pub valued : ℕ → Rule Tree
-valued room = do
+unfoldable pub local_statement : ℕ → Rule Tree
+local_statement room = do
+  l ← local (expression room 13 false)
+  part.end
+  give (local_tree l)
+
+unfoldable pub expression_statement : ℕ → Rule Tree
+expression_statement room = do
   at ← part.place
-  when (next_key (codes "return"))
-      (do
-        part.key (codes "return")
-        value ← return_value room
-        part.end
-        give (Part (label.Return at) (optional value) Absent))
-      (when next_local
-      (do
-        l ← local (expression room 13 false)
-        part.end
-        give (local_tree l))
-      (do
-        e ← expression room 13 false
-        part.end
-        give (Part (label.Evaluate at) e Absent)))
+  e ← expression room 13 false
+  part.end
+  give (Part (label.Evaluate at) e Absent)
+
+unfoldable pub return_statement : ℕ → Rule Tree
+return_statement room = do
+  at ← part.place
+  part.key (codes "return")
+  value ← return_value room
+  part.end
+  give (Part (label.Return at) (optional value) Absent)
+
+-- `return`, a local or an expression. What can be a local is one.
+unfoldable pub valued : ℕ → Rule Tree
+valued room = when (next_key (codes "return")) (return_statement room) (headed local_head (local_statement room) (expression_statement room))
 
 -- a statement with no other one within it
 unfoldable pub plain : ℕ → Rule Tree
@@ -159,25 +159,32 @@ do_while room within = do
   part.end
   give (Part (label.Do at) s c)
 
+unfoldable pub for_local : ℕ → Rule ForFirst
+for_local room = do
+  l ← local (deeper room 13 true)
+  part.mark (codes ";")
+  give (first.Local l)
+
+unfoldable pub for_evaluate : ℕ → Rule ForFirst
+for_evaluate room = do
+  e ← deeper room 13 true
+  part.mark (codes ";")
+  give (first.Evaluate e)
+
+-- `FIRST;`
 unfoldable pub for_first : ℕ → Rule ForFirst
 for_first room = when (next_mark (codes ";"))
-    (give first.Nothing)
-    (when next_local
     (do
-      l ← local (deeper room 13 true)
-      give (first.Local l))
-    (do
-      e ← deeper room 13 true
-      give (first.Evaluate e)))
+      part.mark (codes ";")
+      give first.Nothing)
+    (headed local_head (for_local room) (for_evaluate room))
 
 -- `for (FIRST;`
 unfoldable pub for_start : ℕ → Rule ForFirst
 for_start room = do
   part.key (codes "for")
   part.mark (codes "(")
-  f ← for_first room
-  part.mark (codes ";")
-  give f
+  for_first room
 
 -- an expression, or none before a mark
 unfoldable pub perhaps : ℕ → List ℕ → Rule (Option Tree)

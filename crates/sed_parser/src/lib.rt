@@ -34,6 +34,6 @@ pub use leaves::{
     TypeName, TypeRef,
 };
 pub use operators::{AssignOp, BinaryOp, PrefixOp, UpdateOp};
-pub use parsing::{ParseRefusal, parse, unit_is_one};
+pub use parsing::{ParseRefusal, fault_is_one, parse, unit_is_one};
 pub use reading::first;
 pub use statements::{Case, ForFirst, ForHead, Form, Local, Stmt};

@@ -4,17 +4,17 @@ ghost use Rattle.sed_lexer.specs.Token.{Token};
 ghost use Rattle.sed_parser.specs.Classes as grammar;
 ghost use Rattle.sed_parser.specs.Leaves as part;
 ghost use Rattle.sed_parser.specs.Many.{many_at};
-ghost use Rattle.sed_parser.specs.Rule.{Reads};
+ghost use Rattle.sed_parser.specs.Reading.{Reads};
 ghost use Rattle.sed_parser.specs.Next as next;
 ghost use Rattle.sed_parser.specs.Statements as statements;
 ghost use Rattle.sed_parser.specs.Halts.{Gives, Makes};
 
-use sed_value::Items;
 use crate::classes::{Class, Member, MemberForm};
 use crate::halt::Halt;
 use crate::leaves::{Facet, Init, Modifier, Param, TypeName};
 use crate::parser::Parser;
 use crate::statements::Stmt;
+use sed_value::Items;
 use std::alloc::Global;
 
 // How many constructs may be open, one within the other, in a statement of a method's own body.

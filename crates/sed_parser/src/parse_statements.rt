@@ -2,7 +2,8 @@
 ghost use Rattle.std.specs.Prelude.{◌≡◌, true, false};
 ghost use Rattle.sed_parser.specs.Statements as grammar;
 ghost use Rattle.sed_parser.specs.Expressions as expressions;
-ghost use Rattle.sed_parser.specs.Halts.{Gives, Makes};
+ghost use Rattle.sed_parser.specs.Reading.{as_far};
+ghost use Rattle.sed_parser.specs.Halts.{Gives};
 
 use crate::expressions::Expr;
 use crate::halt::Halt;
@@ -32,18 +33,6 @@ impl<'a> Parser<'a> {
         let _kind = self.type_of(alloc)?;
         self.on_line()?;
         self.ident(alloc)
-    }
-
-    // Whether a local stands here.
-    fn is_local(&self, alloc: Global) -> Result<bool, Halt>
-        ensures { Makes result (grammar.next_local self.now) }
-    {
-        let mut ahead = self.again();
-        match ahead.local_head(alloc) {
-            Ok(_) => Ok(true),
-            Err(Halt::Fault) => Ok(false),
-            Err(Halt::Memory) => Err(Halt::Memory),
-        }
     }
 
     #[tactic(auto, unfolding(crate::specs::Statements::local_value))]
@@ -116,34 +105,72 @@ impl<'a> Parser<'a> {
         Ok(Some(e))
     }
 
-    #[tactic(auto, unfolding(crate::specs::Statements::valued))]
-    fn valued(&mut self, alloc: Global, room: usize) -> Result<Stmt, Halt>
-        ensures { Gives result self.new ((grammar.valued room).reads self.old) }
+    #[tactic(auto, unfolding(crate::specs::Statements::return_statement))]
+    fn return_statement(&mut self, alloc: Global, room: usize) -> Result<Stmt, Halt>
+        ensures { Gives result self.new ((grammar.return_statement room).reads self.old) }
     {
         let at = self.start();
-        if self.is_key(b"return") {
-            self.key(b"return")?;
-            let value = self.return_value(alloc, room)?;
-            self.end()?;
-            return Ok(Stmt {
-                at,
-                form: Form::Return(value),
-            });
-        }
-        if self.is_local(alloc)? {
-            let local = self.local(alloc, room)?;
-            self.end()?;
-            return Ok(Stmt {
-                at,
-                form: Form::Local(local),
-            });
-        }
+        self.key(b"return")?;
+        let value = self.return_value(alloc, room)?;
+        self.end()?;
+        Ok(Stmt {
+            at,
+            form: Form::Return(value),
+        })
+    }
+
+    #[tactic(auto, unfolding(crate::specs::Statements::local_statement))]
+    fn local_statement(&mut self, alloc: Global, room: usize) -> Result<Stmt, Halt>
+        ensures { Gives result self.new ((grammar.local_statement room).reads self.old) }
+    {
+        let local = self.local(alloc, room)?;
+        self.end()?;
+        Ok(Stmt {
+            at: local.at,
+            form: Form::Local(local),
+        })
+    }
+
+    #[tactic(auto, unfolding(crate::specs::Statements::expression_statement))]
+    fn expression_statement(&mut self, alloc: Global, room: usize) -> Result<Stmt, Halt>
+        ensures { Gives result self.new ((grammar.expression_statement room).reads self.old) }
+    {
+        let at = self.start();
         let e = self.expression(alloc, room, WHOLE, false)?;
         self.end()?;
         Ok(Stmt {
             at,
             form: Form::Evaluate(e),
         })
+    }
+
+    // An expression where no local stands, since the head of one gets stuck at the other parser's place.
+    fn no_local(&mut self, alloc: Global, room: usize, ahead: &Parser<'a>) -> Result<Stmt, Halt>
+        ensures { Gives result self.new (as_far ahead.now ((grammar.expression_statement room).reads self.old)) }
+    {
+        match self.expression_statement(alloc, room) {
+            Ok(statement) => Ok(statement),
+            Err(Halt::Fault) => {
+                self.go_as_far(ahead);
+                Err(Halt::Fault)
+            }
+            Err(Halt::Memory) => Err(Halt::Memory),
+        }
+    }
+
+    #[tactic(auto, unfolding(crate::specs::Statements::valued))]
+    fn valued(&mut self, alloc: Global, room: usize) -> Result<Stmt, Halt>
+        ensures { Gives result self.new ((grammar.valued room).reads self.old) }
+    {
+        if self.is_key(b"return") {
+            return self.return_statement(alloc, room);
+        }
+        let mut ahead = self.again();
+        match ahead.local_head(alloc) {
+            Ok(_) => self.local_statement(alloc, room),
+            Err(Halt::Fault) => self.no_local(alloc, room, &ahead),
+            Err(Halt::Memory) => Err(Halt::Memory),
+        }
     }
 
     #[tactic(auto, unfolding(crate::specs::Statements::plain))]
@@ -187,19 +214,57 @@ impl<'a> Parser<'a> {
         Ok(e)
     }
 
+    #[tactic(auto, unfolding(crate::specs::Statements::for_local))]
+    fn for_local(&mut self, alloc: Global, room: usize) -> Result<ForFirst, Halt>
+        ensures { Gives result self.new ((grammar.for_local room).reads self.old) }
+    {
+        let local = self.inner_local(alloc, room)?;
+        self.mark(b";")?;
+        Ok(ForFirst::Local(local))
+    }
+
+    #[tactic(auto, unfolding(crate::specs::Statements::for_evaluate))]
+    fn for_evaluate(&mut self, alloc: Global, room: usize) -> Result<ForFirst, Halt>
+        ensures { Gives result self.new ((grammar.for_evaluate room).reads self.old) }
+    {
+        let e = self.deeper(alloc, room, WHOLE, true)?;
+        self.mark(b";")?;
+        Ok(ForFirst::Evaluate(e))
+    }
+
+    // The same as `no_local` in the head of a `for`.
+    fn no_for_local(
+        &mut self,
+        alloc: Global,
+        room: usize,
+        ahead: &Parser<'a>,
+    ) -> Result<ForFirst, Halt>
+        ensures { Gives result self.new (as_far ahead.now ((grammar.for_evaluate room).reads self.old)) }
+    {
+        match self.for_evaluate(alloc, room) {
+            Ok(first) => Ok(first),
+            Err(Halt::Fault) => {
+                self.go_as_far(ahead);
+                Err(Halt::Fault)
+            }
+            Err(Halt::Memory) => Err(Halt::Memory),
+        }
+    }
+
     #[tactic(auto, unfolding(crate::specs::Statements::for_first))]
     fn for_first(&mut self, alloc: Global, room: usize) -> Result<ForFirst, Halt>
         ensures { Gives result self.new ((grammar.for_first room).reads self.old) }
     {
         if self.is_mark(b";") {
+            self.mark(b";")?;
             return Ok(ForFirst::Nothing);
         }
-        if self.is_local(alloc)? {
-            let local = self.inner_local(alloc, room)?;
-            return Ok(ForFirst::Local(local));
+        let mut ahead = self.again();
+        match ahead.local_head(alloc) {
+            Ok(_) => self.for_local(alloc, room),
+            Err(Halt::Fault) => self.no_for_local(alloc, room, &ahead),
+            Err(Halt::Memory) => Err(Halt::Memory),
         }
-        let e = self.deeper(alloc, room, WHOLE, true)?;
-        Ok(ForFirst::Evaluate(e))
     }
 
     #[tactic(auto, unfolding(crate::specs::Statements::for_start))]
@@ -208,9 +273,7 @@ impl<'a> Parser<'a> {
     {
         self.key(b"for")?;
         self.mark(b"(")?;
-        let first = self.for_first(alloc, room)?;
-        self.mark(b";")?;
-        Ok(first)
+        self.for_first(alloc, room)
     }
 
     #[tactic(auto, unfolding(crate::specs::Statements::perhaps))]

@@ -3,6 +3,7 @@ ghost use Rattle.std.specs.Prelude.{◌≡◌, ◌≤◌, ◌&&◌, List, length
 ghost use Rattle.sed_lexer.specs.Token.{Token};
 ghost use Rattle.sed_parser.specs.Leaves as grammar;
 ghost use Rattle.sed_parser.specs.Next as next;
+ghost use Rattle.sed_parser.specs.Reading.{further};
 ghost use Rattle.sed_parser.specs.Halts.{Gives};
 
 use crate::halt::Halt;
@@ -16,7 +17,8 @@ use sed_value::{Items, Prim};
 use std::alloc::Global;
 use std::marker::Model;
 
-/// The tokens from a place on. A step that stops leaves the parser at the token that it could not pass.
+/// The tokens from a place on. A step that faults leaves the parser at the token that it could not pass, and a step over one
+/// token where it was.
 #[derive(Drop)]
 pub struct Parser<'a> {
     tokens: &'a Tokens,
@@ -48,16 +50,20 @@ impl<'a> Parser<'a> {
         }
     }
 
-    /// The number of the next token.
-    pub fn token(&self) -> usize {
-        self.at
-    }
-
     /// How many tokens are left.
     pub fn left(&self) -> usize
         ensures { result ≡ length self.now }
     {
         self.tokens.len() - self.at
+    }
+
+    /// Goes on to the place of another parser, where that is further.
+    pub fn go_as_far(&mut self, other: &Parser<'a>)
+        ensures { self.new ≡ further other.now self.old }
+    {
+        if other.left() < self.left() {
+            *self = other.again();
+        }
     }
 
     /// Whether no token is left.

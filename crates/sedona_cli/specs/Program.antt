@@ -1,8 +1,9 @@
 -- What the program answers.
-use Rattle.std.specs.Prelude.{◌≡◌, ◌⊎◌, ◌<◌, ℕ, List, [], ◌∷◌, ◌++◌, length, Option, Some, IfSome, IsSomeAnd, codes}
+use Rattle.std.specs.Prelude.{◌≡◌, ◌⊎◌, ℕ, nat_lt, if◌then◌else◌, List, [], ◌∷◌, ◌++◌, length, Option, Some, IfSome, IsSomeAnd, codes}
 use Rattle.std.specs.Fmt.{decimal}
 use Rattle.sed_lexer.specs.Token.{Token, token_at}
 use Rattle.sed_lexer.specs.Lexes.{Lexes, FaultsAt}
+use Rattle.sed_parser.specs.Derives as grammar
 use Rattle.sed_parser.specs.Derives.{Derives}
 use Rattle.sed_parser.specs.FirstForm.{IsFirst}
 use Rattle.sed_parser.specs.declared.classes.Unit.{Unit as TheUnit}
@@ -10,7 +11,7 @@ use Rattle.sed_parser.specs.declared.form.First.{First}
 use Rattle.sed_outside.specs.Cause.{Rose}
 use Rattle.sed_outside.specs.Files.{Contents}
 use Rattle.sed_outside.specs.Sink.{with_text, PutsFront}
-use Rattle.sedona_cli.specs.Command.{Command, Cycles, command_of}
+use Rattle.sedona_cli.specs.Command.{Cycles, command_of}
 use Rattle.sedona_cli.specs.Text.{line_end, text_after}
 
 -- The text has tokens, and they derive this unit.
@@ -24,20 +25,21 @@ IsClass text f = (unit : TheUnit) × IsUnit text unit × IsFirst f unit
 abbrev pub IsOfFirstForm : List ℕ → Type 0
 IsOfFirstForm text = (f : First) × IsClass text f
 
--- The place is that of a token, or the end of the text.
-abbrev pub IsPlace : List ℕ → List Token → ℕ → Type 0
-IsPlace text tokens at = ((i : ℕ) × (i < length tokens) × (at ≡ (token_at tokens i).start)) ⊎ (at ≡ length text)
+-- The place where the token of this number begins, or the text's end where there is none.
+abbrev pub place_of : List ℕ → List Token → ℕ → ℕ
+place_of text tokens n = if nat_lt n (length tokens) then (token_at tokens n).start else length text
 
--- The text has tokens that derive no unit.
+-- The text has tokens that derive no unit, and this is the place of the one at which they fault.
 abbrev pub HasNoUnit : List ℕ → ℕ → Type 0
-HasNoUnit text at = (tokens : List Token) × Lexes text tokens × ((unit : TheUnit) → Derives tokens unit → ⊥) × IsPlace text tokens at
+HasNoUnit text at = (tokens : List Token) × Lexes text tokens × ((unit : TheUnit) → Derives tokens unit → ⊥)
+    × ((token : ℕ) × grammar.FaultsAt tokens token × (at ≡ place_of text tokens token))
 
 -- The text has a unit that is not of the first form.
 abbrev pub HasOtherForm : List ℕ → Type 0
 HasOtherForm text = (unit : TheUnit) × IsUnit text unit × ((f : First) → IsFirst f unit → ⊥)
 
 -- Why a text is refused, as it is printed: `AT lex` where no token begins at a place, `AT parse` where its tokens derive no
--- unit, and `0 form` where its unit is not of the first form.
+-- unit and fault at the token of this place, and `0 form` where its unit is not of the first form.
 abbrev pub IsWhy : List ℕ → List ℕ → Type 0
 IsWhy text why = ((at : ℕ) × FaultsAt text at × (why ≡ decimal at ++ codes " lex"))
     ⊎ ((at : ℕ) × HasNoUnit text at × (why ≡ decimal at ++ codes " parse"))

@@ -8,7 +8,8 @@ ghost use Rattle.sed_outside.specs.Sink.{with_text, PutsFront};
 ghost use Rattle.sedona_cli.specs.Refused.{IsRefusal, words_of};
 ghost use Rattle.sedona_cli.specs.Command.{texts, command_of};
 ghost use Rattle.sedona_cli.specs.Text.{text_after, line_end};
-ghost use Rattle.sedona_cli.specs.Program.{IsOneOf, IsUnit, IsClass, IsPlace, IsOfFirstForm, OnCycles, RefusedFor, IsTold, GaveSome, PrintsSome, Puts, usage_line, refused_line, file_fault_line, memory_line};
+ghost use Rattle.sedona_cli.specs.Program as meaning;
+ghost use Rattle.sedona_cli.specs.Program.{IsOneOf, IsUnit, IsClass, IsOfFirstForm, OnCycles, RefusedFor, IsTold, GaveSome, PrintsSome, Puts, usage_line, refused_line, file_fault_line, memory_line};
 
 use crate::command::read_words;
 use crate::component::{Component, run};
@@ -22,7 +23,7 @@ use std::alloc::{AllocError, Global};
 
 // The place where a token begins, or the end of the text where there is no token of this number.
 fn place_of(text: &[u8], tokens: &Tokens, token: usize) -> usize
-    ensures { IsPlace text.now tokens.now result }
+    ensures { result ≡ meaning.place_of text.now tokens.now token }
 {
     if token < tokens.len() {
         tokens.start(token)

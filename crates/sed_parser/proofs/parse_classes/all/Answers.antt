@@ -10,7 +10,7 @@ returns-then-not-goes g c =
 pub returns-in_err-next : goal.returns-in_err-next
 returns-in_err-next g c =
     let p = err_from_is_err_and c.from_residual.result c.from_residual.ensures.1 in
-    rw (p.1, p.2) (refused g.T.Item.goes_at g.T.Item.item_at c.in_err-next.field-0.0 _ _ c.loop.items.items c.left-most.result c.loop.counter c.loop.parser _ c.loop-test.true (sym c.if-not-goes.ensures) c.in_err-next.ensures c.loop.invariant)
+    rw (p.1, p.2) (refused g.T.Item.goes_at g.T.Item.item_at c.in_err-next.field-0.0 c.read.new.parser c.loop.items.items c.left-most.result c.loop.counter c.loop.parser _ c.loop-test.true (sym c.if-not-goes.ensures) c.in_err-next.ensures c.loop.invariant)
 
 pub loop-preserved : goal.loop-preserved
 loop-preserved g c =

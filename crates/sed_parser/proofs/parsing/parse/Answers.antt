@@ -1,5 +1,6 @@
-use Rattle.std.proofs.Common.{Ok, inl, inr, refl, sym, ap}
-use Rattle.sed_parser.proofs.Units.{derived, no_other, none_derives}
+use Rattle.std.proofs.Common.{◌≡◌, ◌-◌, ◌∙◌, ℕ, length, Ok, inl, inr, refl, sym, ap, subst}
+use Rattle.sed_parser.specs.Derives.{FaultsAt}
+use Rattle.sed_parser.proofs.Units.{derived, no_other, none_derives, stuck_left, left_few, faults_there, fault_eq}
 use Rattle.sed_parser.proofs.parsing.parse.Goals as goal
 
 pub returns-in-Ok-clause-found : goal.returns-in-Ok-clause-found
@@ -22,3 +23,15 @@ returns-in-Err-Fault-clause-derives c =
 
 pub returns-in-Err-Memory-clause-derives : goal.returns-in-Err-Memory-clause-derives
 returns-in-Err-Memory-clause-derives c = λ v is. inr refl
+
+-- the parser is stuck at one of the last tokens
+pub overflow_sub-result : goal.overflow_sub-result
+overflow_sub-result c =
+    let few = left_few _ _ (stuck_left _ _ c.classes.new.self c.in-Err-Fault.field-0 c.new-parser.ensures c.in-Err-Fault.field-0-is c.in-Err-Fault.ensures) in
+    rw (c.left.ensures, c.len.ensures) few
+
+pub returns-in-Err-Fault-clause-token : goal.returns-in-Err-Fault-clause-token
+returns-in-Err-Fault-clause-token c = λ token e.
+    let there = faults_there _ _ c.classes.new.self c.in-Err-Fault.field-0 c.new-parser.ensures c.in-Err-Fault.field-0-is c.in-Err-Fault.ensures in
+    let counted : length c.args.tokens.now - length c.classes.new.self ≡ c.len.result - c.left.result = rw (c.len.ensures, c.left.ensures) refl in
+    subst (λ (n : ℕ). FaultsAt c.args.tokens.now n) (counted ∙ fault_eq _ _ e) there

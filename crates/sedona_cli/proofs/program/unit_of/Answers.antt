@@ -8,7 +8,8 @@ returns-in-Ok-parse-clause-only c = λ unit is. c.in-Ok-parse.ensures.only unit 
 pub returns-in-Err-Fault-parse-clause-refused : goal.returns-in-Err-Fault-parse-clause-refused
 returns-in-Err-Fault-parse-clause-refused c =
     let none = c.in-Err-Fault-parse.ensures.fault c.in-Err-Fault-parse.token (ap Err c.in-Err-Fault-parse.field-0-is) in
-    ((c.in-Ok.tokens, c.in-Ok.ensures.found, none, c.place_of.ensures), no_unit _ _ c.in-Ok.ensures.only none)
+    let there = c.in-Err-Fault-parse.ensures.token c.in-Err-Fault-parse.token (ap Err c.in-Err-Fault-parse.field-0-is) in
+    ((c.in-Ok.tokens, c.in-Ok.ensures.found, none, (c.in-Err-Fault-parse.token, there, c.place_of.ensures)), no_unit _ _ c.in-Ok.ensures.only none)
 
 pub returns-in-Err-Fault-clause-refused : goal.returns-in-Err-Fault-clause-refused
 returns-in-Err-Fault-clause-refused c =

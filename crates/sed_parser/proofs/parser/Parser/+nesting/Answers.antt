@@ -20,7 +20,7 @@ inner_statements-returns-then-not-is_statement t c =
 pub inner_statements-returns-in_err-next : goal.inner_statements-returns-in_err-next
 inner_statements-returns-in_err-next t c =
     let p = err_from_is_err_and c.from_residual.result c.from_residual.ensures.1 in
-    rw (p.1, p.2, statements_are) (refused next_statement (inner c.args.room).reads c.in_err-next.field-0.0 _ _ c.loop.all.items c.left-most.result c.loop.counter c.loop.self _ c.loop-test.true (sym c.if-not-is_statement.ensures) c.in_err-next.ensures c.loop.invariant)
+    rw (p.1, p.2, statements_are) (refused next_statement (inner c.args.room).reads c.in_err-next.field-0.0 _ c.loop.all.items c.left-most.result c.loop.counter c.loop.self _ c.loop-test.true (sym c.if-not-is_statement.ensures) c.in_err-next.ensures c.loop.invariant)
 
 pub inner_statements-loop-preserved : goal.inner_statements-loop-preserved
 inner_statements-loop-preserved t c =
@@ -41,7 +41,7 @@ cases-returns-then-not-is_case t c =
 pub cases-returns-in_err-next : goal.cases-returns-in_err-next
 cases-returns-in_err-next t c =
     let p = err_from_is_err_and c.from_residual.result c.from_residual.ensures.1 in
-    rw (p.1, p.2, cases_are) (refused next_case (case_of c.args.room (inner c.args.room)).reads c.in_err-next.field-0.0 _ _ c.loop.all.items c.left-most.result c.loop.counter c.loop.self _ c.loop-test.true (sym c.if-not-is_case.ensures) c.in_err-next.ensures c.loop.invariant)
+    rw (p.1, p.2, cases_are) (refused next_case (case_of c.args.room (inner c.args.room)).reads c.in_err-next.field-0.0 _ c.loop.all.items c.left-most.result c.loop.counter c.loop.self _ c.loop-test.true (sym c.if-not-is_case.ensures) c.in_err-next.ensures c.loop.invariant)
 
 pub cases-loop-preserved : goal.cases-loop-preserved
 cases-loop-preserved t c =

@@ -1,4 +1,4 @@
-use Rattle.std.proofs.Common.{◌≡◌, ◌-◌, ◌<◌, ◌≤◌, [], ◌∷◌, sym, codes, arith}
+use Rattle.std.proofs.Common.{◌≡◌, ◌-◌, ◌<◌, [], ◌∷◌, sym, codes, arith}
 use Rattle.std.proofs.lemmas.Result.{err_from_is_err_and}
 use Rattle.sed_parser.specs.Next.{next_mark}
 use Rattle.sed_parser.specs.Expressions.{deeper, expression, access, next_access, operand, next_operand, next_argument}
@@ -39,7 +39,7 @@ access_links-returns-then-not-is_access t c =
 pub access_links-returns-in_err-next : goal.access_links-returns-in_err-next
 access_links-returns-in_err-next t c =
     let p = err_from_is_err_and c.from_residual.result c.from_residual.ensures.1 in
-    rw (p.1, p.2, access_links_are) (refused (next_access c.args.inside) (access (deeper c.args.room) c.args.inside).reads c.in_err-next.field-0.0 _ _ c.loop.links.items c.left-most.result c.loop.counter c.loop.self _ c.loop-test.true (sym c.if-not-is_access.ensures) c.in_err-next.ensures c.loop.invariant)
+    rw (p.1, p.2, access_links_are) (refused (next_access c.args.inside) (access (deeper c.args.room) c.args.inside).reads c.in_err-next.field-0.0 _ c.loop.links.items c.left-most.result c.loop.counter c.loop.self _ c.loop-test.true (sym c.if-not-is_access.ensures) c.in_err-next.ensures c.loop.invariant)
 
 pub access_links-loop-preserved : goal.access_links-loop-preserved
 access_links-loop-preserved t c =
@@ -60,7 +60,7 @@ operand_links-returns-then-not-is_operand t c =
 pub operand_links-returns-in_err-next : goal.operand_links-returns-in_err-next
 operand_links-returns-in_err-next t c =
     let p = err_from_is_err_and c.from_residual.result c.from_residual.ensures.1 in
-    rw (p.1, p.2, operand_links_are) (refused (next_operand c.args.inside c.args.level) (operand c.args.level (expression c.args.room (c.args.level - 1) c.args.inside)).reads c.in_err-next.field-0.0 _ _ c.loop.links.items c.left-most.result c.loop.counter c.loop.self _ c.loop-test.true (sym c.if-not-is_operand.ensures) c.in_err-next.ensures c.loop.invariant)
+    rw (p.1, p.2, operand_links_are) (refused (next_operand c.args.inside c.args.level) (operand c.args.level (expression c.args.room (c.args.level - 1) c.args.inside)).reads c.in_err-next.field-0.0 _ c.loop.links.items c.left-most.result c.loop.counter c.loop.self _ c.loop-test.true (sym c.if-not-is_operand.ensures) c.in_err-next.ensures c.loop.invariant)
 
 pub operand_links-loop-preserved : goal.operand_links-loop-preserved
 operand_links-loop-preserved t c =
@@ -83,7 +83,7 @@ pub more_arguments-returns-in_err-next : goal.more_arguments-returns-in_err-next
 more_arguments-returns-in_err-next t c =
     let first : c.push.new.self.items ≡ c.args.first ∷ [] = rw c.new-args.ensures.items at c.in_ok-push.ensures.items in
     let p = err_from_is_err_and c.from_residual-in_err-next.result c.from_residual-in_err-next.ensures.1 in
-    rw (p.1, p.2, more_arguments_are) (refused (next_mark (codes ",")) (next_argument (deeper c.args.room)).reads c.in_err-next.field-0.0 _ _ c.loop.args.items c.left-most.result c.loop.counter c.loop.self _ c.loop-test.true (sym c.if-not-is_mark.ensures) c.in_err-next.ensures (begun _ _ _ _ first c.loop.invariant))
+    rw (p.1, p.2, more_arguments_are) (refused (next_mark (codes ",")) (next_argument (deeper c.args.room)).reads c.in_err-next.field-0.0 _ c.loop.args.items c.left-most.result c.loop.counter c.loop.self _ c.loop-test.true (sym c.if-not-is_mark.ensures) c.in_err-next.ensures (begun _ _ _ _ first c.loop.invariant))
 
 pub more_arguments-loop-preserved : goal.more_arguments-loop-preserved
 more_arguments-loop-preserved t c =
