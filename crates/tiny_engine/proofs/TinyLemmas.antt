@@ -287,7 +287,7 @@ abbrev pub Answers : Schema → Type 0
 Answers schema = (q : Question) → MayAsk (code_of schema) q → (meaning_of schema).root q ≡ (code_of schema).root q
 
 -- a root call on the object that is live, which does nothing
-asked_one : (schema : Schema) → IsSys schema → (o : One) → IsCreated (Some o) → KeepsInt (Some o) → (which : Root) (argument : Value) (turns : ℕ) (moment : ℤ) → may_call (code_of schema) o.class which argument ≡ true →
+pub asked_one : (schema : Schema) → IsSys schema → (o : One) → IsCreated (Some o) → KeepsInt (Some o) → (which : Root) (argument : Value) (turns : ℕ) (moment : ℤ) → may_call (code_of schema) o.class which argument ≡ true →
     1 ≤ turns → turns ≤ 1000000 → is_signed w64 moment ≡ true → MayAsk (code_of schema) (asked_of (object_of o) [] which argument turns moment)
 asked_one schema sys o created int which argument turns moment may some most long = record {
   creatable = created_may schema sys o.class created;

@@ -1,7 +1,7 @@
 //! Callers that know an engine by its trait alone, and their use at the tiny engine.
-ghost use Rattle.std.specs.Prelude.{◌≡◌, ◌≢◌, ◌↔◌, ℕ, ◌+◌, ◌<◌, ◌≤◌, false, IsTrue, IfOk, IsSomeAnd, OnErr};
+ghost use Rattle.std.specs.Prelude.{◌≡◌, ◌≢◌, ◌↔◌, ℕ, ◌+◌, ◌<◌, ◌≤◌, false, IsTrue, IfOk, IfSome, IsSomeAnd, OnErr};
 ghost use Rattle.std.specs.FinMap as map;
-ghost use Rattle.sed_engine.specs.Code.{data_of, is_creatable, may_call, may_store, new_object, slot_value, with_slot};
+ghost use Rattle.sed_engine.specs.Code.{called, data_of, is_creatable, may_call, may_store, new_object, root_of, slot_value, with_slot};
 
 use crate::tiny::{Tiny, int_kept};
 use sed_engine::{AddRefusal, CallEnd, Engine, Place, Root};
@@ -28,6 +28,8 @@ pub fn make_with<E: Engine>(
     ensures refused { OnErr result (E.live engine.new ≡ E.live engine.old) }
     ensures full { (result ≡ Err AddRefusal.DataFull) ↔ (E.limit engine.old < data_of (E.meaning engine.old) (E.live engine.old) + (E.meaning engine.old).data_size t.0) }
     ensures memory { result ≡ Err AddRefusal.Memory → E.fixed engine.old ≡ false }
+    ensures meaning { E.meaning engine.new ≡ E.meaning engine.old }
+    ensures statics { E.statics engine.new ≡ E.statics engine.old }
 {
     let p = match engine.add(t) {
         Ok(p) => p,
@@ -38,9 +40,8 @@ pub fn make_with<E: Engine>(
     Ok(p)
 }
 
-/// Runs a root call, which ends normally or by a trap: never by 0, which tells of no trap.
-///
-/// The engine's `schema` says that what is kept fits, so the code may be asked this.
+/// Runs a root call, as the engine's `call` does. It ends normally or by a trap, and not by 0, which
+/// tells of no trap: the engine's `schema` says that what is kept fits, so the code may be asked this.
 pub fn call_well<E: Engine>(
     engine: &mut E,
     p: Place,
@@ -52,18 +53,21 @@ pub fn call_well<E: Engine>(
     requires live { IsSomeAnd (map.get (E.live engine.old) p.0) (λ o. IsTrue (may_call (E.meaning engine.old) o.class r arg.now)) }
     requires some_turns { 1 ≤ turns }
     requires most_turns { turns ≤ 1000000 }
-    ensures end { result ≢ CallEnd.Trap 0 }
+    ensures well { result ≢ CallEnd.Trap 0 }
+    ensures end { IfSome (map.get (E.live engine.old) p.0) (λ o. result ≡ (root_of (E.meaning engine.old) o (E.statics engine.old) r arg.now turns ticks).end) }
+    ensures left { IfSome (map.get (E.live engine.old) p.0) (λ o. E.live engine.new ≡ map.insert (E.live engine.old) p.0 (called o (root_of (E.meaning engine.old) o (E.statics engine.old) r arg.now turns ticks))) }
+    ensures statics { IfSome (map.get (E.live engine.old) p.0) (λ o. E.statics engine.new ≡ (root_of (E.meaning engine.old) o (E.statics engine.old) r arg.now turns ticks).statics) }
     ensures meaning { E.meaning engine.new ≡ E.meaning engine.old }
 {
     let _schema = engine.schema();
     engine.call(p, r, arg, turns, ticks)
 }
 
-/// Makes a folder in a new tiny engine and executes it once. It ends by no trap but the five.
+/// Makes a folder in a new tiny engine and executes it once, which does nothing and takes no turn.
 pub fn end_of_folder(alloc: Global, turns: u32) -> Result<CallEnd, AddRefusal>
     requires some_turns { 1 ≤ turns }
     requires most_turns { turns ≤ 1000000 }
-    ensures { IfOk result (λ end. end ≢ CallEnd.Trap 0) }
+    ensures { IfOk result (λ end. end ≡ CallEnd.Done turns) }
 {
     let mut engine = match Tiny::new(alloc, 4) {
         Ok(engine) => engine,
