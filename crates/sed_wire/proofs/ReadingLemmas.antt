@@ -1,5 +1,5 @@
 -- What comes of the reading of a value.
-use Rattle.std.proofs.Common.{◌≡◌, ℕ, ◌+◌, ◌<◌, ◌≤◌, List, [], ◌∷◌, ◌++◌, length, take, drop, Result, Ok, Err, IsErrOf, MatchResult, ◌↔◌, refl, sym, subst, ◌∙◌, ap, arith, append_assoc, length-append}
+use Rattle.std.proofs.Common.{◌≡◌, ℕ, ◌+◌, ◌<◌, ◌≤◌, IsTrue, List, [], ◌∷◌, ◌++◌, length, take, drop, Result, Ok, Err, IsErrOf, MatchResult, ◌↔◌, refl, sym, subst, ◌∙◌, ap, arith, append_assoc, length-append}
 use Rattle.std.proofs.Math.Seq.{take-append_seam, drop-append_seam}
 use Rattle.std.proofs.lemmas.Bool.Decides.{nat_tests}
 use Rattle.sed_value.specs.declared.slot_type.Primitive.TheVariants.{Bool as BoolType, Byte as ByteType, Short as ShortType, Int as IntType, Long as LongType}
@@ -7,6 +7,7 @@ use Rattle.sed_value.specs.declared.slot_type.SlotType.{SlotType}
 use Rattle.sed_value.specs.declared.slot_type.SlotType.TheVariants.{Prim as PrimSlot, Buf as BufSlot}
 use Rattle.sed_value.specs.declared.value.Value.{Value}
 use Rattle.sed_value.specs.declared.value.Value.TheVariants.{Buf}
+use Rattle.sed_value.specs.Value.{is_of_type}
 use Rattle.sed_wire.specs.declared.fault.ValueFault.{ValueFault}
 use Rattle.sed_wire.specs.declared.fault.ValueFault.TheVariants.{Short, BadBool, TooLong}
 use Rattle.sed_wire.specs.Faults.{BeginsNoValue, IsBadBool, IsTooLong, StandsAfter, contents_length, size_of}
@@ -72,12 +73,12 @@ contents-too_long most count old behind contents new found as_many parted above 
     ((fits, more), sym rest)
 
 pub contents-read : (most count : ℕ) (old behind contents new : List ℕ) → Reads (SpellsNumber 2) count old behind
-    → length contents ≡ count → behind ≡ contents ++ new → length contents ≤ most
+    → length contents ≡ count → behind ≡ contents ++ new → IsTrue (is_of_type (BufSlot most) (Buf contents))
     → Reads (Spells (BufSlot most)) (Buf contents) old new
-contents-read most count old behind contents new found as_many parted within = record {
+contents-read most count old behind contents new found as_many parted of_type = record {
   spelling = found.spelling ++ contents;
   spelled = record {
-    of_type = grind (arith, nat_tests);
+    of_type = of_type;
     spelled = record {
       count = found.spelling;
       counts = subst (λ (n : ℕ). SpellsNumber 2 n found.spelling) (sym as_many) found.spelled;

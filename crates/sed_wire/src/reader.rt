@@ -4,6 +4,7 @@ ghost use Rattle.std.specs.Int.{w32, w64};
 ghost use Rattle.std.specs.List.{list_any};
 ghost use Rattle.sed_value.specs.declared.slot_type.Primitive.TheVariants.{Bool as BoolType};
 ghost use Rattle.sed_value.specs.declared.slot_type.SlotType.TheVariants.{Prim as PrimSlot, Buf as BufSlot};
+ghost use Rattle.sed_value.specs.Value.{is_of_type};
 ghost use Rattle.sed_wire.specs.Faults.{BeginsNoText, BeginsNoValue, IsBadBool, IsTooLong, StandsAfter, HasNoEnd, IsNotAscii, size_of};
 ghost use Rattle.sed_wire.specs.Number.{SpellsNumber, SpellsSigned};
 ghost use Rattle.sed_wire.specs.Reading.{Reads, ReadsAgain};
@@ -219,8 +220,18 @@ impl<'a> Reader<'a> {
         if contents.len() > usize::from(most) {
             return Err(ValueFault::TooLong);
         }
-        Ok(Value::Buf(Bytes::new(contents)))
+        Ok(held_in(contents, most))
     }
+}
+
+// The value that these contents are of a buffer that holds at most so many bytes.
+fn held_in(contents: &[u8], most: u8) -> Value
+    requires few { length contents.now ≤ most }
+    requires most { most ≤ 128 }
+    ensures is { result ≡ Value.Buf contents.now }
+    ensures of_type { IsTrue (is_of_type (BufSlot most) result) }
+{
+    Value::Buf(Bytes::new(contents))
 }
 
 // The characters of the text that the bytes begin with, and the bytes behind its 0; or why there is none.
