@@ -10,8 +10,8 @@ use Rattle.sed_engine.specs.Root.{RootEnd}
 use Rattle.sed_engine.specs.Code.{Meaning, Question, may_call, is_creatable}
 use Rattle.sed_engine.specs.Fits.{Fits, all_kept, form_of}
 
--- a root that the class has, on a component of a class of which some are made and on statics, which fit, with an argument
--- of its type, 1 to 1,000,000 turns and a moment of 64 bits
+-- what may be asked: of a class of which components are made, with contents and statics that fit, an argument that the
+-- root takes, 1 to 1,000,000 turns and a moment of 64 bits
 pub record MayAsk (m : Meaning) (q : Question) : Type 0 where
   pub creatable : IsTrue (is_creatable m q.class)
   pub contents : Fits m.fields (m.fields q.class) (m.initial q.class) q.contents

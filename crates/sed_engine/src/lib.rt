@@ -1,9 +1,10 @@
 //! What a code means, and what an engine is.
 //!
 //! The definitions say what expressions, statements and root calls of a program do. A code is one
-//! record of definitions: its schema, the fields of its classes, the contents of new objects and of
-//! the statics, data sizes, and its root call. `Engine` keeps objects of such a code and runs root
-//! calls on them; everything above speaks of a code through this trait alone.
+//! record of definitions: its schema, the fields of its classes and of their slots, the contents of
+//! new objects and of the statics, data sizes, and its root call, which answers what it may be asked
+//! and no more; so codes that are alike in that are one. `Engine` keeps objects of such a code and
+//! runs root calls on them; everything above speaks of a code through this trait alone.
 #![tactic(auto)]
 
 pub mod call;
