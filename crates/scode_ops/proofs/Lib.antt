@@ -1,0 +1,4 @@
+pub mod ByNumber
+pub mod CodeLemmas
+pub mod OperandLemmas
+pub mod FormLemmas
