@@ -96,7 +96,7 @@ fn repeated(
 }
 
 /// A number, what opens a construct, what stands within, and what closes it; and whether that many of them, one within the
-/// other, derive.
+/// other, derive, or the token at which it shows that they don't.
 pub struct Nesting;
 
 impl Table for Nesting {
@@ -114,10 +114,9 @@ impl Table for Nesting {
         let Some(tokens) = tokens_of(alloc, &text, out)? else {
             return Ok(());
         };
-        match parse(alloc, &tokens) {
-            Ok(_) => out.write_all(b"derives"),
-            Err(ParseRefusal::Fault { .. }) => out.write_all(b"fault"),
-            Err(ParseRefusal::Memory) => Err(out_of_memory()),
+        match unit_of(alloc, &tokens, out)? {
+            Some(_) => out.write_all(b"derives"),
+            None => Ok(()),
         }
     }
 }
