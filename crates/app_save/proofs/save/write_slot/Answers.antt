@@ -1,0 +1,43 @@
+use Rattle.std.proofs.Common.{◌≡◌, ◌∙◌, ◌+◌, ◌%◌, ℕ, sym, ap, IsTrue}
+use Rattle.app_save.proofs.Moments.{then_time}
+use Rattle.app_save.proofs.Stages.{throughout_first, throughout_closed, throughout_all, closed_again, filled_again}
+use Rattle.app_save.proofs.save.write_slot.Goals as goal
+
+pub fill-requires-clause-next : goal.fill-requires-clause-next
+fill-requires-clause-next g c told =
+    let before : IsTrue (g.D.Disk.meaning c.args.disk.now).tells = sym c.close_gate.ensures.time.told ∙ told in
+    (c.requires.place before).next ∙ ap (λ (n : ℕ). (n + 1) % 3) (sym (c.in_ok-close_gate.ensures.closed before).closed.stays.generation)
+
+pub fill-requires-clause-closed : goal.fill-requires-clause-closed
+fill-requires-clause-closed g c told =
+    let before : IsTrue (g.D.Disk.meaning c.args.disk.now).tells = sym c.close_gate.ensures.time.told ∙ told in
+    closed_again c.args.slot c.args.place.now.newest c.args.place.now.other c.args.payload.now (g.D.Disk.meaning c.args.disk.now).content (g.D.Disk.meaning c.close_gate.new.disk) (c.in_ok-close_gate.ensures.closed before)
+
+pub open_gate-requires-clause-filled : goal.open_gate-requires-clause-filled
+open_gate-requires-clause-filled g c told =
+    let between : IsTrue (g.D.Disk.meaning c.close_gate.new.disk).tells = sym c.fill.ensures.time.told ∙ told in
+    filled_again c.args.slot c.args.place.now.newest c.args.place.now.other c.args.payload.now (g.D.Disk.meaning c.close_gate.new.disk).content (g.D.Disk.meaning c.fill.new.disk) (c.in_ok-fill.ensures.filled between)
+
+pub returns-in_err-close_gate-clause-during : goal.returns-in_err-close_gate-clause-during
+returns-in_err-close_gate-clause-during g c told =
+    let a = g.D.Disk.meaning c.args.disk.now in
+    throughout_first c.args.slot c.args.place.now.newest c.args.place.now.other c.args.payload.now a.content a (g.D.Disk.meaning c.close_gate.new.disk) (c.close_gate.ensures.during told)
+
+pub returns-in_err-fill-clause-during : goal.returns-in_err-fill-clause-during
+returns-in_err-fill-clause-during g c told =
+    let a = g.D.Disk.meaning c.args.disk.now in
+    let b = g.D.Disk.meaning c.close_gate.new.disk in
+    let told_b : IsTrue b.tells = c.close_gate.ensures.time.told ∙ told in
+    throughout_closed c.args.slot c.args.place.now.newest c.args.place.now.other c.args.payload.now a.content a b (g.D.Disk.meaning c.fill.new.disk) told c.close_gate.ensures.time c.fill.ensures.time (c.close_gate.ensures.during told) (c.in_ok-close_gate.ensures.closed told) (c.fill.ensures.during told_b)
+
+pub returns-clause-during : goal.returns-clause-during
+returns-clause-during g c told =
+    let a = g.D.Disk.meaning c.args.disk.now in
+    let b = g.D.Disk.meaning c.close_gate.new.disk in
+    let d = g.D.Disk.meaning c.fill.new.disk in
+    let told_b : IsTrue b.tells = c.close_gate.ensures.time.told ∙ told in
+    let told_d : IsTrue d.tells = c.fill.ensures.time.told ∙ told_b in
+    let closed = c.in_ok-close_gate.ensures.closed told in
+    let both = then_time a b d c.close_gate.ensures.time c.fill.ensures.time in
+    let first = throughout_closed c.args.slot c.args.place.now.newest c.args.place.now.other c.args.payload.now a.content a b d told c.close_gate.ensures.time c.fill.ensures.time (c.close_gate.ensures.during told) closed (c.fill.ensures.during told_b) in
+    throughout_all c.args.slot c.args.place.now.newest c.args.place.now.other c.args.payload.now a.content a b d (g.D.Disk.meaning c.open_gate.new.disk) told c.close_gate.ensures.time c.fill.ensures.time both c.open_gate.ensures.time first closed (c.in_ok-fill.ensures.filled told_b) (c.open_gate.ensures.during told_d)

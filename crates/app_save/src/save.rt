@@ -1,0 +1,167 @@
+//! The steps of a save: settle, close the other gate, fill the slot behind it, open the gate.
+ghost use Rattle.std.specs.Prelude.{◌≡◌, ◌⊎◌, ◌+◌, ◌*◌, ◌%◌, ◌≤◌, ◌<◌, false, length, slice_index, IsTrue, IsErr, IfOk, OnOk};
+ghost use Rattle.sed_outside.specs.Cause.{HasCause};
+ghost use Rattle.disk_model.specs.Disk.{Elapses, During, IsTorn, Torn, Holds, Keeps, MarksUp, SyncsUp, Rests, largest_file};
+ghost use Rattle.app_save.specs.Store.{IsOpen, IsStore, IsNewest, AreSlots, generation_at};
+ghost use Rattle.app_save.specs.Saving.{AllStores, AllOpen, OpensAsBegun, SinceSync, KeepsEqualPages};
+ghost use Rattle.app_save.specs.Slots.{IsPlace};
+ghost use Rattle.app_save.specs.Stages.{Stands, Stays, Closed, Filled, Saved, IsClosed, IsFilled, IsSaved, Lands, Settled};
+
+use crate::pages::write_pages;
+use crate::slots::{OPEN, Place, place_of, read_header, second_slot};
+use disk_model::{Disk, DiskFault};
+
+/// All of a save but its mark, of a payload that fits.
+pub fn write_save<D: Disk>(disk: &mut D, slot: u32, payload: &[u8]) -> Result<(), DiskFault>
+    requires small { slot ≤ 4194304 }
+    requires fits { length payload.now ≤ slot }
+    requires stores { IsTrue (D.meaning disk.old).tells → AllStores slot (D.meaning disk.old) }
+    ensures moments { IsTrue (D.meaning disk.old).tells → During (D.meaning disk.old) (D.meaning disk.new) (OpensAsBegun slot payload.now (D.meaning disk.old)) }
+    ensures saved { IsTrue (D.meaning disk.old).tells → OnOk result (AllOpen slot payload.now (D.meaning disk.new)) }
+    ensures pages { IsTrue (D.meaning disk.old).tells → IsTrue (D.meaning disk.old).tells_syncs →
+        SinceSync (D.meaning disk.old) (D.meaning disk.new) (KeepsEqualPages slot payload.now (D.meaning disk.old).content) }
+    ensures time { Elapses (D.meaning disk.old) (D.meaning disk.new) }
+    ensures marks { MarksUp (D.meaning disk.old) (D.meaning disk.new) 0 }
+    ensures unmarked { OnOk result ((D.meaning disk.new).is_marked ≡ false) }
+    ensures attached { (D.meaning disk.new).attached ≡ (D.meaning disk.old).attached }
+    ensures cause { HasCause (D.meaning disk.old).faults (D.meaning disk.new).faults (IsErr result) }
+{
+    let place = settle(disk, slot)?;
+    write_slot(disk, slot, &place, payload)
+}
+
+// Syncs, and finds where to write.
+fn settle<D: Disk>(disk: &mut D, slot: u32) -> Result<Place, DiskFault>
+    requires small { slot ≤ 4194304 }
+    requires stores { IsTrue (D.meaning disk.old).tells → AllStores slot (D.meaning disk.old) }
+    ensures settled { IsTrue (D.meaning disk.old).tells → Settled result (D.meaning disk.old) (D.meaning disk.new) }
+    ensures slots { IfOk result (λ place. AreSlots slot place.newest place.other) }
+    ensures place { IsTrue (D.meaning disk.old).tells → IfOk result (λ place. IsPlace (D.meaning disk.old).content place) }
+    ensures time { Elapses (D.meaning disk.old) (D.meaning disk.new) }
+    ensures marks { MarksUp (D.meaning disk.old) (D.meaning disk.new) 0 }
+    ensures attached { (D.meaning disk.new).attached ≡ (D.meaning disk.old).attached }
+    ensures cause { HasCause (D.meaning disk.old).faults (D.meaning disk.new).faults (IsErr result) }
+{
+    disk.sync()?;
+    let first = read_header(disk, 0)?;
+    let second = read_header(disk, second_slot(slot))?;
+    Ok(place_of(slot, &first, &second))
+}
+
+// Writes the slot that isn't newest, when nothing waits for a sync.
+fn write_slot<D: Disk>(
+    disk: &mut D,
+    slot: u32,
+    place: &Place,
+    payload: &[u8],
+) -> Result<(), DiskFault>
+    requires small { slot ≤ 4194304 }
+    requires fits { length payload.now ≤ slot }
+    requires slots { AreSlots slot place.now.newest place.now.other }
+    requires rests { IsTrue (D.meaning disk.old).tells → Rests (D.meaning disk.old) }
+    requires store { IsTrue (D.meaning disk.old).tells → IsStore slot (D.meaning disk.old).content }
+    requires place { IsTrue (D.meaning disk.old).tells → IsPlace (D.meaning disk.old).content place.now }
+    ensures during { IsTrue (D.meaning disk.old).tells → During (D.meaning disk.old) (D.meaning disk.new)
+        (λ c. Stays slot place.now.newest place.now.other payload.now (D.meaning disk.old).content c ⊎ Saved slot place.now.newest place.now.other payload.now c) }
+    ensures saved { IsTrue (D.meaning disk.old).tells → OnOk result (IsSaved slot place.now.newest place.now.other payload.now (D.meaning disk.new)) }
+    ensures time { Elapses (D.meaning disk.old) (D.meaning disk.new) }
+    ensures marks { MarksUp (D.meaning disk.old) (D.meaning disk.new) 0 }
+    ensures unmarked { OnOk result ((D.meaning disk.new).is_marked ≡ false) }
+    ensures attached { (D.meaning disk.new).attached ≡ (D.meaning disk.old).attached }
+    ensures cause { HasCause (D.meaning disk.old).faults (D.meaning disk.new).faults (IsErr result) }
+{
+    close_gate(disk, slot, place, payload)?;
+    fill(disk, slot, place, payload)?;
+    open_gate(disk, slot, place, payload)
+}
+
+// Closes the other gate where it reads open. A needless write could open it over a slot that is torn.
+fn close_gate<D: Disk>(
+    disk: &mut D,
+    slot: u32,
+    place: &Place,
+    payload: &[u8],
+) -> Result<(), DiskFault>
+    requires small { slot ≤ 4194304 }
+    requires fits { length payload.now ≤ slot }
+    requires slots { AreSlots slot place.now.newest place.now.other }
+    requires rests { IsTrue (D.meaning disk.old).tells → Rests (D.meaning disk.old) }
+    requires store { IsTrue (D.meaning disk.old).tells → IsStore slot (D.meaning disk.old).content }
+    requires place { IsTrue (D.meaning disk.old).tells → IsPlace (D.meaning disk.old).content place.now }
+    ensures during { IsTrue (D.meaning disk.old).tells → During (D.meaning disk.old) (D.meaning disk.new) (Stays slot place.now.newest place.now.other payload.now (D.meaning disk.old).content) }
+    ensures closed { IsTrue (D.meaning disk.old).tells → OnOk result (IsClosed slot place.now.newest place.now.other payload.now (D.meaning disk.old).content (D.meaning disk.new)) }
+    ensures time { Elapses (D.meaning disk.old) (D.meaning disk.new) }
+    ensures marks { MarksUp (D.meaning disk.old) (D.meaning disk.new) 0 }
+    ensures attached { (D.meaning disk.new).attached ≡ (D.meaning disk.old).attached }
+    ensures cause { HasCause (D.meaning disk.old).faults (D.meaning disk.new).faults (IsErr result) }
+{
+    if place.is_open {
+        return write_through(disk, place.other, &[0]);
+    }
+    Ok(())
+}
+
+/// Writes the bytes at that place, and waits until they are on the disk.
+pub fn write_through<D: Disk>(disk: &mut D, at: u64, bytes: &[u8]) -> Result<(), DiskFault>
+    requires { at + length bytes.now ≤ largest_file }
+    ensures lands { IsTrue (D.meaning disk.old).tells → Lands at bytes.now result (D.meaning disk.old) (D.meaning disk.new) }
+    ensures time { Elapses (D.meaning disk.old) (D.meaning disk.new) }
+    ensures marks { MarksUp (D.meaning disk.old) (D.meaning disk.new) 0 }
+    ensures unmarked { OnOk result ((D.meaning disk.new).is_marked ≡ false) }
+    ensures attached { (D.meaning disk.new).attached ≡ (D.meaning disk.old).attached }
+    ensures cause { HasCause (D.meaning disk.old).faults (D.meaning disk.new).faults (IsErr result) }
+{
+    disk.write_at(at, bytes)?;
+    disk.sync()
+}
+
+/// The length and generation that stand behind a gate.
+pub fn behind_gate(len: u32, generation: u8) -> [u8; 5]
+    ensures five { length result ≡ 5 }
+    ensures len { 16777216 * slice_index result 0 + 65536 * slice_index result 1 + 256 * slice_index result 2 + slice_index result 3 ≡ len }
+    ensures generation { slice_index result 4 ≡ generation }
+{
+    let [high, upper, lower, low] = len.to_be_bytes();
+    [high, upper, lower, low, generation]
+}
+
+// Writes the payload, its length and its generation behind the closed gate.
+fn fill<D: Disk>(disk: &mut D, slot: u32, place: &Place, payload: &[u8]) -> Result<(), DiskFault>
+    requires small { slot ≤ 4194304 }
+    requires fits { length payload.now ≤ slot }
+    requires slots { AreSlots slot place.now.newest place.now.other }
+    requires next { IsTrue (D.meaning disk.old).tells → place.now.generation ≡ (generation_at (D.meaning disk.old).content place.now.newest + 1) % 3 }
+    requires closed { IsTrue (D.meaning disk.old).tells → IsClosed slot place.now.newest place.now.other payload.now (D.meaning disk.old).content (D.meaning disk.old) }
+    ensures during { IsTrue (D.meaning disk.old).tells → During (D.meaning disk.old) (D.meaning disk.new) (Closed slot place.now.newest place.now.other payload.now (D.meaning disk.old).content) }
+    ensures filled { IsTrue (D.meaning disk.old).tells → OnOk result (IsFilled slot place.now.newest place.now.other payload.now (D.meaning disk.old).content (D.meaning disk.new)) }
+    ensures time { Elapses (D.meaning disk.old) (D.meaning disk.new) }
+    ensures marks { MarksUp (D.meaning disk.old) (D.meaning disk.new) 0 }
+    ensures attached { (D.meaning disk.new).attached ≡ (D.meaning disk.old).attached }
+    ensures cause { HasCause (D.meaning disk.old).faults (D.meaning disk.new).faults (IsErr result) }
+{
+    write_pages(disk, slot, place, payload)?;
+    let header = behind_gate(payload.len() as u32, place.generation);
+    write_through(disk, place.other + 1, &header)
+}
+
+// Opens the closed gate of the slot that is filled.
+fn open_gate<D: Disk>(
+    disk: &mut D,
+    slot: u32,
+    place: &Place,
+    payload: &[u8],
+) -> Result<(), DiskFault>
+    requires small { slot ≤ 4194304 }
+    requires slots { AreSlots slot place.now.newest place.now.other }
+    requires filled { IsTrue (D.meaning disk.old).tells → IsFilled slot place.now.newest place.now.other payload.now (D.meaning disk.old).content (D.meaning disk.old) }
+    ensures during { IsTrue (D.meaning disk.old).tells → During (D.meaning disk.old) (D.meaning disk.new)
+        (λ c. Stays slot place.now.newest place.now.other payload.now (D.meaning disk.old).content c ⊎ Saved slot place.now.newest place.now.other payload.now c) }
+    ensures saved { IsTrue (D.meaning disk.old).tells → OnOk result (IsSaved slot place.now.newest place.now.other payload.now (D.meaning disk.new)) }
+    ensures time { Elapses (D.meaning disk.old) (D.meaning disk.new) }
+    ensures marks { MarksUp (D.meaning disk.old) (D.meaning disk.new) 0 }
+    ensures unmarked { OnOk result ((D.meaning disk.new).is_marked ≡ false) }
+    ensures attached { (D.meaning disk.new).attached ≡ (D.meaning disk.old).attached }
+    ensures cause { HasCause (D.meaning disk.old).faults (D.meaning disk.new).faults (IsErr result) }
+{
+    write_through(disk, place.other, &[OPEN])
+}
