@@ -13,9 +13,10 @@ pub record IsHeader (image : Image) (slot : ℕ) (header : Header) : Type 0 wher
   pub length : header.len ≡ length_at image slot
   pub generation : header.generation ≡ generation_at image slot
 
--- A save of this image writes here.
+-- This is the newest slot of the image, and a save of it writes there.
 pub record IsPlace (image : Image) (place : Place) : Type 0 where
   pub newest : IsNewest image place.newest place.other
+  pub length : place.len ≡ length_at image place.newest
   pub next : place.generation ≡ (generation_at image place.newest + 1) % 3
   pub is_open : place.is_open ≡ true → IsOpen image place.other
   pub is_shut : place.is_open ≡ false → IsOpen image place.other → ⊥

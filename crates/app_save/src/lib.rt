@@ -6,6 +6,7 @@
 //! It promises this over any `Disk`; that the system's file is one is presumed. The node saves its application here.
 #![tactic(auto)]
 
+mod load;
 mod making;
 mod opening;
 mod pages;

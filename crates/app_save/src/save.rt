@@ -30,8 +30,8 @@ pub fn write_save<D: Disk>(disk: &mut D, slot: u32, payload: &[u8]) -> Result<()
     write_slot(disk, slot, &place, payload)
 }
 
-// Syncs, and finds where to write.
-fn settle<D: Disk>(disk: &mut D, slot: u32) -> Result<Place, DiskFault>
+/// Syncs, and finds the newest slot and where a save writes.
+pub fn settle<D: Disk>(disk: &mut D, slot: u32) -> Result<Place, DiskFault>
     requires small { slot ≤ 4194304 }
     requires stores { IsTrue (D.meaning disk.old).tells → AllStores slot (D.meaning disk.old) }
     ensures settled { IsTrue (D.meaning disk.old).tells → Settled result (D.meaning disk.old) (D.meaning disk.new) }

@@ -21,11 +21,12 @@ pub struct Header {
     pub generation: u8,
 }
 
-/// Where a save writes: which slot is the newest, where the other one begins, the generation that it gets, and whether
-/// its gate is open.
+/// Which slot is the newest and how long its payload is, and where a save writes: where the other slot begins, the
+/// generation that it gets, and whether its gate is open.
 #[derive(Clone, Copy, Drop)]
 pub struct Place {
     pub newest: u64,
+    pub len: u32,
     pub other: u64,
     pub generation: u8,
     pub is_open: bool,
@@ -83,6 +84,7 @@ pub fn place_of(slot: u32, first: &Header, second: &Header) -> Place
     if second_is_newest {
         Place {
             newest: second_slot(slot),
+            len: second.len,
             other: 0,
             generation: next_generation(second.generation),
             is_open: first.is_open,
@@ -90,6 +92,7 @@ pub fn place_of(slot: u32, first: &Header, second: &Header) -> Place
     } else {
         Place {
             newest: 0,
+            len: first.len,
             other: second_slot(slot),
             generation: next_generation(first.generation),
             is_open: second.is_open,

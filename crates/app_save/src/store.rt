@@ -1,10 +1,12 @@
 //! An open store, and its saves.
-ghost use Rattle.std.specs.Prelude.{◌≡◌, ◌⊎◌, ◌+◌, ◌<◌, ◌≤◌, ◌↔◌, ◌++◌, [], ◌∷◌, ℕ, List, length, IsTrue, IsErr, IsErrOf, IsOk, is_ok, OnOk, OnErr};
+ghost use Rattle.std.specs.Prelude.{◌≡◌, ◌⊎◌, ◌+◌, ◌<◌, ◌≤◌, ◌↔◌, ◌++◌, [], ◌∷◌, ℕ, List, length, take, IsTrue, IsErr, IsErrOf, IsOk, is_ok, IfOk, OnOk, OnErr};
 ghost use Rattle.sed_outside.specs.Cause.{Rose, HasCause};
 ghost use Rattle.disk_model.specs.Disk.{Elapses, During, MarksUp};
+ghost use Rattle.app_save.specs.Store.{Opens};
 ghost use Rattle.app_save.specs.Saving.{AllStores, AllOpen, OpensAsBegun, SinceSync, KeepsEqualPages};
 ghost use Rattle.app_save.specs.Run.{Saves, IsRun};
 
+use crate::load::load_newest;
 use crate::refusal::SaveRefusal;
 use crate::save::write_save;
 use disk_model::{Disk, DiskFault};
@@ -87,5 +89,32 @@ impl Store {
         }
         disk.acknowledge();
         Ok(())
+    }
+
+    /// Reads what was saved last into the first bytes of `into`, and answers how many these are. It begins with a sync,
+    /// writes nothing and takes no memory. After `Device`, its one refusal, `into` may hold any bytes.
+    pub fn load<D: Disk>(&mut self, disk: &mut D, into: &mut [u8]) -> Result<usize, SaveRefusal>
+        requires room { length into.old ≡ self.old }
+        requires stores { IsTrue (D.meaning disk.old).tells → AllStores self.old (D.meaning disk.old) }
+        ensures same { self.new ≡ self.old }
+        ensures fits { IfOk result (λ len. len ≤ self.old) }
+        ensures opens { IsTrue (D.meaning disk.old).tells → IfOk result (λ len. Opens self.old (D.meaning disk.old).content (take len into.new)) }
+
+        // a crash at any moment of the call, and after it
+        ensures moments { IsTrue (D.meaning disk.old).tells → During (D.meaning disk.old) (D.meaning disk.new) ((D.meaning disk.old).leaves (D.meaning disk.old).now) }
+        ensures opened { IsTrue (D.meaning disk.old).tells → IfOk result (λ len. AllOpen self.old (take len into.new) (D.meaning disk.new)) }
+        ensures stores { IsTrue (D.meaning disk.old).tells → AllStores self.old (D.meaning disk.new) }
+        ensures time { Elapses (D.meaning disk.old) (D.meaning disk.new) }
+        ensures marks { MarksUp (D.meaning disk.old) (D.meaning disk.new) 0 }
+        ensures attached { (D.meaning disk.new).attached ≡ (D.meaning disk.old).attached }
+
+        // its answers
+        ensures cause { HasCause (D.meaning disk.old).faults (D.meaning disk.new).faults (IsErr result) }
+        ensures answers { IsErr result → IsErrOf result SaveRefusal.Device }
+    {
+        match load_newest(disk, self.slot, into) {
+            Ok(len) => Ok(len as usize),
+            Err(DiskFault::Failed) => Err(SaveRefusal::Device),
+        }
     }
 }
