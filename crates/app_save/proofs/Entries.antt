@@ -1,9 +1,8 @@
 -- One save more in a run. Nothing here speaks of gates, bytes or syncs.
-use Rattle.std.proofs.Common.{◌≡◌, ◌⊎◌, inl, inr, ◌+◌, ◌-◌, ◌<◌, ◌≤◌, ℕ, zero, suc, Bool, true, false, if◌then◌else◌, IsTrue, List, [], ◌∷◌, ◌++◌, length, take, refl, sym, ◌∙◌, ap, subst, arith, length-append, Result, Ok, Err, OnOk, OnErr, is_ok}
+use Rattle.std.proofs.Common.{◌≡◌, inl, inr, ◌+◌, ◌-◌, ◌≤◌, ℕ, zero, suc, Bool, true, false, if◌then◌else◌, IsTrue, List, [], ◌∷◌, ◌++◌, length, refl, sym, ◌∙◌, ap, subst, arith, length-append, Result, Ok, Err, OnOk, OnErr, is_ok}
 use Rattle.std.proofs.lemmas.Bool.{cases_lt}
 use Rattle.std.proofs.lemmas.List.{take-append-le, take_all}
-use Rattle.disk_model.specs.Disk.{Image, Meaning, Elapses, During, CountsUp, MarksUp}
-use Rattle.app_save.specs.Store.{Opens}
+use Rattle.disk_model.specs.Disk.{Image, Meaning, Elapses, During, MarksUp}
 use Rattle.app_save.specs.Saving.{AllOpen, OpensAsBegun}
 use Rattle.app_save.specs.Run.{Saves, acknowledged, entry, IsEntrySince, OpensToEntry, IsRun}
 use Rattle.app_save.proofs.Moments.{now_alone}

@@ -1,11 +1,10 @@
 -- What headers say of a store.
-use Rattle.std.proofs.Common.{◌≡◌, ◌≢◌, ◌⊎◌, inl, inr, ◌+◌, ◌*◌, ◌%◌, ◌<◌, ◌≤◌, ℕ, Bool, true, false, List, length, refl, sym, ◌∙◌, ap, subst, arith}
+use Rattle.std.proofs.Common.{◌≡◌, ◌≢◌, inl, inr, ◌+◌, ◌*◌, ◌%◌, ◌<◌, ◌≤◌, ℕ, Bool, true, false, length, refl, sym, ◌∙◌, ap, subst, arith}
 use Rattle.disk_model.specs.Disk.{Image}
-use Rattle.app_save.specs.Store.{IsOpen, IsSlot, IsStore, AreSlots, IsNewest, length_at, generation_at}
+use Rattle.app_save.specs.Store.{IsOpen, IsSlot}
 use Rattle.app_save.specs.Slots.{IsHeader, IsFound}
 use Rattle.app_save.specs.Stages.{Stands}
 use Rattle.app_save.specs.declared.slots.Header.{Header}
-use Rattle.app_save.specs.declared.opening.Found.{Found}
 use Rattle.app_save.proofs.Newest.{stands_store}
 
 abbrev pub Sound : ℕ → Header → Type 0

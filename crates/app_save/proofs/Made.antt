@@ -1,15 +1,15 @@
 -- What a store that is made leaves.
-use Rattle.std.proofs.Common.{◌≡◌, ◌≢◌, ◌⊎◌, inl, inr, ◌+◌, ◌*◌, ◌-◌, ◌/◌, ◌%◌, ◌<◌, ◌≤◌, min, max, ℕ, IsTrue, List, [], ◌∷◌, length, take, drop, get_or, get_or-take, replicate, refl, sym, ◌∙◌, ap, subst, arith, Result, Ok, Err, OnOk}
+use Rattle.std.proofs.Common.{◌≡◌, inl, inr, ◌+◌, ◌*◌, ◌-◌, ◌/◌, ◌<◌, ◌≤◌, min, ℕ, List, [], ◌∷◌, length, take, get_or, get_or-take, replicate, refl, sym, ◌∙◌, ap, subst, arith, Result, Ok, Err, OnOk}
 use Rattle.std.proofs.lemmas.Bool.{cases_lt}
 use Rattle.std.proofs.lemmas.List.{get_or_past, get_or-replicate, length-take-le, length-replicate}
-use Rattle.disk_model.specs.Disk.{Image, Meaning, Elapses, During, Torn, IsTorn, Holds, Writes, Syncs, Keeps, Rests}
-use Rattle.app_save.specs.Store.{IsOpen, length_at, generation_at, payload_at, Opens}
+use Rattle.disk_model.specs.Disk.{Image, Meaning, Elapses, During, Torn, IsTorn, Holds, Keeps}
+use Rattle.app_save.specs.Store.{IsOpen, length_at, Opens}
 use Rattle.app_save.specs.Saving.{AllOpen}
 use Rattle.app_save.proofs.Newest.{stands_opens}
-use Rattle.app_save.specs.Stages.{Stands, Saved, IsSaved, Lands}
-use Rattle.app_save.specs.Making.{IsBlank, NoneLonger}
+use Rattle.app_save.specs.Stages.{Saved, IsSaved, Lands}
+use Rattle.app_save.specs.Making.{IsBlank}
 use Rattle.app_save.proofs.Bytes.{held_part}
-use Rattle.app_save.proofs.Moments.{then_during, at_end}
+use Rattle.app_save.proofs.Moments.{at_end}
 
 -- zeros, one piece further
 pub blank_further : (len q : ℕ) (bytes : List ℕ) (d c : Image) → 512 * q < len → length bytes ≡ min (len - 512 * q) 512 → ((i : ℕ) → get_or bytes i 0 ≡ 0) → IsBlank (min (512 * q) len) d → Torn (512 * q) (length bytes) d c → Holds (512 * q) bytes c → IsBlank (min (512 * (q + 1)) len) c

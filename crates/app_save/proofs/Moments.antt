@@ -1,7 +1,7 @@
 -- How one call of a disk follows another.
-use Rattle.std.proofs.Common.{◌≡◌, ◌⊎◌, inl, inr, ◌+◌, ◌<◌, ◌≤◌, ◌↔◌, ℕ, List, length, IsTrue, refl, sym, ◌∙◌, ap, subst, arith, Result, Ok, Err, OnOk}
+use Rattle.std.proofs.Common.{◌≡◌, inl, inr, ◌≤◌, ℕ, List, length, IsTrue, refl, sym, ◌∙◌, ap, subst, arith, Result, Ok, Err}
 use Rattle.std.proofs.lemmas.Bool.{cases_lt}
-use Rattle.disk_model.specs.Disk.{Image, Meaning, Elapses, During, CountsUp, MarksUp, SyncsUp, Torn, IsTorn, Holds, Keeps, Writes, Syncs, Rests}
+use Rattle.disk_model.specs.Disk.{Image, Meaning, Elapses, During, MarksUp, SyncsUp, Torn, IsTorn, Holds, Keeps, Writes, Syncs}
 use Rattle.app_save.specs.Saving.{SinceSync}
 use Rattle.app_save.specs.Stages.{Lands}
 

@@ -1,7 +1,7 @@
 -- A store whose newest slot is known.
-use Rattle.std.proofs.Common.{◌≡◌, ◌≢◌, ◌⊎◌, inl, inr, ◌+◌, ◌*◌, ◌%◌, ◌<◌, ◌≤◌, ℕ, List, length, refl, sym, ◌∙◌, ap, subst, arith}
+use Rattle.std.proofs.Common.{◌≡◌, inl, inr, ◌+◌, ◌%◌, ◌<◌, ◌≤◌, ℕ, List, sym, ◌∙◌, ap, subst, arith}
 use Rattle.disk_model.specs.Disk.{Image}
-use Rattle.app_save.specs.Store.{IsOpen, IsSlot, IsStore, AreSlots, IsNewest, generation_at, payload_at, Opens}
+use Rattle.app_save.specs.Store.{IsOpen, IsSlot, IsStore, AreSlots, IsNewest, payload_at, Opens}
 use Rattle.app_save.specs.Stages.{Stands}
 
 not_same : (a b : ℕ) → a ≡ (b + 1) % 3 → b < 3 → a ≡ b → ⊥

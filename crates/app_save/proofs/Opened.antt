@@ -1,7 +1,7 @@
 -- What was opened, and what a crash leaves behind it.
-use Rattle.std.proofs.Common.{◌≡◌, ◌+◌, ◌*◌, ◌≤◌, min, ℕ, List, length, take, drop, inl, inr, refl, sym, ◌∙◌, ap, subst, arith}
+use Rattle.std.proofs.Common.{◌≡◌, ◌+◌, ◌*◌, ◌≤◌, min, ℕ, List, length, take, drop, inl, inr, sym, ◌∙◌, ap, subst, arith}
 use Rattle.disk_model.specs.Disk.{Image, Meaning, Elapses, Keeps, Rests}
-use Rattle.app_save.specs.Store.{payload_at, Opens, length_at, IsStore, AreSlots}
+use Rattle.app_save.specs.Store.{Opens, length_at, IsStore, AreSlots}
 use Rattle.app_save.specs.Saving.{AllOpen}
 use Rattle.app_save.specs.Slots.{IsFound, IsPlace}
 use Rattle.app_save.specs.declared.opening.Found.{Found}

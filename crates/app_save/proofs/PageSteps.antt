@@ -1,11 +1,11 @@
 -- A save by pages, one page further.
-use Rattle.std.proofs.Common.{◌≡◌, ◌≢◌, ◌⊎◌, inl, inr, ◌+◌, ◌*◌, ◌-◌, ◌/◌, ◌<◌, ◌≤◌, min, ℕ, IsTrue, List, length, take, drop, get_or, get_or-take, get_or-drop, refl, sym, ◌∙◌, ap, subst, arith, length-drop, Result, Ok, Err, OnOk}
+use Rattle.std.proofs.Common.{◌≡◌, ◌≢◌, ◌⊎◌, inl, inr, ◌+◌, ◌*◌, ◌-◌, ◌/◌, ◌<◌, ◌≤◌, min, ℕ, IsTrue, List, length, take, drop, get_or, get_or-take, get_or-drop, refl, sym, ◌∙◌, ap, subst, arith, length-drop, Result}
 use Rattle.std.proofs.lemmas.Bool.{cases_lt, cases_eq}
 use Rattle.std.proofs.lemmas.List.{length-take-le}
-use Rattle.disk_model.specs.Disk.{Image, Meaning, Elapses, During, Torn, IsTorn, Holds, Writes}
+use Rattle.disk_model.specs.Disk.{Image, Meaning, Elapses, During, Torn, Holds, Writes}
 use Rattle.app_save.specs.Store.{AreSlots}
-use Rattle.app_save.specs.Saving.{HasPage, KeepsPages}
-use Rattle.app_save.specs.Stages.{Stays, Closed, IsClosed}
+use Rattle.app_save.specs.Saving.{HasPage}
+use Rattle.app_save.specs.Stages.{Closed, IsClosed}
 use Rattle.app_save.proofs.Moments.{then_during, at_end, now_alone}
 use Rattle.app_save.proofs.Torn.{behind_gate}
 

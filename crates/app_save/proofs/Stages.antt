@@ -1,9 +1,8 @@
 -- The stages of a save, each by what its calls leave.
-use Rattle.std.proofs.Common.{◌≡◌, ◌≢◌, ◌⊎◌, inl, inr, ◌+◌, ◌*◌, ◌-◌, ◌%◌, ◌<◌, ◌≤◌, ℕ, List, [], ◌∷◌, length, take, drop, get_or, IsTrue, refl, sym, ◌∙◌, ap, subst, arith, Result, Ok, Err, OnOk}
+use Rattle.std.proofs.Common.{◌≡◌, ◌⊎◌, inl, inr, ◌+◌, ◌*◌, ◌%◌, ◌<◌, ◌≤◌, ℕ, List, [], ◌∷◌, length, get_or, IsTrue, refl, sym, ◌∙◌, ap, subst, arith, Result, Ok, Err, OnOk}
 use Rattle.std.proofs.lemmas.Bool.{cases_eq}
 use Rattle.disk_model.specs.Disk.{Image, Meaning, Elapses, During, Torn, IsTorn, Holds, Rests}
-use Rattle.app_save.specs.Store.{IsOpen, IsStore, IsNewest, AreSlots, length_at, generation_at, payload_at}
-use Rattle.app_save.specs.Saving.{HasPage, KeepsPages}
+use Rattle.app_save.specs.Store.{IsOpen, IsStore, IsNewest, AreSlots, length_at, generation_at}
 use Rattle.app_save.specs.Stages.{Stands, Stays, Closed, Filled, Saved, IsClosed, IsFilled, IsSaved, Lands}
 use Rattle.app_save.proofs.Bytes.{held_part}
 use Rattle.app_save.proofs.Moments.{then_during, weaker, at_end, now_alone}

@@ -1,11 +1,11 @@
 -- What a write into the slot that isn't newest may leave.
-use Rattle.std.proofs.Common.{◌≡◌, ◌≢◌, ◌⊎◌, inl, inr, ◌+◌, ◌*◌, ◌-◌, ◌%◌, ◌<◌, ◌≤◌, min, max, ℕ, List, [], ◌∷◌, length, take, drop, get_or, refl, sym, ◌∙◌, ap, subst, arith}
-use Rattle.std.proofs.lemmas.Bool.{cases_lt, cases_eq}
-use Rattle.disk_model.specs.Disk.{Image, Torn, Holds}
-use Rattle.app_save.specs.Store.{IsOpen, IsSlot, IsNewest, AreSlots, length_at, generation_at, payload_at}
-use Rattle.app_save.specs.Saving.{HasPage, KeepsPages}
+use Rattle.std.proofs.Common.{◌≡◌, ◌⊎◌, inl, inr, ◌+◌, ◌*◌, ◌%◌, ◌<◌, ◌≤◌, ℕ, List, length, get_or, sym, ◌∙◌, ap, subst, arith}
+use Rattle.std.proofs.lemmas.Bool.{cases_eq}
+use Rattle.disk_model.specs.Disk.{Image, Torn}
+use Rattle.app_save.specs.Store.{IsOpen, IsSlot, AreSlots, length_at, generation_at, payload_at}
+use Rattle.app_save.specs.Saving.{KeepsPages}
 use Rattle.app_save.specs.Stages.{Stands, Stays, Closed, Filled, Saved}
-use Rattle.app_save.proofs.Bytes.{SameBytes, same_length, same_generation, same_payload, held_part}
+use Rattle.app_save.proofs.Bytes.{SameBytes, same_length, same_generation, same_payload}
 
 -- a slot all of whose bytes are the same
 pub record SameSlot (S slot : ℕ) (d c : Image) : Type 0 where

@@ -1,9 +1,9 @@
 -- A save as a whole: from what was settled to what it leaves.
-use Rattle.std.proofs.Common.{◌≡◌, ◌≢◌, ◌⊎◌, inl, inr, ◌+◌, ◌*◌, ◌%◌, ◌<◌, ◌≤◌, ℕ, List, [], ◌∷◌, length, get_or, IsTrue, refl, sym, ◌∙◌, ap, subst, arith, Result, Ok, Err, OnOk}
+use Rattle.std.proofs.Common.{◌≡◌, ◌≢◌, ◌⊎◌, inl, inr, ◌+◌, ◌%◌, ◌<◌, ◌≤◌, ℕ, List, get_or, IsTrue, refl, sym, ◌∙◌, ap, subst, arith, Result, Ok, Err, OnOk}
 use Rattle.std.proofs.lemmas.Bool.{cases_eq}
-use Rattle.disk_model.specs.Disk.{Image, Meaning, Elapses, During, Rests, Keeps, SyncsUp, MarksUp}
-use Rattle.app_save.specs.Store.{IsOpen, IsSlot, IsStore, AreSlots, IsNewest, generation_at, payload_at, Opens}
-use Rattle.app_save.specs.Saving.{AllStores, AllOpen, OpensAsBegun, SinceSync, HasPage, KeepsPages, KeepsEqualPages}
+use Rattle.disk_model.specs.Disk.{Image, Meaning, Elapses, During, Keeps}
+use Rattle.app_save.specs.Store.{IsOpen, IsStore, AreSlots, IsNewest, generation_at, payload_at, Opens}
+use Rattle.app_save.specs.Saving.{AllStores, AllOpen, OpensAsBegun, SinceSync, KeepsPages, KeepsEqualPages}
 use Rattle.app_save.specs.Stages.{Stands, Stays, Saved, IsSaved, Settled}
 use Rattle.app_save.proofs.Bytes.{payload_byte}
 use Rattle.app_save.proofs.Moments.{then_during, weaker, at_end, then_since, now_alone}

@@ -1,5 +1,5 @@
 -- What a store is at each stage of a save of this payload. The file is the one that the save began with.
-use Rattle.std.specs.Prelude.{◌≡◌, ◌⊎◌, ◌+◌, ◌*◌, ◌%◌, ◌≤◌, ℕ, List, length, IsTrue, Result, OnOk}
+use Rattle.std.specs.Prelude.{◌≡◌, ◌+◌, ◌*◌, ◌%◌, ◌≤◌, ℕ, List, length, IsTrue, Result, OnOk}
 use Rattle.disk_model.specs.Disk.{Image, Meaning, During, IsTorn, Torn, Holds, Rests}
 use Rattle.app_save.specs.Store.{IsOpen, IsSlot, IsNewest, length_at, generation_at, payload_at}
 use Rattle.app_save.specs.Saving.{KeepsPages, SinceSync}

@@ -1,4 +1,4 @@
-use Rattle.std.proofs.Common.{◌≡◌, ◌∙◌, sym, ap, length, subst, IsTrue}
+use Rattle.std.proofs.Common.{◌∙◌, sym, ap, length, IsTrue}
 use Rattle.app_save.proofs.Opened.{place_opens, place_inside, all_opened}
 use Rattle.app_save.proofs.load.load_newest.Goals as goal
 

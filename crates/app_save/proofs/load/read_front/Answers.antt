@@ -1,4 +1,4 @@
-use Rattle.std.proofs.Common.{◌≡◌, ◌∙◌, ◌++◌, ℕ, List, length, take, ap, IsTrue, Result, Ok, Err, OnOk}
+use Rattle.std.proofs.Common.{◌≡◌, ◌∙◌, ◌++◌, ℕ, List, length, take, ap, Result, Ok, Err, OnOk}
 use Rattle.std.proofs.lemmas.List.{length-take-le, take_at}
 use Rattle.app_save.proofs.load.read_front.Goals as goal
 

@@ -1,4 +1,4 @@
-use Rattle.std.proofs.Common.{◌≡◌, ◌∙◌, ◌+◌, ◌*◌, ◌≤◌, sym, subst, ℕ, length, [], ◌∷◌, IsTrue, arith}
+use Rattle.std.proofs.Common.{◌∙◌, ◌+◌, ◌*◌, ◌≤◌, sym, subst, ℕ, length, [], ◌∷◌, IsTrue, arith}
 use Rattle.disk_model.specs.Disk.{Image}
 use Rattle.app_save.specs.Making.{IsBlank}
 use Rattle.app_save.proofs.Moments.{then_time, then_during, at_end}

@@ -1,4 +1,4 @@
-use Rattle.std.proofs.Common.{◌≡◌, ◌∙◌, sym, subst}
+use Rattle.std.proofs.Common.{◌∙◌, sym, subst}
 use Rattle.app_save.specs.Slots.{IsFound}
 use Rattle.app_save.proofs.Found.{first_found, first_ahead}
 use Rattle.app_save.proofs.opening.found_in.Goals as goal

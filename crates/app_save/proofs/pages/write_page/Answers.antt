@@ -1,4 +1,4 @@
-use Rattle.std.proofs.Common.{◌∙◌, IsTrue, refl, sym}
+use Rattle.std.proofs.Common.{◌∙◌, IsTrue, refl}
 use Rattle.app_save.proofs.Bytes.{held_part}
 use Rattle.app_save.proofs.Moments.{keeps_then_writes}
 use Rattle.app_save.proofs.pages.write_page.Goals as goal

@@ -1,7 +1,6 @@
-use Rattle.std.proofs.Common.{rules, ◌≡◌, ◌∙◌, ◌<◌, ◌*◌, length, sym, IsTrue, refl, arith}
-use Rattle.disk_model.specs.Disk.{Meaning}
+use Rattle.std.proofs.Common.{◌∙◌, ◌<◌, ◌*◌, length, sym, IsTrue, refl}
 use Rattle.app_save.proofs.Moments.{then_time, then_marks, no_time, no_marks, at_end}
-use Rattle.app_save.proofs.PageSteps.{so_far_none, page_size, page_bytes, page_inside, further_during, further, page_below, all_pages}
+use Rattle.app_save.proofs.PageSteps.{so_far_none, page_size, page_bytes, page_inside, further_during, further, page_below}
 use Rattle.app_save.proofs.pages.write_pages.Goals as goal
 
 pub loop-q-init : goal.loop-q-init

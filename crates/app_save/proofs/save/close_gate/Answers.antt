@@ -1,4 +1,3 @@
-use Rattle.std.proofs.Common.{IsTrue}
 use Rattle.app_save.proofs.Stages.{closing_during, closing_done, closed_during, closed_already}
 use Rattle.app_save.proofs.save.close_gate.Goals as goal
 

@@ -1,4 +1,4 @@
-use Rattle.std.proofs.Common.{◌≡◌, ◌∙◌, sym, IsTrue}
+use Rattle.std.proofs.Common.{◌∙◌, IsTrue}
 use Rattle.app_save.proofs.Stages.{filling_during, filling_done}
 use Rattle.app_save.proofs.save.fill.Goals as goal
 

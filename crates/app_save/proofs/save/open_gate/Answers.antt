@@ -1,4 +1,3 @@
-use Rattle.std.proofs.Common.{IsTrue}
 use Rattle.app_save.proofs.Stages.{opening_during, opening_done}
 use Rattle.app_save.proofs.save.open_gate.Goals as goal
 

@@ -1,4 +1,4 @@
-use Rattle.std.proofs.Common.{◌≡◌, ◌∙◌, ◌+◌, sym, subst, IsTrue}
+use Rattle.std.proofs.Common.{◌≡◌, ◌∙◌, ◌+◌, subst, IsTrue}
 use Rattle.disk_model.specs.Disk.{Image}
 use Rattle.app_save.specs.Slots.{IsHeader}
 use Rattle.app_save.proofs.save.settle.Goals as goal

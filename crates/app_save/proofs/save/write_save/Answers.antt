@@ -1,4 +1,4 @@
-use Rattle.std.proofs.Common.{◌≡◌, ◌∙◌, sym, subst, IsTrue}
+use Rattle.std.proofs.Common.{◌∙◌, IsTrue}
 use Rattle.app_save.proofs.Whole.{settled_moments, settled_pages, save_moments, save_pages, save_done}
 use Rattle.app_save.proofs.save.write_save.Goals as goal
 

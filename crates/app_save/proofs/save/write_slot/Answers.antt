@@ -1,4 +1,4 @@
-use Rattle.std.proofs.Common.{◌≡◌, ◌∙◌, ◌+◌, ◌%◌, ℕ, sym, ap, IsTrue}
+use Rattle.std.proofs.Common.{◌∙◌, ◌+◌, ◌%◌, ℕ, sym, ap, IsTrue}
 use Rattle.app_save.proofs.Moments.{then_time}
 use Rattle.app_save.proofs.Stages.{throughout_first, throughout_closed, throughout_all, closed_again, filled_again}
 use Rattle.app_save.proofs.save.write_slot.Goals as goal

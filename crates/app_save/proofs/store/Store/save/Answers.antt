@@ -1,5 +1,5 @@
-use Rattle.std.proofs.Common.{◌≡◌, ◌∙◌, ◌+◌, ℕ, List, Ok, Err, sym, subst, IsTrue, if◌then◌else◌, Bool, ap, OnOk}
-use Rattle.disk_model.specs.Disk.{Meaning, MarksUp, During}
+use Rattle.std.proofs.Common.{◌∙◌, ℕ, Ok, Err, subst, IsTrue, if◌then◌else◌, Bool}
+use Rattle.disk_model.specs.Disk.{MarksUp, During}
 use Rattle.app_save.specs.Saving.{SinceSync, OpensAsBegun, AllOpen, KeepsEqualPages}
 use Rattle.app_save.specs.declared.refusal.SaveRefusal.TheVariants.{Device}
 use Rattle.app_save.specs.declared.refusal.SaveRefusal.{SaveRefusal}
