@@ -6,6 +6,7 @@
 //! It promises this over any `Disk`; that the system's file is one is presumed. The node saves its application here.
 #![tactic(auto)]
 
+mod laws;
 mod load;
 mod making;
 mod opening;
@@ -15,6 +16,7 @@ mod save;
 mod slots;
 mod store;
 
+pub use laws::stores_open_to_one;
 pub use making::make;
 pub use opening::open;
 pub use refusal::SaveRefusal;

@@ -1,10 +1,10 @@
 //! Making a store.
 ghost use Rattle.std.specs.Prelude.{◌≡◌, ◌≢◌, ◌⊎◌, ◌+◌, ◌*◌, ◌<◌, ◌≤◌, ◌↔◌, [], false, length, IsTrue, IsErr, IsErrOf, IsOk, IfOk, OnOk, OnErr};
 ghost use Rattle.sed_outside.specs.Cause.{Rose, HasCause};
-ghost use Rattle.disk_model.specs.Disk.{Image, Elapses, During, MarksUp, Keeps, Rests};
+ghost use Rattle.disk_model.specs.Disk.{Elapses, During, MarksUp, Keeps};
 ghost use Rattle.app_save.specs.Saving.{AllOpen};
 ghost use Rattle.app_save.specs.Run.{IsRun};
-ghost use Rattle.app_save.specs.Stages.{Saved, IsSaved};
+ghost use Rattle.app_save.specs.Stages.{IsSaved};
 ghost use Rattle.app_save.specs.Making.{IsBlank, NoneLonger};
 
 use crate::refusal::SaveRefusal;

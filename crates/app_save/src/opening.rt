@@ -1,8 +1,8 @@
 //! Opening a store.
-ghost use Rattle.std.specs.Prelude.{◌≡◌, ◌⊎◌, ◌+◌, ◌*◌, ◌<◌, ◌≤◌, ◌↔◌, [], ℕ, List, true, length, IsTrue, IsErr, IsErrOf, IsOk, IfOk, IfSome, IfNone, OnOk, OnErr, replicate, vec_len};
-ghost use Rattle.sed_outside.specs.Cause.{Rose, HasCause};
-ghost use Rattle.disk_model.specs.Disk.{Image, Elapses, During, MarksUp, Keeps};
-ghost use Rattle.app_save.specs.Store.{IsStore, AreSlots, IsNewest, length_at, Opens};
+ghost use Rattle.std.specs.Prelude.{◌≡◌, ◌⊎◌, ◌+◌, ◌*◌, ◌<◌, ◌≤◌, ◌↔◌, [], ℕ, true, length, IsTrue, IsErr, IsErrOf, IfOk, IfSome, IfNone, OnErr, replicate, vec_len};
+ghost use Rattle.sed_outside.specs.Cause.{HasCause};
+ghost use Rattle.disk_model.specs.Disk.{Image, Elapses, During, MarksUp};
+ghost use Rattle.app_save.specs.Store.{IsStore, Opens};
 ghost use Rattle.app_save.specs.Saving.{AllOpen, SinceSync};
 ghost use Rattle.app_save.specs.Run.{IsRun};
 ghost use Rattle.app_save.specs.Slots.{IsHeader, IsFound};

@@ -1,11 +1,11 @@
 //! The steps of a save: settle, close the other gate, fill the slot behind it, open the gate.
 ghost use Rattle.std.specs.Prelude.{◌≡◌, ◌⊎◌, ◌+◌, ◌*◌, ◌%◌, ◌≤◌, ◌<◌, false, length, slice_index, IsTrue, IsErr, IfOk, OnOk};
 ghost use Rattle.sed_outside.specs.Cause.{HasCause};
-ghost use Rattle.disk_model.specs.Disk.{Elapses, During, IsTorn, Torn, Holds, Keeps, MarksUp, SyncsUp, Rests, largest_file};
-ghost use Rattle.app_save.specs.Store.{IsOpen, IsStore, IsNewest, AreSlots, generation_at};
+ghost use Rattle.disk_model.specs.Disk.{Elapses, During, MarksUp, Rests, largest_file};
+ghost use Rattle.app_save.specs.Store.{IsStore, AreSlots, generation_at};
 ghost use Rattle.app_save.specs.Saving.{AllStores, AllOpen, OpensAsBegun, SinceSync, KeepsEqualPages};
 ghost use Rattle.app_save.specs.Slots.{IsPlace};
-ghost use Rattle.app_save.specs.Stages.{Stands, Stays, Closed, Filled, Saved, IsClosed, IsFilled, IsSaved, Lands, Settled};
+ghost use Rattle.app_save.specs.Stages.{Stays, Closed, Saved, IsClosed, IsFilled, IsSaved, Lands, Settled};
 
 use crate::pages::write_pages;
 use crate::slots::{OPEN, Place, place_of, read_header, second_slot};
