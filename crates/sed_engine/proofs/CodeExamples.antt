@@ -13,17 +13,18 @@ use Rattle.sed_typed.specs.declared.schema.SlotInfo.{SlotInfo}
 use Rattle.sed_typed.specs.Classes.{base_of}
 use Rattle.sed_typed.specs.Contents.{Shape, value_at}
 use Rattle.sed_typed.specs.SysTypes.{meta_slot}
+use Rattle.sed_engine.specs.declared.call.CallEnd.{CallEnd}
 use Rattle.sed_engine.specs.declared.call.CallEnd.TheVariants.{Done, Trap}
 use Rattle.sed_engine.specs.Asked.{MayAsk, may_ask, masked, unasked}
 use Rattle.sed_engine.specs.Code.{Meaning, Question, slot_type, slot_value, with_slot, new_object}
 use Rattle.sed_engine.specs.Fits.{form_at}
 use Rattle.sed_engine.specs.Program.{code_of, meaning_of}
 use Rattle.sed_engine.specs.Root.{calls_with}
-use Rattle.sed_engine.specs.Whole.{AnswersWell, FollowsBase, HasTables, IsWhole, SaysNothing, field_form}
+use Rattle.sed_engine.specs.Whole.{AnswersWell, EndsWell, FollowsBase, HasTables, IsWhole, SaysNothing, field_form}
 use Rattle.sed_engine.proofs.Building.{Pointer}
 use Rattle.sed_engine.proofs.MaskedCodes.{masked_whole}
 use Rattle.sed_engine.proofs.Ramp.{ramp_class, int_slot, ramp, sys_kit}
-use Rattle.sed_engine.proofs.RampTyped.{new_ramp, ramp_is_typed}
+use Rattle.sed_engine.proofs.RampTyped.{new_ramp, ramp_asked, ramp_is_typed}
 use Rattle.sed_engine.proofs.TypedCodes.{answers_of, tables_of}
 
 -- ---- two slots name one field
@@ -161,6 +162,24 @@ action_with_field p whole = let none : ◌≡◌ {A = Option ℕ} (Some 0) None 
 
 field_beyond : (p : Pointer) → IsWhole (record (meaning_of (ramp p)) { fields = λ class. (meaning_of (ramp p)).fields 5 }) → ⊥
 field_beyond p whole = let none : ◌≡◌ {A = List Shape} ((meaning_of (ramp p)).fields 5) [] = (whole.tables.beyond 6 (lit≤ tt)).fields in let never : ⊥ = cc in never
+
+-- the ramp's code, but that each root call that may be asked ends so
+ends_as : CallEnd → Pointer → Meaning
+ends_as end p = record (code_of (ramp p)) { root = λ q. record ((code_of (ramp p)).root q) { end = end } }
+
+well_of : (end : CallEnd) (p : Pointer) → IsWhole (masked (ends_as end p)) → EndsWell 10 end
+unfolding ends_as may_ask
+well_of end p whole =
+    let a : MayAsk (meaning_of (ramp p)) (new_ramp p) = ramp_asked p in
+    (whole.ends (new_ramp p)).0
+    (record { creatable = a.creatable; contents = a.contents; statics = a.statics; argument = a.argument; some_turns = a.some_turns; most_turns = a.most_turns; moment = a.moment })
+
+-- a trap that there is not, and more turns left than the 10 that were given
+by_trap_77 : (p : Pointer) → IsWhole (masked (ends_as (Trap 77) p)) → ⊥
+by_trap_77 p whole = let most : 77 ≤ 5 = (well_of (Trap 77) p whole).1 in omega (arith, most)
+
+leaves_11 : (p : Pointer) → IsWhole (masked (ends_as (Done 11) p)) → ⊥
+leaves_11 p whole = let most : 11 ≤ 10 = well_of (Done 11) p whole in omega (arith, most)
 
 -- ---- what is asked, and what is not
 

@@ -1,12 +1,11 @@
 -- A code that answers well whatever it may be asked is whole once it is masked.
-use Rattle.std.proofs.Common.{◌≡◌, ◌≢◌, inl, inr, Bool, true, false, if◌then◌else◌, sym, ap, subst, ◌∙◌}
+use Rattle.std.proofs.Common.{◌≡◌, ◌≤◌, inl, inr, Bool, true, false, if◌then◌else◌, sym, ap, subst, ◌∙◌, arith}
 use Rattle.std.proofs.lemmas.Bool.{cases_Bool}
-use Rattle.sed_engine.specs.declared.call.CallEnd.TheVariants.{Trap}
 use Rattle.sed_engine.specs.Asked.{MayAsk, may_ask, unasked, masked}
 use Rattle.sed_engine.specs.Code.{Meaning, Question}
 use Rattle.sed_engine.specs.Fits.{Fits}
 use Rattle.sed_engine.specs.Root.{RootEnd}
-use Rattle.sed_engine.specs.Whole.{AnswersWell, HasTables, IsWhole, FollowsBase, SaysNothing, RootFits, RootEnds}
+use Rattle.sed_engine.specs.Whole.{AnswersWell, EndsWell, HasTables, IsWhole, FollowsBase, SaysNothing, RootFits, RootEnds}
 use Rattle.sed_engine.proofs.Asking.{may_from, may_then, masked_asks}
 
 -- ---- what a masked code answers
@@ -66,13 +65,16 @@ module _ (m : Meaning) (well : (q : Question) → MayAsk m q → AnswersWell m q
   ends_masked : RootEnds (masked m)
   ends_masked q = (ends, asks)
     where
-      ends : MayAsk (masked m) q → ((masked m).root q).end ≢ Trap 0
-      ends h = let a : MayAsk m q = from_masked m q h in subst (λ (x : RootEnd). x.end ≢ Trap 0) (sym (answer_is m q a)) (well q a).end
+      ends : MayAsk (masked m) q → EndsWell q.turns ((masked m).root q).end
+      ends h = let a : MayAsk m q = from_masked m q h in subst (λ (x : RootEnd). EndsWell q.turns x.end) (sym (answer_is m q a)) (well q a).end
 
-      asks : ((masked m).root q).end ≢ Trap 0 → MayAsk (masked m) q
+      asks : EndsWell q.turns ((masked m).root q).end → MayAsk (masked m) q
       asks h = elim (cases_Bool (may_ask m q)) [
         | inl e ↦ to_masked m q (may_from m q e)
-        | inr e ↦ absurd (h (ap (λ (x : RootEnd). x.end) (other (may_ask m q) (m.root q) (unasked q) e)))
+        | inr e ↦
+            let by_0 : EndsWell q.turns (unasked q).end = subst (λ (x : RootEnd). EndsWell q.turns x.end) (other (may_ask m q) (m.root q) (unasked q) e) h in
+            let some : 1 ≤ 0 = by_0.0 in
+            absurd (omega (arith, some))
       ]
 
   pub masked_whole : HasTables m → IsWhole (masked m)

@@ -1,5 +1,5 @@
 -- The program of the ramp is typed, so its code is whole.
-use Rattle.std.proofs.Common.{◌≡◌, ◌≢◌, pos, ◌<◌, ◌≤◌, ◌==◌, ℕ, zero, suc, Bool, true, false, [], ◌∷◌, List, map, Some, None, refl, ap, lit<, lit≤, arith, cond, ◌+◌, ◌∙◌, codes}
+use Rattle.std.proofs.Common.{◌≡◌, pos, ◌<◌, ◌≤◌, ◌==◌, ℕ, zero, suc, Bool, true, false, [], ◌∷◌, List, map, Some, None, refl, ap, lit<, lit≤, arith, cond, ◌+◌, ◌∙◌, codes}
 use Rattle.std.specs.Prelude.{length, All, IfSome, IsSomeAnd, IsTrue, count_by, slice_get}
 use Rattle.sed_value.specs.Names.{is_kit_name}
 use Rattle.std.proofs.lemmas.Bool.Decides.{nat_tests}
@@ -20,12 +20,11 @@ use Rattle.sed_typed.specs.SysMembers.{HasSysMembers}
 use Rattle.sed_typed.specs.SysTypes.{HasSysTypes, virtual_type}
 use Rattle.sed_typed.specs.TypedSchema.{HasKits, IsClass, HasSlot, HasSlots, IsField, HasMembers, Overrides, LiesDeeper, is_below_sys, types_of, types_at}
 use Rattle.sed_typed.specs.Typed.{Typed, IsMethod, IsBody, IsStorable, HasBodies, IsText}
-use Rattle.sed_engine.specs.declared.call.CallEnd.TheVariants.{Trap}
 use Rattle.sed_engine.specs.declared.call.Root.TheVariants.{Execute}
 use Rattle.sed_engine.specs.Asked.{MayAsk}
 use Rattle.sed_engine.specs.Code.{Question, asked_of, new_object}
 use Rattle.sed_engine.specs.Program.{meaning_of}
-use Rattle.sed_engine.specs.Whole.{IsWhole}
+use Rattle.sed_engine.specs.Whole.{EndsWell, IsWhole}
 use Rattle.sed_engine.proofs.Building.{Pointer}
 use Rattle.sed_engine.proofs.FieldLists.{of_fields}
 use Rattle.sed_engine.proofs.TypedCodes.{whole_of}
@@ -447,7 +446,7 @@ ramp_is_whole p = whole_of (ramp p) (ramp_is_typed p)
 abbrev pub new_ramp : Pointer → Question
 new_ramp p = asked_of (new_object (meaning_of (ramp p)) 5) (meaning_of (ramp p)).initial_statics Execute kept.Nothing 10 (pos 0)
 
-ramp_asked : (p : Pointer) → MayAsk (meaning_of (ramp p)) (new_ramp p)
+pub ramp_asked : (p : Pointer) → MayAsk (meaning_of (ramp p)) (new_ramp p)
 ramp_asked p = record {
   creatable = refl;
   contents = (ramp_is_whole p).tables.first 5 (lit< tt);
@@ -458,5 +457,5 @@ ramp_asked p = record {
   moment = refl;
 }
 
-pub ramp_ends : (p : Pointer) → ((meaning_of (ramp p)).root (new_ramp p)).end ≢ Trap 0
+pub ramp_ends : (p : Pointer) → EndsWell 10 ((meaning_of (ramp p)).root (new_ramp p)).end
 ramp_ends p = ((ramp_is_whole p).ends (new_ramp p)).0 (ramp_asked p)

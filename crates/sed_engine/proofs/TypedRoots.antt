@@ -1,5 +1,5 @@
--- Root calls of typed programs end normally or by a trap.
-use Rattle.std.proofs.Common.{◌≡◌, ◌≢◌, ◌&&◌, not, ℕ, Bool, true, false, if◌then◌else◌, List, [], ◌∷◌, ◌++◌, replicate, codes, Option, Some, None, Result, Ok, Err, refl, sym, ap, subst, ◌∙◌, arith}
+-- Root calls of typed programs end well.
+use Rattle.std.proofs.Common.{◌≡◌, ◌≤◌, ◌&&◌, not, ℕ, Bool, true, false, if◌then◌else◌, List, [], ◌∷◌, ◌++◌, replicate, codes, Option, Some, None, Result, Ok, Err, refl, sym, ap, subst, ◌∙◌, lit≤}
 use Rattle.std.specs.Prelude.{IfSome, IsSomeAnd, is_some, slice_get}
 use Rattle.std.specs.Option.{option_map, option_map_or}
 use Rattle.std.proofs.lemmas.Bool.{not-true, and_parts}
@@ -20,7 +20,6 @@ use Rattle.sed_typed.specs.Classes.{find, method_name, slot_name}
 use Rattle.sed_typed.specs.SysTypes.{component_type}
 use Rattle.sed_typed.specs.Typed.{Typed, receiver_of}
 use Rattle.sed_typed.specs.TypedSchema.{IsClass, HasSlots, HasSlot, IsAction, argument_kinds, is_below}
-use Rattle.sed_engine.specs.declared.call.CallEnd.TheVariants as end
 use Rattle.sed_engine.specs.declared.call.Callback.TheVariants as callback
 use Rattle.sed_engine.specs.declared.call.Root.{Root}
 use Rattle.sed_engine.specs.declared.call.Root.TheVariants.{Execute, Action, Callback}
@@ -34,16 +33,19 @@ use Rattle.sed_engine.specs.Program.{code_of}
 use Rattle.sed_engine.specs.State.{Shared}
 use Rattle.sed_engine.specs.Expressions.{Called, Calls}
 use Rattle.sed_engine.specs.Root.{method_at, callback_method, root_method, argument_of, root_frame, start_root, end_of, most_frames, calls_with}
-use Rattle.sed_engine.specs.Whole.{NeverGoesWrong}
+use Rattle.sed_engine.specs.Turns.{LeavesAtMost}
+use Rattle.sed_engine.specs.Whole.{EndsWell, NeverGoesWrong}
 use Rattle.sed_engine.proofs.Below.{Below, Itself, below_of, no, of_some, FoundFor, found_below, found_above}
 use Rattle.sed_engine.proofs.CallSteps.{CallsSound}
 use Rattle.sed_engine.proofs.Frames.{FrameHas, no_locals}
 use Rattle.sed_engine.proofs.Kinded.{HasKind}
 use Rattle.sed_engine.proofs.Ranges.{Sound}
 use Rattle.sed_engine.proofs.Ready.{Fitting}
+use Rattle.sed_engine.proofs.RootLaws.{run_leaves}
 use Rattle.sed_engine.proofs.Spots.{Concrete, found_body}
 use Rattle.sed_engine.proofs.SysMethods.{IsRoot, SysClass, sys_class, root_there}
 use Rattle.sed_engine.proofs.TypedBodies.{calls_sound}
+use Rattle.sed_engine.proofs.Within.{calls_keep}
 
 -- ---- the class of a component
 
@@ -201,17 +203,17 @@ started program class calls sound a (Ok m) (Err Untyped) s fitting h k = absurd 
 started program class calls sound a (Err (Traps t)) u s fitting h k = tt
 started program class calls sound a (Err Untyped) u s fitting h k = absurd h
 
-trap_number : (t : Trap) → number_of t ≢ 0
-trap_number ZeroDivisor e = omega (arith, e)
-trap_number NullReference e = omega (arith, e)
-trap_number OutOfRange e = omega (arith, e)
-trap_number TurnsSpent e = omega (arith, e)
-trap_number TooDeep e = omega (arith, e)
+trap_number : (t : Trap) → (1 ≤ number_of t) × (number_of t ≤ 5)
+trap_number ZeroDivisor = (lit≤ tt, lit≤ tt)
+trap_number NullReference = (lit≤ tt, lit≤ tt)
+trap_number OutOfRange = (lit≤ tt, lit≤ tt)
+trap_number TurnsSpent = (lit≤ tt, lit≤ tt)
+trap_number TooDeep = (lit≤ tt, lit≤ tt)
 
-ended : (r : Result Val Stop) (left : ℕ) → Sound (λ _. Unit {0}) r → end_of r left ≢ end.Trap 0
-ended (Ok v) left h e = let never : ⊥ = cc in never
-ended (Err (Traps t)) left h e = trap_number t (let same : number_of t ≡ 0 = cc in same)
-ended (Err Untyped) left h e = absurd h
+ended : (r : Result Val Stop) (left turns : ℕ) → Sound (λ _. Unit {0}) r → LeavesAtMost (end_of r left) turns → EndsWell turns (end_of r left)
+ended (Ok v) left turns h most = most
+ended (Err (Traps t)) left turns h most = trap_number t
+ended (Err Untyped) left turns h most = absurd h
 
 pub roots_end : (program : Program) → Typed program → NeverGoesWrong (code_of program)
 roots_end program typed q creatable fits statics_fit may long =
@@ -221,5 +223,6 @@ roots_end program typed q creatable fits statics_fit may long =
     let fitting : Fitting program q.class s = record { fits = record { contents = fits.values; statics = statics_fit.values }; contents = fits.paths; statics = statics_fit.paths; moment = long } in
     let starts : Starts program q.class q.argument (root_method program q.class q.which) = root_is program typed q.class c q.which q.argument may in
     let e : Called = start_root calls (root_method program q.class q.which) (argument_of q.argument) s in
-    ended e.result e.shared.turns
+    ended e.result e.shared.turns q.turns
     (started program q.class calls (calls_sound program typed q.class c.concrete most_frames) starts.0 (root_method program q.class q.which) (argument_of q.argument) s fitting starts.2 (argument_is program q.class starts.0 q.argument starts.1))
+    (run_leaves calls (calls_keep program q.class most_frames) (root_method program q.class q.which) (argument_of q.argument) s)

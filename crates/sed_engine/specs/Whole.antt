@@ -1,5 +1,5 @@
 -- What everything above a code relies on.
-use Rattle.std.specs.Prelude.{ℕ, ◌≡◌, ◌≢◌, ◌↔◌, ◌==◌, ◌<◌, ◌≤◌, true, IsTrue, All, IfSome, IsSome, IsSomeAnd, [], length, count_by, slice_get, codes, Some, None}
+use Rattle.std.specs.Prelude.{ℕ, ◌≡◌, ◌↔◌, ◌==◌, ◌<◌, ◌≤◌, true, IsTrue, All, IfSome, IsSome, IsSomeAnd, [], length, count_by, slice_get, codes, Some, None}
 use Rattle.std.specs.Int.{w64}
 use Rattle.sed_value.specs.Value.{is_signed}
 use Rattle.sed_value.specs.declared.slot_type.SlotType.{SlotType}
@@ -15,7 +15,8 @@ use Rattle.sed_typed.specs.Contents.{value_at}
 use Rattle.sed_typed.specs.Sizes.{config_size, runtime_size}
 use Rattle.sed_typed.specs.TypedSchema.{Begins, types_at, is_below_sys}
 pub use Rattle.sed_typed.specs.SysTypes.{HasSysTypes, HasSysType, IsSysType, component_type, app_type, meta_slot, save_slot}
-use Rattle.sed_engine.specs.declared.call.CallEnd.TheVariants.{Trap}
+use Rattle.sed_engine.specs.declared.call.CallEnd.{CallEnd}
+use Rattle.sed_engine.specs.declared.call.CallEnd.TheVariants.{Done, Trap}
 use Rattle.sed_engine.specs.Asked.{MayAsk, unasked}
 use Rattle.sed_engine.specs.Code.{Meaning, Object, Question, slot_type, slot_path, may_call, is_creatable}
 use Rattle.sed_engine.specs.Fits.{Fits, form_at}
@@ -94,9 +95,14 @@ RootFits m =
     (q : Question) → Fits m.fields (m.fields q.class) (m.initial q.class) q.contents → Fits m.fields m.static_fields m.initial_statics q.statics →
     Fits m.fields (m.fields q.class) (m.initial q.class) (m.root q).contents × Fits m.fields m.static_fields m.initial_statics (m.root q).statics
 
--- a root call ends normally or by a trap exactly where it may be asked, since 0 tells of no trap
+-- a root call with so many turns ends normally and leaves no more of them, or ends by one of the five traps
+abbrev pub EndsWell : ℕ → CallEnd → Type 0
+EndsWell turns (Done left) = left ≤ turns
+EndsWell turns (Trap number) = (1 ≤ number) × (number ≤ 5)
+
+-- it ends well exactly where it may be asked: what may not be asked ends by 0 (`unasked`), which tells of no trap
 abbrev pub RootEnds : Meaning → Type 0
-RootEnds m = (q : Question) → MayAsk m q ↔ ((m.root q).end ≢ Trap 0)
+RootEnds m = (q : Question) → MayAsk m q ↔ EndsWell q.turns (m.root q).end
 
 -- a code that may be run: what is said of it in whole
 pub record IsWhole (m : Meaning) : Type 0 where
@@ -109,13 +115,13 @@ pub record IsWhole (m : Meaning) : Type 0 where
 pub record AnswersWell (m : Meaning) (q : Question) : Type 0 where
   pub contents : Fits m.fields (m.fields q.class) (m.initial q.class) (m.root q).contents
   pub statics : Fits m.fields m.static_fields m.initial_statics (m.root q).statics
-  pub end : (m.root q).end ≢ Trap 0
+  pub end : EndsWell q.turns (m.root q).end
 
--- a root call on a component ends normally or by a trap, with any number of turns
+-- a root call on a component ends well, with any number of turns
 abbrev pub NeverGoesWrong : Meaning → Type 0
 NeverGoesWrong m =
     (q : Question) → IsTrue (is_creatable m q.class) → Fits m.fields (m.fields q.class) (m.initial q.class) q.contents → Fits m.fields m.static_fields m.initial_statics q.statics →
-    IsTrue (may_call m q.class q.which q.argument) → IsTrue (is_signed w64 q.moment) → (m.root q).end ≢ Trap 0
+    IsTrue (may_call m q.class q.which q.argument) → IsTrue (is_signed w64 q.moment) → EndsWell q.turns (m.root q).end
 
 -- ---- objects
 

@@ -48,8 +48,8 @@ pub fn what_is_left_fits()
     ensures { (program : Program) → RootFits (code_of program) }
 {}
 
-/// A typed program never goes wrong: its root calls end normally or by one of the traps, so no step comes to what is not
-/// typed (`Untyped` in `specs/Stops`), which trap 0 would tell.
+/// A typed program never goes wrong: its root calls end normally, with no more turns left than they were given, or by one
+/// of the five traps, so no step comes to what is not typed (`Untyped` in `specs/Stops`), which trap 0 would tell.
 pub fn typed_programs_never_go_wrong()
     ensures { (program : Program) → Typed program → NeverGoesWrong (code_of program) }
 {}

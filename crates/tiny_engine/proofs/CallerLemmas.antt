@@ -14,11 +14,10 @@ use Rattle.tiny_engine.specs.Tiny.{One, Held, live_of, meaning_of}
 use Rattle.tiny_engine.proofs.TinyLemmas.{data_none}
 use Rattle.sed_typed.specs.Contents.{Contents}
 use Rattle.sed_engine.specs.declared.call.CallEnd.{CallEnd}
-use Rattle.sed_engine.specs.declared.call.CallEnd.TheVariants.{Trap}
 use Rattle.sed_engine.specs.declared.call.Root.{Root}
 use Rattle.sed_engine.specs.Code.{Meaning, Object, Places, asked_of, data_of, is_property, may_call, may_store, new_object, root_of, slot_type, slot_value, with_slot}
 use Rattle.sed_engine.specs.Fits.{Fits}
-use Rattle.sed_engine.specs.Whole.{IsObject, IsWhole}
+use Rattle.sed_engine.specs.Whole.{EndsWell, IsObject, IsWhole}
 
 tied_same : (p : ℕ) → eq_by_cmp nat_cmp p p ≡ true
 tied_same p = grind (arith, nat_tests)
@@ -97,12 +96,12 @@ below_folder h limit empty is full =
     let none : data_of (meaning_of h.schema) (live_of h.one) ≡ 0 = ap (λ (o : Option One). data_of (meaning_of h.schema) (live_of o)) empty ∙ data_none h.schema in
     omega (arith, none, is, full)
 
--- a root call that an engine may be given ends normally or by a trap
+-- a root call that an engine may be given ends well
 pub ends_well : (m : Meaning) → IsWhole m → (statics : Contents) → Fits m.fields m.static_fields m.initial_statics statics → (which : Root) (argument : Value) (turns : ℕ) (moment : ℤ) →
     1 ≤ turns → turns ≤ 1000000 → is_signed w64 moment ≡ true → (end : CallEnd) → (r : Option Object) → IfSome r (IsObject m) → IsSomeAnd r (λ o. IsTrue (may_call m o.class which argument)) →
-    IfSome r (λ o. end ≡ (root_of m o statics which argument turns moment).end) → end ≢ Trap 0
+    IfSome r (λ o. end ≡ (root_of m o statics which argument turns moment).end) → EndsWell turns end
 ends_well m whole statics fit which argument turns moment some most long end None object may is = absurd may
 ends_well m whole statics fit which argument turns moment some most long end (Some o) object may is =
-    subst (λ (e : CallEnd). e ≢ Trap 0) (sym is)
+    subst (λ (e : CallEnd). EndsWell turns e) (sym is)
     ((whole.ends (asked_of o statics which argument turns moment)).0
     (record { creatable = object.creatable; contents = object.fits; statics = fit; argument = may; some_turns = some; most_turns = most; moment = long }))

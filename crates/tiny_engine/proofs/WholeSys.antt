@@ -1,5 +1,5 @@
 -- The code of `sys` alone is whole, and the one object is one that may be kept.
-use Rattle.std.proofs.Common.{◌≡◌, ◌≢◌, inl, inr, ℕ, zero, suc, ◌+◌, ◌<◌, ◌≤◌, ◌==◌, ◌&&◌, ◌||◌, Bool, true, false, cond, if◌then◌else◌, List, [], ◌∷◌, length, Some, None, refl, sym, ap, subst, lit≤, lit<, arith}
+use Rattle.std.proofs.Common.{◌≡◌, inl, inr, ℕ, zero, suc, ◌+◌, ◌<◌, ◌≤◌, ◌==◌, ◌&&◌, ◌||◌, Bool, true, false, cond, if◌then◌else◌, List, [], ◌∷◌, length, Some, None, refl, sym, ap, subst, lit≤, lit<, arith}
 use Rattle.std.specs.Prelude.{IfSome, IsSome, IsSomeAnd, All, slice_get, count_by}
 use Rattle.std.specs.Int.{w32}
 use Rattle.std.proofs.lemmas.Bool.{and_from, cases_eq}
@@ -14,7 +14,6 @@ use Rattle.sed_typed.specs.Classes.{base_of}
 use Rattle.sed_typed.specs.Contents.{value_at}
 use Rattle.sed_typed.specs.Sizes.{config_size, runtime_size}
 use Rattle.sed_typed.specs.TypedSchema.{types_at}
-use Rattle.sed_engine.specs.declared.call.CallEnd.TheVariants.{Done, Trap}
 use Rattle.sed_engine.specs.Asked.{MayAsk}
 use Rattle.sed_engine.specs.Code.{Meaning, Question, is_creatable, slot_type, slot_path}
 use Rattle.sed_engine.specs.Fits.{Fits, form_at}
@@ -292,11 +291,8 @@ sys_tables schema sys = subst (λ (s : Schema). HasTables (code_of s)) (schema_i
 
 -- ---- root calls
 
-ends_well : (left : ℕ) → Done left ≢ Trap 0
-ends_well left e = let never : ⊥ = cc in never
-
 pub sys_answers : (schema : Schema) (q : Question) → MayAsk (code_of schema) q → AnswersWell (code_of schema) q
-sys_answers schema q h = record { contents = h.contents; statics = h.statics; end = ends_well q.turns }
+sys_answers schema q h = record { contents = h.contents; statics = h.statics; end = omega arith }
 
 -- ---- the one object
 

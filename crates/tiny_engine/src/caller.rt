@@ -2,6 +2,7 @@
 ghost use Rattle.std.specs.Prelude.{◌≡◌, ◌≢◌, ◌↔◌, ℕ, ◌+◌, ◌<◌, ◌≤◌, false, IsTrue, IfOk, IfSome, IsSomeAnd, OnErr};
 ghost use Rattle.std.specs.FinMap as map;
 ghost use Rattle.sed_engine.specs.Code.{called, data_of, is_creatable, may_call, may_store, new_object, root_of, slot_value, with_slot};
+ghost use Rattle.sed_engine.specs.Whole.{EndsWell};
 
 use crate::tiny::{Tiny, int_kept};
 use sed_engine::{AddRefusal, CallEnd, Engine, Place, Root};
@@ -40,8 +41,9 @@ pub fn make_with<E: Engine>(
     Ok(p)
 }
 
-/// Runs a root call, as the engine's `call` does. It ends normally or by a trap, and not by 0, which
-/// tells of no trap: the engine's `schema` says that what is kept fits, so the code may be asked this.
+/// Runs a root call, as the engine's `call` does. It ends normally, with no more turns left than were
+/// given, or by one of the five traps: the engine's `schema` says that what is kept fits, so the code
+/// may be asked this.
 pub fn call_well<E: Engine>(
     engine: &mut E,
     p: Place,
@@ -53,7 +55,7 @@ pub fn call_well<E: Engine>(
     requires live { IsSomeAnd (map.get (E.live engine.old) p.0) (λ o. IsTrue (may_call (E.meaning engine.old) o.class r arg.now)) }
     requires some_turns { 1 ≤ turns }
     requires most_turns { turns ≤ 1000000 }
-    ensures well { result ≢ CallEnd.Trap 0 }
+    ensures well { EndsWell turns result }
     ensures end { IfSome (map.get (E.live engine.old) p.0) (λ o. result ≡ (root_of (E.meaning engine.old) o (E.statics engine.old) r arg.now turns ticks).end) }
     ensures left { IfSome (map.get (E.live engine.old) p.0) (λ o. E.live engine.new ≡ map.insert (E.live engine.old) p.0 (called o (root_of (E.meaning engine.old) o (E.statics engine.old) r arg.now turns ticks))) }
     ensures statics { IfSome (map.get (E.live engine.old) p.0) (λ o. E.statics engine.new ≡ (root_of (E.meaning engine.old) o (E.statics engine.old) r arg.now turns ticks).statics) }
