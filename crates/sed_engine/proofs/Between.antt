@@ -14,7 +14,7 @@ use Rattle.sed_typed.specs.Classes.{find, fields, slots as slots_of, method_name
 use Rattle.sed_typed.specs.SysMembers.{HasSysMembers}
 use Rattle.sed_typed.specs.SysTypes.{HasSysTypes, meta_slot, save_slot}
 use Rattle.sed_typed.specs.Typed.{Typed, IsMethod, HasBodies, IsText}
-use Rattle.sed_typed.specs.TypedSchema.{HasKits, IsClass, HasSlot, HasSlots, IsField, HasMembers, LiesDeeper, types_of, types_at}
+use Rattle.sed_typed.specs.TypedSchema.{HasKits, IsClass, HasSlot, HasSlots, IsAdded, added_slots, IsField, HasMembers, LiesDeeper, types_of, types_at}
 use Rattle.sed_engine.specs.declared.call.Callback.TheVariants.{Start}
 use Rattle.sed_engine.specs.declared.call.CallEnd.TheVariants.{Done}
 use Rattle.sed_engine.specs.declared.call.Root.TheVariants.{Callback}
@@ -24,9 +24,9 @@ use Rattle.sed_engine.specs.Whole.{IsWhole}
 use Rattle.sed_typed.specs.Initial.{initial}
 use Rattle.sed_engine.proofs.Building.{Pointer}
 use Rattle.sed_engine.proofs.FieldLists.{of_fields}
-use Rattle.sed_engine.proofs.MemberNames.{all_of, distinct, once_each, named_once, names_new, names_apart}
+use Rattle.sed_engine.proofs.MemberNames.{Each, all_of, distinct, once_each, named_once, names_new, names_apart}
 use Rattle.sed_engine.proofs.Ramp.{based_on, class_of, int_property, nothing, sys_methods_in}
-use Rattle.sed_engine.proofs.RampTyped.{InSlots, OverridesAbove, abstract_is, changed_is, has_base_of, has_body, no_types, none_below, not_app, overrides, overrides_changed, void_is}
+use Rattle.sed_engine.proofs.RampTyped.{InSlots, OverridesAbove, abstract_is, changed_is, has_base_of, has_body, no_types, none_below, none_rise, not_app, one_rises, overrides, overrides_changed, void_is}
 use Rattle.sed_engine.proofs.TypedCodes.{whole_of}
 
 -- kit demo has class Plain, which extends Obj and stands behind it: Virtual, Component, App and Folder have the numbers 2 to 5
@@ -185,13 +185,16 @@ slot_names : (p : Pointer) (class : ℕ) → distinct (map (λ (s : SlotInfo). s
     (name : List ℕ) → count_by (λ s. bytes_eq s.name name) (slots_of (between p).schema.classes class) ≤ 1
 slot_names p class h = named_once (λ (s : SlotInfo). s.name) (slots_of (between p).schema.classes class) h
 
+adds : (p : Pointer) (class : ℕ) → Each (λ s. IsAdded (between p) class s s.form) (added_slots (between p).schema.classes class) → All (λ s. IsAdded (between p) class s s.form) (added_slots (between p).schema.classes class)
+adds p class h = all_of (λ (s : SlotInfo). IsAdded (between p) class s s.form) (added_slots (between p).schema.classes class) h
+
 has_slots : (p : Pointer) (class : ℕ) → IfSome (slice_get (between p).schema.classes class) (HasSlots (between p) class)
-has_slots p zero = record { each = each_slot p 0; names = slot_names p 0 refl; components = none_below; within = all_of (InSlots 0) (fields (between p) 0) tt }
-has_slots p (suc zero) = record { each = each_slot p 1; names = slot_names p 1 refl; components = none_below; within = all_of (InSlots 0) (fields (between p) 1) tt }
-has_slots p (suc (suc zero)) = record { each = each_slot p 2; names = slot_names p 2 refl; components = none_below; within = all_of (InSlots 0) (fields (between p) 2) tt }
-has_slots p (suc (suc (suc zero))) = record { each = each_slot p 3; names = slot_names p 3 refl; components = λ h. refl; within = all_of (InSlots 1) (fields (between p) 3) (lit< tt, tt) }
-has_slots p (suc (suc (suc (suc zero)))) = record { each = each_slot p 4; names = slot_names p 4 refl; components = λ h. refl; within = all_of (InSlots 2) (fields (between p) 4) (lit< tt, tt) }
-has_slots p (suc (suc (suc (suc (suc zero))))) = record { each = each_slot p 5; names = slot_names p 5 refl; components = λ h. refl; within = all_of (InSlots 1) (fields (between p) 5) (lit< tt, tt) }
+has_slots p zero = record { each = each_slot p 0; names = slot_names p 0 refl; added = adds p 0 tt; in_order = none_rise; components = none_below; within = all_of (InSlots 0) (fields (between p) 0) tt }
+has_slots p (suc zero) = record { each = each_slot p 1; names = slot_names p 1 refl; added = adds p 1 tt; in_order = none_rise; components = none_below; within = all_of (InSlots 0) (fields (between p) 1) tt }
+has_slots p (suc (suc zero)) = record { each = each_slot p 2; names = slot_names p 2 refl; added = adds p 2 tt; in_order = none_rise; components = none_below; within = all_of (InSlots 0) (fields (between p) 2) tt }
+has_slots p (suc (suc (suc zero))) = record { each = each_slot p 3; names = slot_names p 3 refl; added = adds p 3 (tt, tt); in_order = one_rises 0; components = λ h. refl; within = all_of (InSlots 1) (fields (between p) 3) (lit< tt, tt) }
+has_slots p (suc (suc (suc (suc zero)))) = record { each = each_slot p 4; names = slot_names p 4 refl; added = adds p 4 ((refl, refl), tt); in_order = none_rise; components = λ h. refl; within = all_of (InSlots 2) (fields (between p) 4) (lit< tt, tt) }
+has_slots p (suc (suc (suc (suc (suc zero))))) = record { each = each_slot p 5; names = slot_names p 5 refl; added = adds p 5 tt; in_order = none_rise; components = λ h. refl; within = all_of (InSlots 1) (fields (between p) 5) (lit< tt, tt) }
 has_slots p (suc (suc (suc (suc (suc (suc n)))))) = tt
 
 -- ---- members
@@ -320,6 +323,7 @@ between_is_typed p = record {
   members = members p;
   sys = sys_is p;
   fields = all_of (IsField (between p)) (between p).fields (record { class = lit< tt; form = tt; initial = refl }, tt);
+  fields_by_class = refl;
   statics = all_of (IsField (between p)) [] tt;
   statics_apart = all_of (λ (f : Field). f.slot ≡ None) [] tt;
   texts_once = named_once (λ (t : List ℕ). t) [] refl;

@@ -196,6 +196,45 @@ kept_action : (p : Pointer) → Typed (with_class (record (ramp_class 2) { slots
 unfolding with_class
 kept_action p typed = absurd_test ((typed.slots 5).each 3).2
 
+-- an action `execute` of class 5 behind `meta`
+with_action : (Pointer → List Method) → Pointer → Program
+with_action methods p = record (program_with (class_of 1 0 (codes "A") (based_on 2) false true 4 (meta_slot ∷ record { name = codes "execute"; config = false; form = Action argument.Void } ∷ []) ∷ []) [] p) { methods = methods p }
+
+-- which it inherits as a method, and does not declare
+action_undeclared : (p : Pointer) → Typed (with_action (sys_methods_in 2 3) p) → ⊥
+unfolding with_action
+action_undeclared p typed = absurd_other ((typed.slots 5).added 0 meta_slot (lit< tt)).0
+
+-- which it declares, and so overrides what is no action
+overriding : Pointer → List Method
+overriding p = sys_methods_in 2 3 p ++ void_method 5 (codes "execute") (nothing p) ∷ []
+
+action_overrides : (p : Pointer) → Typed (with_action overriding p) → ⊥
+unfolding with_action overriding
+action_overrides p typed =
+    let none : ◌≡◌ {A = Option ℕ} (Some 0) None = ((typed.slots 5).added 0 meta_slot (lit< tt)).1 in
+    let never : ⊥ = cc in
+    never
+
+-- a property that a class adds for a field of its base
+slot_for_inherited : (p : Pointer) → Typed (program_with (class_of 1 0 (codes "Base") (based_on 2) false true 8 (meta_slot ∷ []) ∷ class_of 1 1 (codes "Ramp") (based_on 5) false true 8 (meta_slot ∷ int_slot (codes "step") true ∷ []) ∷ []) (step_field ∷ []) p) → ⊥
+slot_for_inherited p typed = let there : 1 < 1 = (typed.slots 5).within 1 step_field (lit< tt) in omega (arith, there)
+
+-- properties that are numbered against the order of their fields
+numbered_backwards : (p : Pointer) → Typed (program_with (record (ramp_class 2) { slots = meta_slot ∷ int_slot (codes "out") false ∷ int_slot (codes "step") true ∷ [] } ∷ []) (int_property 5 (codes "step") 2 1 ∷ int_property 5 (codes "out") 1 0 ∷ []) p) → ⊥
+numbered_backwards p typed = let rises : 2 < 1 = (typed.slots 5).in_order 0 (lit< tt) in omega (arith, rises)
+
+-- fields of a class before those of an earlier one
+fields_backwards : (p : Pointer) → Typed (record (ramp p) { fields = step_field ∷ out_field ∷ meta_field ∷ [] }) → ⊥
+fields_backwards p typed =
+    let by_class : ◌≡◌ {A = List Field} (meta_field ∷ step_field ∷ out_field ∷ []) (step_field ∷ out_field ∷ meta_field ∷ []) = typed.fields_by_class in
+    let same : 2 ≡ 5 = ap first_class by_class in
+    omega (arith, same)
+  where
+    first_class : List Field → ℕ
+    first_class [] = 0
+    first_class (f ∷ fs) = f.class.0
+
 -- a first value of another type
 begun_as_bool : (p : Pointer) → Typed (with_fields (record step_field { initial = kept.Bool 1 } ∷ out_field ∷ []) p) → ⊥
 unfolding with_fields

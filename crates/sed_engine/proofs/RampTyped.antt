@@ -1,6 +1,7 @@
 -- The program of the ramp is typed, so its code is whole.
 use Rattle.std.proofs.Common.{◌≡◌, pos, ◌<◌, ◌≤◌, ◌==◌, ℕ, zero, suc, Bool, true, false, [], ◌∷◌, List, map, Some, None, refl, ap, lit<, lit≤, arith, cond, ◌+◌, ◌∙◌, codes}
 use Rattle.std.specs.Prelude.{length, All, IfSome, IsSomeAnd, IsTrue, count_by, slice_get}
+use Rattle.std.specs.List.Sorted.{IsStrictlyIncreasing}
 use Rattle.sed_value.specs.Names.{is_kit_name}
 use Rattle.std.proofs.lemmas.Bool.Decides.{nat_tests}
 use Rattle.std.proofs.lemmas.List.Sums.{count_by-le-length, sum_by-cons}
@@ -18,7 +19,7 @@ use Rattle.sed_typed.specs.declared.statement.Stmt.{Stmt}
 use Rattle.sed_typed.specs.Classes.{base_of, find, fields, slots as slots_of, method_name}
 use Rattle.sed_typed.specs.SysMembers.{HasSysMembers}
 use Rattle.sed_typed.specs.SysTypes.{HasSysTypes, virtual_type}
-use Rattle.sed_typed.specs.TypedSchema.{HasKits, IsClass, HasSlot, HasSlots, IsField, HasMembers, Overrides, LiesDeeper, is_below_sys, types_of, types_at}
+use Rattle.sed_typed.specs.TypedSchema.{HasKits, IsClass, HasSlot, HasSlots, IsAdded, added_slots, IsField, HasMembers, Overrides, LiesDeeper, is_below_sys, types_of, types_at}
 use Rattle.sed_typed.specs.Typed.{Typed, IsMethod, IsBody, IsStorable, HasBodies, IsText}
 use Rattle.sed_engine.specs.declared.call.Root.TheVariants.{Execute}
 use Rattle.sed_engine.specs.Asked.{MayAsk}
@@ -28,7 +29,7 @@ use Rattle.sed_engine.specs.Whole.{EndsWell, IsWhole}
 use Rattle.sed_engine.proofs.Building.{Pointer}
 use Rattle.sed_engine.proofs.FieldLists.{of_fields}
 use Rattle.sed_engine.proofs.TypedCodes.{whole_of}
-use Rattle.sed_engine.proofs.MemberNames.{all_of, distinct, once_each, named_once, names_new, names_apart}
+use Rattle.sed_engine.proofs.MemberNames.{Each, all_of, distinct, once_each, named_once, names_new, names_apart}
 use Rattle.sed_engine.proofs.Ramp.{nothing, adding, void_method, changed_method, meta_field, step_field, out_field, ramp}
 
 -- ---- kits
@@ -194,13 +195,27 @@ slot_names : (p : Pointer) (class : ℕ) → distinct (map (λ (s : SlotInfo). s
     (name : List ℕ) → count_by (λ s. bytes_eq s.name name) (slots_of (ramp p).schema.classes class) ≤ 1
 slot_names p class h = named_once (λ (s : SlotInfo). s.name) (slots_of (ramp p).schema.classes class) h
 
+adds : (p : Pointer) (class : ℕ) → Each (λ s. IsAdded (ramp p) class s s.form) (added_slots (ramp p).schema.classes class) → All (λ s. IsAdded (ramp p) class s s.form) (added_slots (ramp p).schema.classes class)
+adds p class h = all_of (λ (s : SlotInfo). IsAdded (ramp p) class s s.form) (added_slots (ramp p).schema.classes class) h
+
+-- at most two numbers that rise
+pub none_rise : IsStrictlyIncreasing []
+none_rise k h = let none : k + 1 < 0 = h in absurd (omega (arith, none))
+
+pub one_rises : (m : ℕ) → IsStrictlyIncreasing (m ∷ [])
+one_rises m k h = let one : k + 1 < 1 = h in absurd (omega (arith, one))
+
+two_rise : (m n : ℕ) → m < n → IsStrictlyIncreasing (m ∷ n ∷ [])
+two_rise m n below zero h = below
+two_rise m n below (suc k) h = let two : suc k + 1 < 2 = h in absurd (omega (arith, two))
+
 has_slots : (p : Pointer) (class : ℕ) → IfSome (slice_get (ramp p).schema.classes class) (HasSlots (ramp p) class)
-has_slots p zero = record { each = each_slot p 0; names = slot_names p 0 refl; components = none_below; within = all_of (InSlots 0) (fields (ramp p) 0) tt }
-has_slots p (suc zero) = record { each = each_slot p 1; names = slot_names p 1 refl; components = none_below; within = all_of (InSlots 0) (fields (ramp p) 1) tt }
-has_slots p (suc (suc zero)) = record { each = each_slot p 2; names = slot_names p 2 refl; components = λ h. refl; within = all_of (InSlots 1) (fields (ramp p) 2) (lit< tt, tt) }
-has_slots p (suc (suc (suc zero))) = record { each = each_slot p 3; names = slot_names p 3 refl; components = λ h. refl; within = all_of (InSlots 2) (fields (ramp p) 3) (lit< tt, tt) }
-has_slots p (suc (suc (suc (suc zero)))) = record { each = each_slot p 4; names = slot_names p 4 refl; components = λ h. refl; within = all_of (InSlots 1) (fields (ramp p) 4) (lit< tt, tt) }
-has_slots p (suc (suc (suc (suc (suc zero))))) = record { each = each_slot p 5; names = slot_names p 5 refl; components = λ h. refl; within = all_of (InSlots 3) (fields (ramp p) 5) (lit< tt, (lit< tt, (lit< tt, tt))) }
+has_slots p zero = record { each = each_slot p 0; names = slot_names p 0 refl; added = adds p 0 tt; in_order = none_rise; components = none_below; within = all_of (InSlots 0) (fields (ramp p) 0) tt }
+has_slots p (suc zero) = record { each = each_slot p 1; names = slot_names p 1 refl; added = adds p 1 tt; in_order = none_rise; components = none_below; within = all_of (InSlots 0) (fields (ramp p) 1) tt }
+has_slots p (suc (suc zero)) = record { each = each_slot p 2; names = slot_names p 2 refl; added = adds p 2 (tt, tt); in_order = one_rises 0; components = λ h. refl; within = all_of (InSlots 1) (fields (ramp p) 2) (lit< tt, tt) }
+has_slots p (suc (suc (suc zero))) = record { each = each_slot p 3; names = slot_names p 3 refl; added = adds p 3 ((refl, refl), tt); in_order = none_rise; components = λ h. refl; within = all_of (InSlots 2) (fields (ramp p) 3) (lit< tt, tt) }
+has_slots p (suc (suc (suc (suc zero)))) = record { each = each_slot p 4; names = slot_names p 4 refl; added = adds p 4 tt; in_order = none_rise; components = λ h. refl; within = all_of (InSlots 1) (fields (ramp p) 4) (lit< tt, tt) }
+has_slots p (suc (suc (suc (suc (suc zero))))) = record { each = each_slot p 5; names = slot_names p 5 refl; added = adds p 5 (tt, (tt, tt)); in_order = two_rise 1 2 (lit< tt); components = λ h. refl; within = all_of (InSlots 3) (fields (ramp p) 5) (lit< tt, (lit< tt, (lit< tt, tt))) }
 has_slots p (suc (suc (suc (suc (suc (suc n)))))) = tt
 
 -- ---- what `sys` declares
@@ -427,6 +442,7 @@ ramp_is_typed p = record {
   members = members p;
   sys = sys_is p;
   fields = fields_are p;
+  fields_by_class = refl;
   statics = all_of (IsField (ramp p)) [] tt;
   statics_apart = all_of (λ (f : Field). f.slot ≡ None) [] tt;
   texts_once = named_once (λ (t : List ℕ). t) [] refl;

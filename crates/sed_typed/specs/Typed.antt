@@ -1,6 +1,6 @@
 -- Typed programs.
 use Rattle.std.specs.Prelude.{ℕ, ◌≡◌, ◌≤◌, ◌<◌, ◌+◌, true, false, IsTrue, All, IfSome, IsSomeAnd, if◌then◌else◌, List, [], ◌∷◌, ◌++◌, count_by, length, map, nat_lt, slice_get, sum_by, None}
-use Rattle.std.specs.List.{list_all}
+use Rattle.std.specs.List.{flat_map, list_all, range_with_len}
 use Rattle.std.specs.Option.{option_map_or}
 use Rattle.std.specs.Str.{bytes_eq}
 use Rattle.sed_typed.specs.declared.kind.Kind.{Kind}
@@ -8,7 +8,7 @@ use Rattle.sed_typed.specs.declared.kind.Kind.TheVariants as kind
 use Rattle.sed_typed.specs.declared.program.Method.{Method}
 use Rattle.sed_typed.specs.declared.program.Program.{Program}
 use Rattle.sed_typed.specs.declared.statement.Stmt.{Stmt}
-use Rattle.sed_typed.specs.Classes.{fields as fields_of, find, method_name}
+use Rattle.sed_typed.specs.Classes.{declared_fields, fields as fields_of, find, method_name}
 use Rattle.sed_typed.specs.Sizes.{form_size, data_size}
 use Rattle.sed_typed.specs.TypedSchema.{HasKits, IsClass, HasSlots, IsField, LiesDeeper, HasMembers, is_abstract, is_below_sys}
 use Rattle.sed_typed.specs.SysTypes.{virtual_type}
@@ -77,6 +77,8 @@ pub record Typed (program : Program) : Type 0 where
   pub members : (class : ℕ) → class < length program.schema.classes → HasMembers program class
   pub sys : (class : ℕ) → IfSome (slice_get program.schema.classes class) (λ info. info.kit ≡ 0 → HasSysMembers program class info)
   pub fields : All (IsField program) program.fields
+  -- those of a class stand together, in the order of the classes
+  pub fields_by_class : flat_map (declared_fields program.fields) (range_with_len 0 (length program.schema.classes)) ≡ program.fields
   pub statics : All (IsField program) program.statics
   pub statics_apart : All (λ f. f.slot ≡ None) program.statics
   -- texts with the same characters are one

@@ -1,7 +1,8 @@
 -- What a typed program's schema, classes and members keep.
-use Rattle.std.specs.Prelude.{ℕ, ◌≡◌, ◌≢◌, ◌==◌, ◌&&◌, ◌||◌, ◌+◌, ◌<◌, ◌≤◌, Bool, true, false, IsTrue, All, IfSome, IsSomeAnd, List, [], ◌∷◌, ◌++◌, length, count_by, filter, slice_get, sum_by, Some, None, codes}
+use Rattle.std.specs.Prelude.{ℕ, ◌≡◌, ◌≢◌, ◌==◌, ◌&&◌, ◌||◌, ◌+◌, ◌<◌, ◌≤◌, Bool, true, false, IsTrue, All, IfSome, IsSome, IsSomeAnd, List, [], ◌∷◌, ◌++◌, length, count_by, drop, filter, filter_map, slice_get, sum_by, Some, None, codes}
 use Rattle.std.specs.List.{list_any}
-use Rattle.std.specs.Option.{option_and_then, option_map_or}
+use Rattle.std.specs.List.Sorted.{IsStrictlyIncreasing}
+use Rattle.std.specs.Option.{option_and_then, option_map, option_map_or}
 use Rattle.std.specs.Str.{bytes_eq}
 use Rattle.sed_value.specs.Names.{is_kit_name}
 use Rattle.sed_value.specs.Value.{is_of_type}
@@ -23,7 +24,7 @@ use Rattle.sed_typed.specs.declared.schema.Schema.{Schema}
 use Rattle.sed_typed.specs.declared.schema.SlotForm.{SlotForm}
 use Rattle.sed_typed.specs.declared.schema.SlotForm.TheVariants.{Prop, Action}
 use Rattle.sed_typed.specs.declared.schema.SlotInfo.{SlotInfo}
-use Rattle.sed_typed.specs.Classes.{base_of, lineage, slots as slots_of, fields as fields_of, find}
+use Rattle.sed_typed.specs.Classes.{base_of, declared_fields, declared_method, lineage, slots as slots_of, fields as fields_of, find}
 use Rattle.sed_typed.specs.Sizes.{data_size, config_size, runtime_size}
 use Rattle.sed_typed.specs.Schemas.{type_at}
 use Rattle.sed_typed.specs.SysTypes.{HasSysTypes, component_type, app_type}
@@ -120,9 +121,31 @@ HasSlot program class n s (Prop t) = (f : Field) × (filter (in_slot n) (fields_
 HasSlot program class n s (Action a) =
     (filter (in_slot n) (fields_of program class) ≡ []) × IsSomeAnd (find program class s.name) (λ m. IsSomeAnd (slice_get program.methods m) (IsAction a)) × (s.config ≡ false)
 
+-- the slots that a class adds to those of its base
+abbrev pub added_slots : List ClassInfo → ℕ → List SlotInfo
+added_slots classes class = drop (option_map_or (λ base. length (slots_of classes base)) (base_of classes class) 0) (slots_of classes class)
+
+-- A method that a class itself declares, and its base has none of that name.
+abbrev pub IsNewMethod : Program → ℕ → List ℕ → Type 0
+IsNewMethod program class name =
+    IsSome (declared_method program.methods name class) × IfSome (base_of program.schema.classes class) (λ base. find program base name ≡ None)
+
+-- A slot that a class adds. A property has a field that the class itself declares, since those of the base have slots of the
+-- base (`within`).
+abbrev pub IsAdded : Program → ℕ → SlotInfo → SlotForm → Type 0
+IsAdded program class s (Prop t) = Unit {0}
+IsAdded program class s (Action a) = IsNewMethod program class s.name
+
+-- the slots of those fields that are properties
+abbrev pub property_slots : List Field → List ℕ
+property_slots fields = filter_map (λ f. option_map (λ s. s.0) f.slot) fields
+
 pub record HasSlots (program : Program) (class : ℕ) (info : ClassInfo) : Type 0 where
   pub each : (n : ℕ) → IfSome (slice_get info.slots n) (λ s. HasSlot program class n s s.form)
   pub names : (name : List ℕ) → count_by (λ s. bytes_eq s.name name) info.slots ≤ 1
+  pub added : All (λ s. IsAdded program class s s.form) (added_slots program.schema.classes class)
+  -- the properties that a class declares have their numbers in the order of its fields
+  pub in_order : IsStrictlyIncreasing (property_slots (declared_fields program.fields class))
   pub components : 0 < length info.slots → info.is_component ≡ true
   pub within : All (λ f. IfSome f.slot (λ s. s.0 < length info.slots)) (fields_of program class)
 
