@@ -4,9 +4,13 @@ use Rattle.sed_value.specs.declared.slot_type.Primitive.TheVariants as prim
 use Rattle.sed_value.specs.declared.value.Value.TheVariants as kept
 use Rattle.sed_typed.specs.declared.kind.Kind.{Kind}
 use Rattle.sed_typed.specs.declared.kind.Kind.TheVariants as kind
+use Rattle.sed_typed.specs.declared.operators.Arithmetic.{Arithmetic}
 use Rattle.sed_typed.specs.declared.operators.Arithmetic.TheVariants as op
 use Rattle.sed_typed.specs.declared.operators.Binary.TheVariants as binary
+use Rattle.sed_typed.specs.declared.operators.Gives.{Gives}
+use Rattle.sed_typed.specs.declared.operators.Gives.TheVariants.{New, Old}
 use Rattle.sed_typed.specs.declared.operators.Unary.TheVariants as unary
+use Rattle.sed_typed.specs.declared.operators.Width.{Width}
 use Rattle.sed_typed.specs.declared.operators.Width.TheVariants as width
 use Rattle.sed_typed.specs.declared.program.FieldForm.{FieldForm}
 use Rattle.sed_typed.specs.declared.program.FieldForm.TheVariants as form
@@ -14,13 +18,15 @@ use Rattle.sed_typed.specs.declared.program.Program.{Program}
 use Rattle.sed_typed.specs.declared.tree.Expr.{Expr}
 use Rattle.sed_typed.specs.declared.tree.Expr.TheVariants as expr
 use Rattle.sed_typed.specs.declared.tree.Link.TheVariants as link
+use Rattle.sed_typed.specs.declared.tree.Place.{Place}
+use Rattle.sed_typed.specs.declared.tree.Place.TheVariants as place
 use Rattle.sed_typed.specs.Depth.{depth_of}
 use Rattle.sed_typed.specs.Kinds.{kind_of}
 use Rattle.sed_typed.specs.Typed.{IsMethod}
 use Rattle.sed_typed.specs.TypedExpr.{Context, IsExpr, GoesTo, IsStaticCall, IsInvocation, IsSuperCall}
 use Rattle.sed_typed.specs.TypedSchema.{IsField}
 use Rattle.sed_typed.specs.TypedStmt.{IsReturned}
-use Rattle.sed_engine.proofs.Building.{Pointer, int, chain, by, this, field, int_field, simple}
+use Rattle.sed_engine.proofs.Building.{Pointer, int, chain, by, this, own_place, field, int_field, simple}
 use Rattle.sed_engine.proofs.Ramp.{nothing, void_method, ramp}
 
 -- in an instance method of the ramp, and in a static one, that gives this kind
@@ -68,6 +74,38 @@ byte_of_long_is_int p = refl
 byte_of_long_depth : (p : Pointer) → depth_of (byte_of_long p) ≡ 1
 unfolding byte_of_long
 byte_of_long_depth p = refl
+
+-- out++, where `out` is field 2, and i-- of a long local
+update : Arithmetic → Gives → Width → Place → Pointer → Expr → Expr
+update op gives width target p e = expr.Update' (record { arithmetic = op; width = width; gives = gives }) target p e
+
+step_up : (p : Pointer) → IsExpr (in_method false kind.Void p) (update op.Add Old width.Int (own_place p prim.Int 2) p (int 1))
+unfolding in_method update
+step_up p = (((refl, refl), refl), refl, refl, refl, refl)
+
+step_down : (p : Pointer) → IsExpr (record (in_method false kind.Void p) { locals = kind.Object (record { 0 = 5 }) ∷ kind.Long ∷ [] }) (update op.Subtract Old width.Long (place.Local kind.Long 1) p (expr.Long (pos 1)))
+unfolding in_method update
+step_down p = ((refl, λ e i. let never : ⊥ = cc in never), refl, refl, refl, refl)
+
+-- out *= 2 gives the new value; no form of the source gives the old one of a product, or of a sum with 2
+product : (p : Pointer) → IsExpr (in_method false kind.Void p) (update op.Multiply New width.Int (own_place p prim.Int 2) p (int 2))
+unfolding in_method update
+product p = (((refl, refl), refl), refl, refl, refl, tt)
+
+old_of_product : (p : Pointer) → IsExpr (in_method false kind.Void p) (update op.Multiply Old width.Int (own_place p prim.Int 2) p (int 1)) → ⊥
+unfolding update
+old_of_product p h = h.4
+
+old_of_sum_with_2 : (p : Pointer) → IsExpr (in_method false kind.Void p) (update op.Add Old width.Int (own_place p prim.Int 2) p (int 2)) → ⊥
+unfolding update
+old_of_sum_with_2 p h =
+    let one : int 2 ≡ int 1 = h.4 in
+    let same : 2 ≡ 1 = ap int_of one in
+    omega (arith, same)
+  where
+    int_of : Expr → ℕ
+    int_of (expr.Int (pos n)) = n
+    int_of e = 0
 
 -- this.a[0] and this.b.size, of an array of 3 bytes and a Buf(4), which are fields 2 and 3
 with_parts : Pointer → Program

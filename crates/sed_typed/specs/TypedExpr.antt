@@ -1,19 +1,22 @@
 -- What typed expressions keep: each has the kind that the rules give for its form.
-use Rattle.std.specs.Prelude.{ℕ, ◌≡◌, ◌≢◌, ◌<◌, ◌≤◌, Bool, true, false, IsTrue, IsSomeAnd, List, [], ◌∷◌, length, slice_get, Option, Some, None}
+use Rattle.std.specs.Prelude.{ℕ, pos, ◌≡◌, ◌≢◌, ◌<◌, ◌≤◌, Bool, true, false, IsTrue, IsSomeAnd, List, [], ◌∷◌, length, slice_get, Option, Some, None}
 use Rattle.std.specs.Int.{w32, w64}
 use Rattle.std.specs.Option.{option_map, option_and_then}
 use Rattle.sed_value.specs.Value.{is_signed}
 use Rattle.sed_typed.specs.declared.kind.Kind.{Kind}
 use Rattle.sed_typed.specs.declared.kind.Kind.TheVariants as kind
 use Rattle.sed_typed.specs.declared.operators.Arithmetic.{Arithmetic}
-use Rattle.sed_typed.specs.declared.operators.Arithmetic.TheVariants.{ShiftLeft, ShiftRight}
+use Rattle.sed_typed.specs.declared.operators.Arithmetic.TheVariants.{Add, Subtract, ShiftLeft, ShiftRight}
 use Rattle.sed_typed.specs.declared.operators.Binary.{Binary}
 use Rattle.sed_typed.specs.declared.operators.Binary.TheVariants as binary
+use Rattle.sed_typed.specs.declared.operators.Gives.{Gives}
+use Rattle.sed_typed.specs.declared.operators.Gives.TheVariants.{Old, New}
 use Rattle.sed_typed.specs.declared.operators.TextCall.{TextCall}
 use Rattle.sed_typed.specs.declared.operators.TextCall.TheVariants as text
 use Rattle.sed_typed.specs.declared.operators.Unary.{Unary}
 use Rattle.sed_typed.specs.declared.operators.Unary.TheVariants as unary
 use Rattle.sed_typed.specs.declared.operators.Width.{Width}
+use Rattle.sed_typed.specs.declared.operators.Width.TheVariants as width
 use Rattle.sed_typed.specs.declared.program.FieldForm.{FieldForm}
 use Rattle.sed_typed.specs.declared.program.FieldForm.TheVariants as form
 use Rattle.sed_typed.specs.declared.program.Method.{Method}
@@ -103,6 +106,18 @@ right_kind ShiftLeft w = kind.Int
 right_kind ShiftRight w = kind.Int
 right_kind op w = width_kind w
 
+-- the 1 of a width
+abbrev pub one_of : Width → Expr
+one_of width.Int = expr.Int (pos 1)
+one_of width.Long = expr.Long (pos 1)
+
+-- an assignment that computes gives the value before only as `x++` and `x--` do, which add 1 or take it off
+abbrev pub MayGive : Gives → Arithmetic → Width → Expr → Type 0
+MayGive New op w e = Unit {0}
+MayGive Old Add w e = e ≡ one_of w
+MayGive Old Subtract w e = e ≡ one_of w
+MayGive Old op w e = ⊥
+
 abbrev pub AreOperands : Binary → Kind → Kind → Type 0
 AreOperands (binary.Arithmetic op w) a b = (a ≡ width_kind w) × (b ≡ right_kind op w)
 AreOperands (binary.Compare op w) a b = (a ≡ width_kind w) × (b ≡ width_kind w)
@@ -165,7 +180,7 @@ abbrev mutual
   IsExpr c (expr.Unary' op p e) = IsExpr c e × (kind_of e ≡ operand_kind op)
   IsExpr c (expr.Choose' p t q a r b) = IsExpr c t × IsExpr c a × IsExpr c b × (kind_of t ≡ kind.Bool) × (kind_of a ≡ kind_of b)
   IsExpr c (expr.Set' target p e) = IsPlace c target × IsExpr c e × GoesTo c.program (kind_of e) (place_kind target)
-  IsExpr c (expr.Update' u target p e) = IsPlace c target × IsExpr c e × (place_kind target ≡ width_kind u.width) × (kind_of e ≡ right_kind u.arithmetic u.width)
+  IsExpr c (expr.Update' u target p e) = IsPlace c target × IsExpr c e × (place_kind target ≡ width_kind u.width) × (kind_of e ≡ right_kind u.arithmetic u.width) × MayGive u.gives u.arithmetic u.width e
   IsExpr c (expr.Call' k m shape args) = AreExprs c args × IsStaticCall c.program m k (kinds_of args)
   IsExpr c (expr.Super' k m shape args) = AreExprs c args × (c.is_static ≡ false) × IsSuperCall c.program c.class m k (kinds_of args)
   IsExpr c (expr.Chain' p e shape links) = IsExpr c e × AreLinks c (kind_of e) links
