@@ -1,0 +1,11 @@
+pub mod AckMore
+pub mod Field
+pub mod Header
+pub mod Kind
+pub mod Message
+pub mod Noting
+pub mod Reading
+pub mod Sending
+pub mod Shown
+pub mod View
+pub mod Writing
