@@ -1,0 +1,4 @@
+pub mod Again
+pub mod StmtAgain
+pub mod Least
+pub mod Told

@@ -1,0 +1,6 @@
+pub mod Term
+pub mod Sorts
+pub mod Seen
+pub mod TypedTerm
+pub mod TypedStmtTerm
+pub mod Faults

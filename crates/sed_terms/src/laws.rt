@@ -1,0 +1,39 @@
+//! Laws of terms and of faults. Each is the contract of a function that does nothing.
+ghost use Rattle.std.specs.Prelude.{◌≡◌, List, ◌++◌, Option};
+ghost use Rattle.sed_typed.specs.declared.statement.Stmt.{Stmt};
+ghost use Rattle.sed_typed.specs.declared.tree.Expr.{Expr};
+ghost use Rattle.sed_typed.specs.declared.tree.Place.{Place};
+ghost use Rattle.sed_typed.specs.Kinds.{kind_of, place_kind};
+ghost use Rattle.sed_typed.specs.TypedExpr.{Context, IsExpr, IsPlace};
+ghost use Rattle.sed_typed.specs.TypedStmt.{Around, IsStmt};
+ghost use Rattle.sed_terms.specs.declared.judged.Fault.{Fault};
+ghost use Rattle.sed_terms.specs.declared.judged.Judged.{Judged};
+ghost use Rattle.sed_terms.specs.Faults as faults;
+ghost use Rattle.sed_terms.specs.Faults.{all_faults, least_fault, least, lesser, told};
+ghost use Rattle.sed_terms.specs.Seen.{term_of, place_term, stmt_term};
+ghost use Rattle.sed_terms.specs.Sorts.{term_kind};
+ghost use Rattle.sed_terms.specs.TypedTerm.{IsTerm, IsTermPlace};
+ghost use Rattle.sed_terms.specs.TypedStmtTerm.{IsStmtTerm};
+
+/// A tree has the kind of its term, and is typed where its term is.
+pub fn typed_terms_give_typed_trees()
+    ensures kind { (e : Expr) → kind_of e ≡ term_kind (term_of e) }
+    ensures place_kind { (p : Place) → place_kind p ≡ term_kind (place_term p) }
+    ensures expression { (c : Context) (e : Expr) → IsTerm c (term_of e) → IsExpr c e }
+    ensures place { (c : Context) (p : Place) → IsTermPlace c (place_term p) → IsPlace c p }
+    ensures statement { (c : Context) (around : Around) (s : Stmt) → IsStmtTerm c around (stmt_term s) → IsStmt c around s }
+{}
+
+/// The least of two lists together is the lesser one of their least.
+pub fn least_of_two_lists()
+    ensures { (xs ys : List Fault) → least (xs ++ ys) ≡ lesser (least xs) (least ys) }
+{}
+
+/// A rule that keeps the least fault where one that keeps all does so too finds the same.
+pub fn rules_keep_the_least<A, B, C>()
+    ensures one { (x : Judged A (List Fault)) (all : A → Judged C (List Fault)) (least : A → Judged C (Option Fault)) →
+        ((a : A) → told (all a) ≡ least a) → told (faults.after x all) ≡ faults.after (told x) least }
+    ensures two { (x : Judged A (List Fault)) (y : Judged B (List Fault)) (all : A → B → Judged C (List Fault)) (least : A → B → Judged C (Option Fault)) →
+        ((a : A) (b : B) → told (all a b) ≡ least a b) →
+        told (faults.joined all_faults x y all) ≡ faults.joined least_fault (told x) (told y) least }
+{}
