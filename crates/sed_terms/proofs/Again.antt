@@ -4,6 +4,8 @@ use Rattle.std.specs.Option.{option_and_then}
 use mathlib.Core.Former.{Count}
 use Rattle.sed_typed.specs.declared.kind.Kind.{Kind}
 use Rattle.sed_typed.specs.declared.operators.Binary.{Binary}
+use Rattle.sed_typed.specs.declared.operators.Gives.{Gives}
+use Rattle.sed_typed.specs.declared.operators.Gives.TheVariants.{Old, New}
 use Rattle.sed_typed.specs.declared.program.Program.{Program}
 use Rattle.sed_typed.specs.declared.tree.Expr.{Expr, Row_of-Expr, end_of-Expr, more_of-Expr, Row_of-Link, end_of-Link, more_of-Link}
 use Rattle.sed_typed.specs.declared.tree.Expr.TheVariants as expr
@@ -15,8 +17,22 @@ use Rattle.sed_typed.specs.Kinds.{kind_of, place_kind, link_kind, kind_after}
 use Rattle.sed_typed.specs.TypedExpr.{Context, GoesTo, IsExpr, IsPlace, IsLink, AreLinks, AreExprs, AreOperands, IsBuf, IsStaticCall, IsInvocation, IsSuperCall, field_form, part_kind, object_class, kinds_of}
 use Rattle.sed_terms.specs.Term.{Term}
 use Rattle.sed_terms.specs.Sorts.{term_kind, term_kinds}
-use Rattle.sed_terms.specs.Seen.{term_of, place_term, link_term, term_after, args_term}
+use Rattle.sed_terms.specs.Seen.{term_of, place_term, operand_term, link_term, term_after, args_term}
 use Rattle.sed_terms.specs.TypedTerm.{IsTerm, IsTermPlace, AreTerms}
+
+-- ---- the operand of an assignment that computes
+
+pub operand_kind_again : (g : Gives) (e : Expr) (t : Term) → term_kind (operand_term g e t) ≡ term_kind t
+operand_kind_again New e t = refl
+operand_kind_again Old (expr.Int n) t = refl
+operand_kind_again Old (expr.Long n) t = refl
+operand_kind_again Old e t = refl
+
+operand_front : (c : Context) (g : Gives) (e : Expr) (t : Term) → IsTerm c (operand_term g e t) → IsTerm c t
+operand_front c New e t h = h
+operand_front c Old (expr.Int n) t h = h
+operand_front c Old (expr.Long n) t h = h
+operand_front c Old e t h = absurd h
 
 -- ---- what stands before a link
 
@@ -130,8 +146,12 @@ mutual
       (expr_again c t h.0, expr_again c a h.1, expr_again c b h.2, sym (kind_again t) ∙ h.3, sym (kind_again a) ∙ h.4 ∙ kind_again b)
   expr_again c (expr.Set' target p e) h =
       (place_again c target h.0, expr_again c e h.1, goes_again c.program (kind_again e) (place_kind_again target) h.2)
-  expr_again c (expr.Update' u target p e) h =
-      (place_again c target h.0, expr_again c e h.1, sym (place_kind_again target) ∙ h.2, sym (kind_again e) ∙ h.3)
+  expr_again c (expr.Update' u target p e) h = (
+    place_again c target h.0,
+    expr_again c e (operand_front c u.gives e (term_of e) h.1),
+    sym (place_kind_again target) ∙ h.2,
+    sym (operand_kind_again u.gives e (term_of e) ∙ kind_again e) ∙ h.3,
+  )
   expr_again c (expr.Call' k m shape args) h = (exprs_again c args h.0, static_again c.program m k (kinds_again args) h.1)
   expr_again c (expr.Super' k m shape args) h = (exprs_again c args h.0, h.1, super_again c.program c.class m k (kinds_again args) h.2)
   expr_again c (expr.Chain' p e shape links) h =

@@ -1,4 +1,5 @@
 pub mod Again
 pub mod StmtAgain
+pub mod Depths
 pub mod Least
 pub mod Told

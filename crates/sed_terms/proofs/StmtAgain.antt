@@ -21,7 +21,7 @@ use Rattle.sed_terms.proofs.Again.{kind_again, expr_again, goes_again}
 
 -- ---- the term of an expression is a node
 
-abbrev IsNode : Term → Type 0
+abbrev pub IsNode : Term → Type 0
 IsNode Absent = ⊥
 IsNode (Node s a b) = Unit {0}
 
@@ -42,7 +42,7 @@ after_node : {n : Count} (t : Term) (ls : Row_of-Link n) → IsNode t → IsNode
 after_node t end_of-Link h = h
 after_node t (more_of-Link l ls) h = after_node (link_term t l) ls (link_node t l)
 
-is_node : (e : Expr) → IsNode (term_of e)
+pub is_node : (e : Expr) → IsNode (term_of e)
 is_node (expr.Chain' p e shape links) = after_node (term_of e) links (is_node e)
 is_node (expr.StaticElement' p n i q e) = tt
 is_node (expr.Unary' op p e) = tt

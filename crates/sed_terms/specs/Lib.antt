@@ -3,4 +3,5 @@ pub mod Sorts
 pub mod Seen
 pub mod TypedTerm
 pub mod TypedStmtTerm
+pub mod TermDepth
 pub mod Faults

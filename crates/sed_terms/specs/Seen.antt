@@ -1,5 +1,7 @@
 -- The term of an expression, a place or a statement.
 use Rattle.std.specs.Prelude.{List, [], ◌∷◌, Option, Some, None}
+use Rattle.sed_typed.specs.declared.operators.Gives.{Gives}
+use Rattle.sed_typed.specs.declared.operators.Gives.TheVariants.{Old, New}
 use Rattle.sed_typed.specs.declared.statement.Label.{Label}
 use Rattle.sed_typed.specs.declared.statement.Stmt.{Stmt, Row_of-Stmt, end_of-Stmt, more_of-Stmt}
 use Rattle.sed_typed.specs.declared.statement.Stmt.TheVariants as stmt
@@ -11,6 +13,17 @@ use Rattle.sed_typed.specs.declared.tree.Place.{Place}
 use Rattle.sed_typed.specs.declared.tree.Place.TheVariants as place
 use Rattle.sed_terms.specs.declared.sign.Sign.TheVariants as sign
 use Rattle.sed_terms.specs.Term.{Term, Absent, Node, leaf}
+
+-- The operand of an assignment that computes. That of `x++` and `x--` is a number that the source does not write: there one that
+-- is no literal is no term of its own.
+abbrev pub literal_operand : Expr → Term → Term
+literal_operand (expr.Int n) t = t
+literal_operand (expr.Long n) t = t
+literal_operand e t = Node sign.Pair t Absent
+
+abbrev pub operand_term : Gives → Expr → Term → Term
+operand_term Old e t = literal_operand e t
+operand_term New e t = t
 
 -- a place is seen as the expression that reads it
 abbrev mutual
@@ -29,7 +42,7 @@ abbrev mutual
   term_of (expr.Unary' op p e) = Node (sign.Unary op) (term_of e) Absent
   term_of (expr.Choose' p t q a r b) = Node sign.Choose (term_of t) (Node sign.Pair (term_of a) (term_of b))
   term_of (expr.Set' target p e) = Node sign.Set (place_term target) (term_of e)
-  term_of (expr.Update' u target p e) = Node (sign.Update u) (place_term target) (term_of e)
+  term_of (expr.Update' u target p e) = Node (sign.Update u) (place_term target) (operand_term u.gives e (term_of e))
   term_of (expr.Call' k m shape args) = Node (sign.Call k m) (args_term args) Absent
   term_of (expr.Super' k m shape args) = Node (sign.Super k m) (args_term args) Absent
   term_of (expr.Chain' p e shape links) = term_after (term_of e) links

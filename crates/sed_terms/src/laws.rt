@@ -3,7 +3,9 @@ ghost use Rattle.std.specs.Prelude.{◌≡◌, List, ◌++◌, Option};
 ghost use Rattle.sed_typed.specs.declared.statement.Stmt.{Stmt};
 ghost use Rattle.sed_typed.specs.declared.tree.Expr.{Expr};
 ghost use Rattle.sed_typed.specs.declared.tree.Place.{Place};
+ghost use Rattle.sed_typed.specs.Depth.{body_depth, depth_of};
 ghost use Rattle.sed_typed.specs.Kinds.{kind_of, place_kind};
+ghost use Rattle.sed_typed.specs.Locals.{declared_in};
 ghost use Rattle.sed_typed.specs.TypedExpr.{Context, IsExpr, IsPlace};
 ghost use Rattle.sed_typed.specs.TypedStmt.{Around, IsStmt};
 ghost use Rattle.sed_terms.specs.declared.judged.Fault.{Fault};
@@ -12,6 +14,7 @@ ghost use Rattle.sed_terms.specs.Faults as faults;
 ghost use Rattle.sed_terms.specs.Faults.{all_faults, least_fault, least, lesser, told};
 ghost use Rattle.sed_terms.specs.Seen.{term_of, place_term, stmt_term};
 ghost use Rattle.sed_terms.specs.Sorts.{term_kind};
+ghost use Rattle.sed_terms.specs.TermDepth.{body_term_depth, declared_term, term_depth};
 ghost use Rattle.sed_terms.specs.TypedTerm.{IsTerm, IsTermPlace};
 ghost use Rattle.sed_terms.specs.TypedStmtTerm.{IsStmtTerm};
 
@@ -22,6 +25,13 @@ pub fn typed_terms_give_typed_trees()
     ensures expression { (c : Context) (e : Expr) → IsTerm c (term_of e) → IsExpr c e }
     ensures place { (c : Context) (p : Place) → IsTermPlace c (place_term p) → IsPlace c p }
     ensures statement { (c : Context) (around : Around) (s : Stmt) → IsStmtTerm c around (stmt_term s) → IsStmt c around s }
+{}
+
+/// A tree nests as deep as its term, and declares the same locals.
+pub fn trees_nest_as_their_terms()
+    ensures expression { (e : Expr) → depth_of e ≡ term_depth (term_of e) }
+    ensures body { (s : Stmt) → body_depth s ≡ body_term_depth (stmt_term s) }
+    ensures locals { (s : Stmt) → declared_in s ≡ declared_term (stmt_term s) }
 {}
 
 /// The least of two lists together is the lesser one of their least.

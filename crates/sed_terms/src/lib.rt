@@ -12,6 +12,9 @@ pub mod sign;
 pub mod sort;
 
 pub use judged::{Fault, Judged};
-pub use laws::{least_of_two_lists, rules_keep_the_least, typed_terms_give_typed_trees};
+pub use laws::{
+    least_of_two_lists, rules_keep_the_least, trees_nest_as_their_terms,
+    typed_terms_give_typed_trees,
+};
 pub use sign::Sign;
 pub use sort::Sort;
