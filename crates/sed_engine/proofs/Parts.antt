@@ -17,17 +17,19 @@ use Rattle.sed_typed.specs.Objects.{form_class, field_class, object_class}
 use Rattle.sed_typed.specs.Typed.{Typed}
 use Rattle.sed_typed.specs.TypedExpr.{part_kind, field_form, static_form}
 use Rattle.sed_engine.specs.Values.{Val, Null, At, Statics, Spot}
-use Rattle.sed_engine.specs.State.{State, gives, then_do}
+use Rattle.sed_engine.specs.State.{State, then_do}
+use Rattle.sed_engine.specs.Stops.{there}
 use Rattle.sed_engine.specs.Steps.{inside}
 use Rattle.sed_engine.specs.Places.{Target, OfLocal, OfStatic, OfField, OfElement, OfStaticElement, static_spot, field_spot, element_spot, field_element, fetch, put}
 use Rattle.sed_engine.specs.Texts.{index_of}
 use Rattle.sed_engine.specs.Fits.{form_at, form_below}
 use Rattle.sed_engine.specs.Program.{shape_of}
-use Rattle.sed_engine.specs.Expressions.{class_from}
+use Rattle.sed_engine.specs.Expressions.{Calls, Setting, class_from, class_of, part_at}
 use Rattle.sed_engine.proofs.Below.{Itself, absent, field_below}
 use Rattle.sed_engine.proofs.FirstPaths.{shapes_of}
 use Rattle.sed_engine.proofs.Kinded.{form_from, HasKind, IsObject, index_is}
-use Rattle.sed_engine.proofs.Ready.{Ready, Frame, Holds, then_holds, gives_it, answers_it, read_holds, write_holds, read_local_holds, write_local_holds}
+use Rattle.sed_engine.proofs.Ranges.{Sound}
+use Rattle.sed_engine.proofs.Ready.{Ready, Frame, Holds, then_holds, gives_it, answers_it, read_holds, read_str_holds, write_holds, read_local_holds, write_local_holds}
 use Rattle.sed_engine.proofs.Spots.{Concrete, form_at_is, form_further, class_further, form_in_object}
 
 -- what stands at a place: a form, and an object's class
@@ -72,23 +74,14 @@ static_there program class i f e =
       class_is = class_there program (field_class (slice_get program.statics i)) ∙ ap field_class x.1 ∙ ap form_class x.2;
     }
 
--- a part is a value of its kind
-pub part_is : (program : Program) (class : ℕ) (spot : Spot) (f : FieldForm) (k : Kind) → StandsAt program class spot f → part_kind f ≡ Some k → HasKind program class k (At spot)
-part_is program class spot (form.Object t) k s e = subst (λ (x : Kind). HasKind program class x (At spot)) (same_Some (kind.Object t) k e) (record { at = t.0; is = s.class_is; below = Itself })
-part_is program class spot (form.Str n) k s e = subst (λ (x : Kind). HasKind program class x (At spot)) (same_Some kind.Text k e) (n, s.form)
-part_is program class spot (form.Prim p) k s e = absent k e
-part_is program class spot (form.Buf n) k s e = absent k e
-part_is program class spot (form.Array p n) k s e = absent k e
-
 -- a form that stands inside what a kind is
 some_form : (o : Option FieldForm) (g : FieldForm → Option Kind) (k : Kind) → option_and_then g o ≡ Some k → (f : FieldForm) × (o ≡ Some f) × (g f ≡ Some k)
 some_form None g k e = absent k e
 some_form (Some f) g k e = (f, refl, e)
 
-pub static_part_is : (program : Program) (class i : ℕ) (k : Kind) → option_and_then part_kind (static_form program i) ≡ Some k → HasKind program class k (At (static_spot i))
-static_part_is program class i k e =
-    let f : (f : FieldForm) × (static_form program i ≡ Some f) × (part_kind f ≡ Some k) = some_form (static_form program i) part_kind k e in
-    part_is program class (static_spot i) f.0 k (static_there program class i f.0 f.1) f.2
+class_known : (o : Option ℕ) (c : ℕ) → o ≡ Some c → Sound (λ _. Unit {0}) (there o)
+class_known None c e = absent c e
+class_known (Some n) c e = tt
 
 module _ (program : Program) (typed : Typed program) (class : ℕ) (component : Concrete program class) (m : Frame) where
   abbrev pub G : State → Type 0
@@ -97,17 +90,37 @@ module _ (program : Program) (typed : Typed program) (class : ℕ) (component : 
   abbrev Has : Kind → Val → Type 0
   Has k v = HasKind program class k v
 
+  abbrev w : Calls → Setting
+  w calls = record { program = program; class = class; calls = calls }
+
   -- a field of an object
   pub field_holds : (d : TypeNo) (v : Val) (i : ℕ) (f : FieldForm) → Has (kind.Object d) v → field_form program (kind.Object d) i ≡ Some f → Holds G Spot (λ spot. StandsAt program class spot f) (field_spot v i)
   field_holds d Null i f h e = record { holds = λ s g. (g, tt) }
   field_holds d (At spot) i f h e = record { holds = λ s g. (g, field_there program typed class d.0 spot i f h e) }
   field_holds d v i f h e = absurd h
 
-  pub part_holds : (k : Kind) (v : Val) (i : ℕ) (part : Kind) → Has k v → option_and_then part_kind (field_form program k i) ≡ Some part → Holds G Val (Has part) (λ s. then_do (field_spot v i s) (λ spot s1. gives (At spot) s1))
-  part_holds (kind.Object d) v i part h e =
+  -- a part stands at its place, and is a value of its kind
+  part_at_holds : (calls : Calls) (spot : Spot) (f : FieldForm) (k : Kind) → StandsAt program class spot f → part_kind f ≡ Some k → Holds G Val (Has k) (part_at (w calls) k spot)
+  part_at_holds calls spot (form.Object t) k s e =
+      subst (λ (x : Kind). Holds G Val (Has x) (part_at (w calls) x spot)) (same_Some (kind.Object t) k e)
+      (then_holds (answers_it (there (class_of (w calls) spot)) (class_known (class_of (w calls) spot) t.0 s.class_is)) (λ _ _. gives_it (At spot) (record { at = t.0; is = s.class_is; below = Itself })))
+  part_at_holds calls spot (form.Str n) k s e =
+      subst (λ (x : Kind). Holds G Val (Has x) (part_at (w calls) x spot)) (same_Some kind.Text k e)
+      (then_holds (read_str_holds program typed class component m spot n s.form) (λ _ _. gives_it (At spot) (n, s.form)))
+  part_at_holds calls spot (form.Prim p) k s e = absent k e
+  part_at_holds calls spot (form.Buf n) k s e = absent k e
+  part_at_holds calls spot (form.Array p n) k s e = absent k e
+
+  pub part_holds : (calls : Calls) (k : Kind) (v : Val) (i : ℕ) (part : Kind) → Has k v → option_and_then part_kind (field_form program k i) ≡ Some part → Holds G Val (Has part) (λ s. then_do (field_spot v i s) (λ spot s1. part_at (w calls) part spot s1))
+  part_holds calls (kind.Object d) v i part h e =
       let f : (f : FieldForm) × (field_form program (kind.Object d) i ≡ Some f) × (part_kind f ≡ Some part) = some_form (field_form program (kind.Object d) i) part_kind part e in
-      then_holds (field_holds d v i f.0 h f.1) (λ spot s. gives_it (At spot) (part_is program class spot f.0 part s f.2))
-  part_holds k v i part h e = absent part e
+      then_holds (field_holds d v i f.0 h f.1) (λ spot s. part_at_holds calls spot f.0 part s f.2)
+  part_holds calls k v i part h e = absent part e
+
+  pub static_part_holds : (calls : Calls) (i : ℕ) (k : Kind) → option_and_then part_kind (static_form program i) ≡ Some k → Holds G Val (Has k) (part_at (w calls) k (static_spot i))
+  static_part_holds calls i k e =
+      let f : (f : FieldForm) × (static_form program i ≡ Some f) × (part_kind f ≡ Some k) = some_form (static_form program i) part_kind k e in
+      part_at_holds calls (static_spot i) f.0 k (static_there program class i f.0 f.1) f.2
 
   -- an element of an array
   element_at : (spot : Spot) (p : Primitive) (n i : ℕ) → form_from program class spot.base spot.path ≡ Some (form.Array p n) → nat_lt i n ≡ true → form_from program class spot.base (spot.path ++ i ∷ []) ≡ Some (form.Prim p)

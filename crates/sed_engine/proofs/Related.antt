@@ -4,6 +4,7 @@ use Rattle.sed_value.specs.declared.slot_type.Primitive.{Primitive}
 use Rattle.sed_value.specs.declared.value.Value.{Value}
 use Rattle.sed_value.specs.declared.value.Value.TheVariants as kept
 use Rattle.sed_typed.specs.declared.kind.Kind.{Kind}
+use Rattle.sed_typed.specs.declared.kind.Kind.TheVariants as kind
 use Rattle.sed_typed.specs.declared.operators.TextCall.{TextCall}
 use Rattle.sed_typed.specs.declared.operators.TextCall.TheVariants as text
 use Rattle.sed_typed.specs.declared.operators.Width.TheVariants as width
@@ -21,7 +22,7 @@ use Rattle.sed_engine.specs.Texts.{index_of, with_character}
 use Rattle.sed_engine.specs.State.{State, End, gives, answers, then_do}
 use Rattle.sed_engine.specs.Steps.{inside, choose, load, store, read_spot, write_spot, read_bytes, write_bytes, with_local, read_local, read_this, write_local, read_moment, take_turn}
 use Rattle.sed_engine.specs.Places.{Target, OfLocal, OfStatic, OfField, OfElement, OfStaticElement, static_spot, field_spot, element_spot, field_element, fetch, put}
-use Rattle.sed_engine.specs.Expressions.{Setting, back, put_all, new_frame, frame_of, call, call_static, call_super, invoke, method_for, text_bytes, changeable, operand, text_call, buf_bytes, in_chain, eval, locate, meaning, evals, meanings}
+use Rattle.sed_engine.specs.Expressions.{Setting, back, put_all, new_frame, frame_of, call, call_static, call_super, invoke, class_of, part_at, method_for, text_bytes, changeable, operand, text_call, buf_bytes, in_chain, eval, locate, meaning, evals, meanings}
 use Rattle.sed_engine.specs.Statements.{Flow, Next, Break, Continue, Return, Round, Again, Over, Answer, follows, in_order, after_body, round, do_round, rounds, label_of, eval_or, exec, execs}
 
 data AllHave (R : (A : Type 0) → (State → End A) → Type 0) (A : Type 0) : List (State → End A) → Type 0 where
@@ -120,6 +121,11 @@ module _ (R : (A : Type 0) → (State → End A) → Type 0) (w : Setting) (c : 
   of_put (OfElement p count o i index) v = c.follow (of_field_element count o i index) (λ spot. of_write_spot p spot v)
   of_put (OfStaticElement p count i index) v = c.follow (of_element count (static_spot i) index) (λ spot. of_write_spot p spot v)
 
+  of_part : (k : Kind) (spot : Spot) → R Val (part_at w k spot)
+  of_part kind.Text spot = c.follow (of_read_bytes spot) (λ bytes. give _)
+  of_part (kind.Object class) spot = c.follow (c.answer (there (class_of w spot))) (λ class. give _)
+  of_part k spot = c.answer _
+
   of_text_bytes : (v : Val) → R (List ℕ) (text_bytes w v)
   of_text_bytes Nothing = c.follow (c.answer (spot_of Nothing)) of_read_bytes
   of_text_bytes (Truth t) = c.follow (c.answer (spot_of (Truth t))) of_read_bytes
@@ -149,7 +155,7 @@ module _ (R : (A : Type 0) → (State → End A) → Type 0) (w : Setting) (c : 
     of_expr (expr.This class) = of_this
     of_expr (expr.Local kind i) = of_read_local kind i
     of_expr (expr.Static p i) = of_read_spot (static_spot i)
-    of_expr (expr.StaticPart kind i) = give _
+    of_expr (expr.StaticPart k i) = of_part k (static_spot i)
     of_expr (expr.StaticElement' p count i q e) = c.follow (of_expr e) (λ index. c.follow (of_element count (static_spot i) index) of_read_spot)
     of_expr expr.Ticks = c.of_moment
     of_expr (expr.Unary' op p e) = c.follow (of_expr e) (λ v. c.answer _)
@@ -172,7 +178,7 @@ module _ (R : (A : Type 0) → (State → End A) → Type 0) (w : Setting) (c : 
     of_link (link.And e) v = of_choose v (c.follow (of_expr e) (λ x. c.answer _)) (give _)
     of_link (link.Or e) v = of_choose v (give _) (c.follow (of_expr e) (λ x. c.answer _))
     of_link (link.Field p i) v = c.follow (of_field v i) of_read_spot
-    of_link (link.Part kind i) v = c.follow (of_field v i) (λ spot. give _)
+    of_link (link.Part k i) v = c.follow (of_field v i) (of_part k)
     of_link (link.Element p count i e) v = c.follow (of_expr e) (λ index. c.follow (of_field_element count v i index) of_read_spot)
     of_link (link.Size i) v = c.follow (of_buf_bytes v i) (λ bytes. give _)
     of_link (link.Byte i e) v = c.follow (of_expr e) (λ index. c.follow (of_buf_bytes v i) (λ bytes. c.follow (c.answer _) (λ at. give _)))

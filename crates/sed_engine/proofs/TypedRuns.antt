@@ -27,7 +27,7 @@ use Rattle.sed_engine.specs.Expressions.{Setting, Calls, in_chain, eval, locate,
 use Rattle.sed_engine.proofs.Below.{absent}
 use Rattle.sed_engine.proofs.CallSteps.{CallsSound, weaker, ArgsHold, NoArgs, OneArg, static_holds, super_holds, invoke_holds}
 use Rattle.sed_engine.proofs.Kinded.{HasKind, IsObject, goes, binary_is, unary_is, arithmetic_is, truth_is, truth_of_met}
-use Rattle.sed_engine.proofs.Parts.{TargetHas, field_holds, part_holds, field_element_holds, static_element_holds, static_there, static_part_is, fetch_holds, put_holds}
+use Rattle.sed_engine.proofs.Parts.{TargetHas, field_holds, part_holds, field_element_holds, static_element_holds, static_there, static_part_holds, fetch_holds, put_holds}
 use Rattle.sed_engine.proofs.Ready.{Ready, Frame, Holds, then_holds, gives_it, answers_it, chooses, read_holds, read_local_holds, this_holds, moment_holds}
 use Rattle.sed_engine.proofs.Spots.{Concrete}
 use Rattle.sed_engine.proofs.TextSteps.{text_call_holds, size_holds, byte_holds}
@@ -78,7 +78,7 @@ module _ (program : Program) (typed : Typed program) (class : ℕ) (component : 
     of_expr (expr.This d) t = weaker (this_holds program typed class component m t.0) (λ v h. self_is d v t.1 h)
     of_expr (expr.Local k i) t = read_local_holds program typed class component m i k t
     of_expr (expr.Static p i) t = read_holds program typed class component m (static_spot i) p (static_there program class i (form.Prim p) t).form
-    of_expr (expr.StaticPart k i) t = gives_it (At (static_spot i)) (static_part_is program class i k t)
+    of_expr (expr.StaticPart k i) t = static_part_holds program typed class component m calls i k t
     of_expr (expr.StaticElement' p n i q e) t =
         then_holds (of_expr e t.1) (λ x hx. then_holds (static_element_holds program typed class component m p n i x t.0 (subst (λ k. Has k x) t.2 hx)) (λ spot s. read_holds program typed class component m spot p s))
     of_expr expr.Ticks t = moment_holds program typed class component m
@@ -113,7 +113,7 @@ module _ (program : Program) (typed : Typed program) (class : ℕ) (component : 
     of_link (link.Or e) k t v h =
         chooses program class v (subst (λ k. Has k v) t.1 h) (gives_it (truth true) (truth_is program class true)) (then_holds (of_expr e t.0) (λ x hx. answers_it (map_ok truth (is_met x)) (truth_of_met program class x (subst (λ k. Has k x) t.2 hx))))
     of_link (link.Field p i) k t v h = of_field k v i p h t
-    of_link (link.Part part i) k t v h = part_holds program typed class component m k v i part h t
+    of_link (link.Part part i) k t v h = part_holds program typed class component m calls k v i part h t
     of_link (link.Element p n i e) k t v h =
         then_holds (of_expr e t.1) (λ x hx. then_holds (field_element_holds program typed class component m k p n v i x h t.0 (subst (λ k. Has k x) t.2 hx)) (λ spot s. read_holds program typed class component m spot p s))
     of_link (link.Size i) k t v h = size_holds program typed class component m calls k v i h t

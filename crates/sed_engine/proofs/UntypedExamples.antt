@@ -77,6 +77,27 @@ int_text : (p : Pointer) → goes_wrong p (chain p (chain p this (link.Part kind
 unfolding calls_with
 int_text p = refl
 
+-- a part that is not there: a Str where an int stands, an object there, and an int, which is no part; and so of the statics
+no_text_part : (p : Pointer) → body_goes_wrong p (stmt.Do (chain p this (link.Part kind.Text 1)))
+unfolding calls_with
+no_text_part p = refl
+
+no_object_part : (p : Pointer) → body_goes_wrong p (stmt.Do (chain p this (link.Part (kind.Object (record { 0 = 5 })) 1)))
+unfolding calls_with
+no_object_part p = refl
+
+no_int_part : (p : Pointer) → body_goes_wrong p (stmt.Do (chain p this (link.Part kind.Int 1)))
+unfolding calls_with
+no_int_part p = refl
+
+no_static_text : (p : Pointer) → body_goes_wrong p (stmt.Do (expr.StaticPart kind.Text 0))
+unfolding calls_with
+no_static_text p = refl
+
+no_static_object : (p : Pointer) → body_goes_wrong p (stmt.Do (expr.StaticPart (kind.Object (record { 0 = 5 })) 0))
+unfolding calls_with
+no_static_object p = refl
+
 -- a text that the program has not
 no_text : (p : Pointer) → goes_wrong p (chain p (expr.Text 1) (link.TextCall' text.Length (none p) end_of-Expr))
 unfolding calls_with

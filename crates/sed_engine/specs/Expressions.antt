@@ -2,6 +2,8 @@
 use Rattle.std.specs.Prelude.{ℕ, ◌+◌, ◌-◌, pos, true, false, List, [], ◌∷◌, length, replicate, slice_get, slice_index, slice_index_or, slice_set, Option, Result, Err}
 use Rattle.std.specs.Option.{option_and_then}
 use Rattle.std.specs.Str.{bytes_eq}
+use Rattle.sed_typed.specs.declared.kind.Kind.{Kind}
+use Rattle.sed_typed.specs.declared.kind.Kind.TheVariants as kind
 use Rattle.sed_typed.specs.declared.operators.TextCall.{TextCall as TextCall-type}
 use Rattle.sed_typed.specs.declared.operators.TextCall.TheVariants as text
 use Rattle.sed_typed.specs.declared.operators.Width.TheVariants as width
@@ -15,7 +17,7 @@ use Rattle.sed_typed.specs.declared.tree.Link.TheVariants as link
 use Rattle.sed_typed.specs.Classes.{find}
 use Rattle.sed_typed.specs.Objects.{class_at, static_class_at}
 use Rattle.sed_engine.specs.declared.trap.Trap.TheVariants.{OutOfRange}
-use Rattle.sed_engine.specs.Stops.{Stop, Traps, there, map_ok}
+use Rattle.sed_engine.specs.Stops.{Stop, Traps, Untyped, there, map_ok}
 use Rattle.sed_engine.specs.Values.{Val, Nothing, Truth, Int, Long, Null, At, Literal, Base, Component, Statics, Spot, whole, truth, is_met, spot_of}
 use Rattle.sed_engine.specs.Operators.{arithmetic_of, binary_of, unary_of, given}
 use Rattle.sed_engine.specs.State.{Shared, State, End, gives, answers, then_do}
@@ -73,6 +75,12 @@ class_from program class Statics path = static_class_at program path
 
 abbrev pub class_of : Setting → Spot → Option ℕ
 class_of w spot = class_from w.program w.class spot.base spot.path
+
+-- an inline object or Str, which stands at the place
+abbrev pub part_at : Setting → Kind → Spot → State → End Val
+part_at w kind.Text spot s = then_do (read_bytes spot s) (λ _ s1. gives (At spot) s1)
+part_at w (kind.Object class) spot s = then_do (answers (there (class_of w spot)) s) (λ _ s1. gives (At spot) s1)
+part_at w k spot s = answers (Err Untyped) s
 
 -- the method of this name that is nearest at or above the class of the object
 abbrev pub method_for : Setting → Spot → ℕ → Result ℕ Stop
@@ -135,7 +143,7 @@ abbrev mutual
   eval w (expr.This class) s = read_this s
   eval w (expr.Local kind i) s = read_local kind i s
   eval w (expr.Static p i) s = read_spot (static_spot i) s
-  eval w (expr.StaticPart kind i) s = gives (At (static_spot i)) s
+  eval w (expr.StaticPart kind i) s = part_at w kind (static_spot i) s
   eval w (expr.StaticElement' p count i q e) s = then_do (eval w e s) (λ index s1. then_do (element_spot count (static_spot i) index s1) (λ spot s2. read_spot spot s2))
   eval w expr.Ticks s = read_moment s
   eval w (expr.Unary' op p e) s = then_do (eval w e s) (λ v s1. answers (unary_of op v) s1)
@@ -161,7 +169,7 @@ abbrev mutual
   meaning w (link.And e) v s = choose v (λ s1. then_do (eval w e s1) (λ x s2. answers (map_ok truth (is_met x)) s2)) (gives (truth false)) s
   meaning w (link.Or e) v s = choose v (gives (truth true)) (λ s1. then_do (eval w e s1) (λ x s2. answers (map_ok truth (is_met x)) s2)) s
   meaning w (link.Field p i) v s = then_do (field_spot v i s) (λ spot s1. read_spot spot s1)
-  meaning w (link.Part kind i) v s = then_do (field_spot v i s) (λ spot s1. gives (At spot) s1)
+  meaning w (link.Part kind i) v s = then_do (field_spot v i s) (λ spot s1. part_at w kind spot s1)
   meaning w (link.Element p count i e) v s = then_do (eval w e s) (λ index s1. then_do (field_element count v i index s1) (λ spot s2. read_spot spot s2))
   meaning w (link.Size i) v s = buf_size v i s
   meaning w (link.Byte i e) v s = then_do (eval w e s) (λ index s1. buf_byte v i index s1)
