@@ -217,7 +217,11 @@ action_overrides p typed =
     never
 
 -- a property that a class adds for a field of its base
-slot_for_inherited : (p : Pointer) → Typed (program_with (class_of 1 0 (codes "Base") (based_on 2) false true 8 (meta_slot ∷ []) ∷ class_of 1 1 (codes "Ramp") (based_on 5) false true 8 (meta_slot ∷ int_slot (codes "step") true ∷ []) ∷ []) (step_field ∷ []) p) → ⊥
+with_inherited : Pointer → Program
+with_inherited p = record (program_with (class_of 1 0 (codes "Base") (based_on 2) false true 8 (meta_slot ∷ []) ∷ class_of 1 1 (codes "Ramp") (based_on 5) false true 8 (meta_slot ∷ int_slot (codes "step") true ∷ []) ∷ []) (step_field ∷ []) p) { methods = sys_methods_in 2 3 p }
+
+slot_for_inherited : (p : Pointer) → Typed (with_inherited p) → ⊥
+unfolding with_inherited
 slot_for_inherited p typed = let there : 1 < 1 = (typed.slots 5).within 1 step_field (lit< tt) in omega (arith, there)
 
 -- properties that are numbered against the order of their fields
