@@ -1,11 +1,15 @@
 -- An expression is typed where its term is.
-use Rattle.std.proofs.Common.{◌≡◌, ℕ, List, ◌∷◌, refl, ap, sym, ◌∙◌, subst}
+use Rattle.std.proofs.Common.{◌≡◌, ℕ, ℤ, pos, List, ◌∷◌, refl, ap, sym, ◌∙◌, subst}
 use Rattle.std.specs.Option.{option_and_then}
 use mathlib.Core.Former.{Count}
 use Rattle.sed_typed.specs.declared.kind.Kind.{Kind}
+use Rattle.sed_typed.specs.declared.operators.Arithmetic.{Arithmetic}
+use Rattle.sed_typed.specs.declared.operators.Arithmetic.TheVariants as arithmetic
 use Rattle.sed_typed.specs.declared.operators.Binary.{Binary}
 use Rattle.sed_typed.specs.declared.operators.Gives.{Gives}
 use Rattle.sed_typed.specs.declared.operators.Gives.TheVariants.{Old, New}
+use Rattle.sed_typed.specs.declared.operators.Width.{Width}
+use Rattle.sed_typed.specs.declared.operators.Width.TheVariants as width
 use Rattle.sed_typed.specs.declared.program.Program.{Program}
 use Rattle.sed_typed.specs.declared.tree.Expr.{Expr, Row_of-Expr, end_of-Expr, more_of-Expr, Row_of-Link, end_of-Link, more_of-Link}
 use Rattle.sed_typed.specs.declared.tree.Expr.TheVariants as expr
@@ -14,11 +18,13 @@ use Rattle.sed_typed.specs.declared.tree.Link.TheVariants as link
 use Rattle.sed_typed.specs.declared.tree.Place.{Place}
 use Rattle.sed_typed.specs.declared.tree.Place.TheVariants as place
 use Rattle.sed_typed.specs.Kinds.{kind_of, place_kind, link_kind, kind_after}
-use Rattle.sed_typed.specs.TypedExpr.{Context, GoesTo, IsExpr, IsPlace, IsLink, AreLinks, AreExprs, AreOperands, IsBuf, IsStaticCall, IsInvocation, IsSuperCall, field_form, part_kind, object_class, kinds_of}
-use Rattle.sed_terms.specs.Term.{Term}
+use Rattle.sed_typed.specs.TypedExpr.{Context, GoesTo, IsExpr, IsPlace, IsLink, AreLinks, AreExprs, AreOperands, IsBuf, IsStaticCall, IsInvocation, IsSuperCall, MayGive, one_of, field_form, part_kind, object_class, kinds_of}
+use Rattle.sed_terms.specs.Term.{Term, Node}
+use Rattle.sed_terms.specs.declared.sign.Sign.TheVariants as sign
+use Rattle.sed_terms.specs.Ones.{one_in}
 use Rattle.sed_terms.specs.Sorts.{term_kind, term_kinds}
-use Rattle.sed_terms.specs.Seen.{term_of, place_term, operand_term, link_term, term_after, args_term}
-use Rattle.sed_terms.specs.TypedTerm.{IsTerm, IsTermPlace, AreTerms}
+use Rattle.sed_terms.specs.Seen.{term_of, place_term, literal_operand, operand_term, link_term, term_after, args_term}
+use Rattle.sed_terms.specs.TypedTerm.{IsTerm, IsTermPlace, AreTerms, TermMayGive}
 
 -- ---- the operand of an assignment that computes
 
@@ -33,6 +39,39 @@ operand_front c New e t h = h
 operand_front c Old (expr.Int n) t h = h
 operand_front c Old (expr.Long n) t h = h
 operand_front c Old e t h = absurd h
+
+-- what it gives
+
+abbrev int_in : Term → ℤ
+int_in (Node (sign.Int n) a b) = n
+int_in (Node (sign.Long n) a b) = n
+int_in t = pos 0
+
+abbrev IsInt : Term → Type 0
+IsInt (Node (sign.Int n) a b) = Unit {0}
+IsInt t = ⊥
+
+abbrev IsLong : Term → Type 0
+IsLong (Node (sign.Long n) a b) = Unit {0}
+IsLong t = ⊥
+
+is_int : (t : Term) → t ≡ one_in width.Int → IsInt t
+is_int t h = let u : IsInt (one_in width.Int) = tt in subst (λ (x : Term). IsInt x) (sym h) u
+
+is_long : (t : Term) → t ≡ one_in width.Long → IsLong t
+is_long t h = let u : IsLong (one_in width.Long) = tt in subst (λ (x : Term). IsLong x) (sym h) u
+
+one_again : (w : Width) (e : Expr) → literal_operand e (term_of e) ≡ one_in w → e ≡ one_of w
+one_again width.Int (expr.Int n) h = let q : n ≡ pos 1 = ap int_in h in ap expr.Int q
+one_again width.Int e h = absurd (is_int (literal_operand e (term_of e)) h)
+one_again width.Long (expr.Long n) h = let q : n ≡ pos 1 = ap int_in h in ap expr.Long q
+one_again width.Long e h = absurd (is_long (literal_operand e (term_of e)) h)
+
+gives_again : (g : Gives) (op : Arithmetic) (w : Width) (e : Expr) → TermMayGive g op w (operand_term g e (term_of e)) → MayGive g op w e
+gives_again New op w e h = tt
+gives_again Old arithmetic.Add w e h = one_again w e h
+gives_again Old arithmetic.Subtract w e h = one_again w e h
+gives_again Old op w e h = absurd h
 
 -- ---- what stands before a link
 
@@ -151,6 +190,7 @@ mutual
     expr_again c e (operand_front c u.gives e (term_of e) h.1),
     sym (place_kind_again target) ∙ h.2,
     sym (operand_kind_again u.gives e (term_of e) ∙ kind_again e) ∙ h.3,
+    gives_again u.gives u.arithmetic u.width e h.4,
   )
   expr_again c (expr.Call' k m shape args) h = (exprs_again c args h.0, static_again c.program m k (kinds_again args) h.1)
   expr_again c (expr.Super' k m shape args) h = (exprs_again c args h.0, h.1, super_again c.program c.class m k (kinds_again args) h.2)

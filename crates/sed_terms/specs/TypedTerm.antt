@@ -4,12 +4,25 @@ use Rattle.std.specs.Int.{w32, w64}
 use Rattle.std.specs.Option.{option_and_then}
 use Rattle.sed_value.specs.Value.{is_signed}
 use Rattle.sed_typed.specs.declared.kind.Kind.TheVariants as kind
+use Rattle.sed_typed.specs.declared.operators.Arithmetic.{Arithmetic}
+use Rattle.sed_typed.specs.declared.operators.Arithmetic.TheVariants.{Add, Subtract}
+use Rattle.sed_typed.specs.declared.operators.Gives.{Gives}
+use Rattle.sed_typed.specs.declared.operators.Gives.TheVariants.{Old, New}
+use Rattle.sed_typed.specs.declared.operators.Width.{Width}
 use Rattle.sed_typed.specs.declared.program.FieldForm.TheVariants as form
 use Rattle.sed_typed.specs.Kinds.{width_kind}
 use Rattle.sed_typed.specs.TypedExpr.{Context, IsKindOf, IsReference, GoesTo, object_class, part_kind, field_form, static_form, IsBuf, operand_kind, right_kind, AreOperands, text_kinds, IsStaticCall, IsInvocation, IsSuperCall, IsNoReceiver}
 use Rattle.sed_terms.specs.declared.sign.Sign.TheVariants as sign
 use Rattle.sed_terms.specs.Term.{Term, Absent, Node}
+use Rattle.sed_terms.specs.Ones.{one_in}
 use Rattle.sed_terms.specs.Sorts.{term_kind, term_kinds}
+
+-- an assignment that computes gives the value before only as `x++` and `x--` do, which add 1 or take it off
+abbrev pub TermMayGive : Gives → Arithmetic → Width → Term → Type 0
+TermMayGive New op w t = Unit {0}
+TermMayGive Old Add w t = t ≡ one_in w
+TermMayGive Old Subtract w t = t ≡ one_in w
+TermMayGive Old op w t = ⊥
 
 abbrev mutual
   pub IsTerm : Context → Term → Type 0
@@ -29,6 +42,7 @@ abbrev mutual
   IsTerm c (Node sign.Set target e) = IsTermPlace c target × IsTerm c e × GoesTo c.program (term_kind e) (term_kind target)
   IsTerm c (Node (sign.Update u) target e) =
       IsTermPlace c target × IsTerm c e × (term_kind target ≡ width_kind u.width) × (term_kind e ≡ right_kind u.arithmetic u.width)
+      × TermMayGive u.gives u.arithmetic u.width e
   IsTerm c (Node (sign.Call k m) args b) = AreTerms c args × IsStaticCall c.program m k (term_kinds args)
   IsTerm c (Node (sign.Super k m) args b) = AreTerms c args × (c.is_static ≡ false) × IsSuperCall c.program c.class m k (term_kinds args)
   -- what follows an operand
