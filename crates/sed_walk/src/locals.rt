@@ -1,0 +1,56 @@
+//! The locals of a frame.
+ghost use Rattle.std.specs.Prelude.{◌≡◌, ℕ, map, replicate, slice_get, slice_set, OnErr};
+ghost use Rattle.sed_engine.specs.Stops.{there, map_ok, and_then};
+ghost use Rattle.sed_engine.specs.Steps.{with_local};
+ghost use Rattle.sed_engine.specs.Values as val;
+ghost use Rattle.sed_engine.specs.Expressions.{frame_of as new_frame_of};
+ghost use Rattle.sed_cells.specs.Places.{Plan as Planned};
+ghost use Rattle.sed_walk.specs.Seen.{seen, ends, framed};
+
+use crate::word::{Stop, Word};
+use sed_typed::Kind;
+
+/// How many locals a frame has room for: a receiver and 64 locals.
+pub const FRAME: usize = 65;
+
+/// The frame of a method on a receiver.
+pub fn frame_of(receiver: Word) -> [Word; FRAME]
+    ensures { (plan : Planned) (class : ℕ) → map (seen plan class) result ≡ new_frame_of (seen plan class receiver) }
+{
+    let mut frame = [Word::Nothing; FRAME];
+    frame[0] = receiver;
+    frame
+}
+
+/// The value of a local, which is 0, false or null where it is not begun.
+pub fn read(locals: &[Word], kind: Kind, number: usize) -> Result<Word, Stop>
+    ensures { (plan : Planned) (class : ℕ) → ends plan class result ≡ map_ok (λ v. val.begun kind v) (there (slice_get (map (seen plan class) locals.now) number)) }
+{
+    match locals.get(number) {
+        Some(word) => Ok(word.begun(kind)),
+        None => Err(Stop::Untyped),
+    }
+}
+
+/// The receiver, which stands in local 0.
+pub fn this(locals: &[Word]) -> Result<Word, Stop>
+    ensures { (plan : Planned) (class : ℕ) → ends plan class result ≡ and_then (there (slice_get (map (seen plan class) locals.now) 0)) val.receiver }
+{
+    match locals.get(0) {
+        Some(word) => word.receiver(),
+        None => Err(Stop::Untyped),
+    }
+}
+
+/// Puts a value into a local.
+pub fn write(locals: &mut [Word], number: usize, value: Word) -> Result<(), Stop>
+    ensures end { (plan : Planned) (class : ℕ) → framed plan class result locals.new ≡ with_local (map (seen plan class) locals.old) number (seen plan class value) }
+    ensures kept { OnErr result (locals.new ≡ locals.old) }
+{
+    if number < locals.len() {
+        locals[number] = value;
+        Ok(())
+    } else {
+        Err(Stop::Untyped)
+    }
+}
