@@ -52,7 +52,7 @@ impl Model for Layout {
 
 impl Layout {
     /// The layout of what stands at the top. `Memory` comes also where objects lie inside one another
-    /// deeper than there are classes, which no typed program's do.
+    /// deeper than there are classes.
     pub fn of(alloc: Global, program: &Program, top: Stands) -> Result<Layout, Memory>
         ensures { IfOk result (λ layout. IsLayout program.now top layout) }
     {
