@@ -8,8 +8,8 @@ use std::fs::{OpenFile, OpenOptions};
 use std::os::unix::fs::FileExt;
 use std::{io, rt};
 
-/// One file of the system, under the name that was attached last. It counts its faults and tells nothing else. Before a
-/// name is attached each call fails.
+/// One file of the system, under the name that was attached last. It counts its faults and tells nothing else. Where no
+/// name is attached, at first and after an attach that failed, each call fails.
 #[derive(Drop)]
 pub struct FileDisk<'a, R: rt::Files> {
     rt: &'a R,
@@ -17,10 +17,13 @@ pub struct FileDisk<'a, R: rt::Files> {
     faults: u64,
 }
 
-impl<'a, R: rt::Files> FileDisk<'a, R> {
+impl<'a, R: rt::Files> FileDisk<'a, R>
+where
+    R::File: FileExt,
+{
     /// No file yet, and no fault.
     pub fn new(rt: &'a R) -> FileDisk<'a, R>
-        ensures { result.faults ≡ 0 }
+        ensures { (⟦<FileDisk<'a, R> as Disk>⟧.meaning result).faults ≡ 0 }
     {
         FileDisk {
             rt,
@@ -94,6 +97,7 @@ where
     ghost is_disk = { λ d. system_is_disk d.faults };
 
     fn attach(&mut self, name: &str) -> Result<(), DiskFault> {
+        self.file = None;
         let file = answered(open_or_make(self.rt, name), &mut self.faults)?;
         self.file = Some(file);
         Ok(())
