@@ -6,12 +6,12 @@ use Rattle.disk_model.specs.Disk.{Image}
 use Rattle.disk_model.specs.Held.{Held}
 use Rattle.disk_model.specs.Written.{written}
 use Rattle.disk_model.specs.Replay.{Call, wrote, calls_by, State, begun, after, after_all}
-use Rattle.disk_model.specs.Recorded.{Tape, with_entry, IsTried, call_of, bytes_behind, calls_of, size_of, is_call, IsRecord}
+use Rattle.disk_model.specs.Recorded.{Tape, with_entry, with_mark, IsTried, call_of, bytes_behind, calls_of, size_of, is_call, IsRecord}
 use Rattle.disk_model.specs.declared.journal.Entry.{Entry}
 use Rattle.disk_model.specs.declared.journal.Entry.TheVariants.{Wrote, Synced, Other, Marked}
 use Rattle.disk_model.proofs.Steps.{after_push}
 
-behind_is : (log : List ℕ) (e : Entry) → bytes_behind log e ≡ drop (size_of e) log
+pub behind_is : (log : List ℕ) (e : Entry) → bytes_behind log e ≡ drop (size_of e) log
 behind_is log (Wrote at len) = refl
 behind_is log Synced = refl
 behind_is log Other = refl
@@ -133,10 +133,10 @@ pub write_entry : (first : Image) (file log name file_now log_now : Held) (befor
 write_entry first file log name file_now log_now before now at bytes is file_is log_is record_is =
     subst (λ (t : Tape). IsRecord first file_now log_now name t.entries) (sym is) (write_record first file log name before.entries at bytes file_now log_now file_is log_is record_is)
 
-mark_entry : (first : Image) (file log name : Held) (before now : Tape) (b : Bool) → before.is_marked ≡ b → (IsTrue before.is_marked → now ≡ before) → (before.is_marked ≡ false → now ≡ record { entries = before.entries ++ Marked ∷ []; is_marked = true })
+mark_entry : (first : Image) (file log name : Held) (before now : Tape) (b : Bool) → before.is_marked ≡ b → (IsTrue before.is_marked → now ≡ before) → (before.is_marked ≡ false → now ≡ with_mark before)
     → IsRecord first file log name before.entries → IsRecord first file log name now.entries
 mark_entry first file log name before now true b again fresh is = subst (λ (t : Tape). IsRecord first file log name t.entries) (sym (again b)) is
 mark_entry first file log name before now false b again fresh is = subst (λ (t : Tape). IsRecord first file log name t.entries) (sym (fresh b)) (quiet_record first file log name before.entries Marked marked_is_quiet is)
 
-pub marked_record : (first : Image) (file log name : Held) (before now : Tape) → (IsTrue before.is_marked → now ≡ before) → (before.is_marked ≡ false → now ≡ record { entries = before.entries ++ Marked ∷ []; is_marked = true }) → IsRecord first file log name before.entries → IsRecord first file log name now.entries
+pub marked_record : (first : Image) (file log name : Held) (before now : Tape) → (IsTrue before.is_marked → now ≡ before) → (before.is_marked ≡ false → now ≡ with_mark before) → IsRecord first file log name before.entries → IsRecord first file log name now.entries
 marked_record first file log name before now = mark_entry first file log name before now before.is_marked (Rattle.std.proofs.Common.refl)

@@ -1,4 +1,5 @@
 mod Entries
+mod Fits
 mod LeftSteps
 mod Rooms
 mod Steps

@@ -2,7 +2,7 @@
 use Rattle.std.proofs.Common.{◌≡◌, inl, inr, ℕ, Bool, true, false, IsTrue, if◌then◌else◌, List, length, ◌++◌, ◌∷◌, [], sum_by, drop, refl, ◌∙◌, ap}
 use Rattle.disk_model.specs.Disk.{Image, Meaning, Elapses, Keeps, MarksUp, SyncsUp}
 use Rattle.disk_model.specs.Replay.{Call, wrote, other, marked, History, replayed}
-use Rattle.disk_model.specs.Recorded.{Tape, with_entry, IsTried, call_of, calls_of, size_of}
+use Rattle.disk_model.specs.Recorded.{Tape, with_entry, with_mark, IsTried, call_of, calls_of, size_of}
 use Rattle.disk_model.specs.declared.journal.Entry.{Entry}
 use Rattle.disk_model.specs.declared.journal.Entry.TheVariants.{Wrote, Other, Marked}
 use Rattle.disk_model.specs.Held.{Held}
@@ -35,7 +35,7 @@ pub record Marks (old new : Meaning) (was_marked : Bool) : Type 0 where
   pub syncs : SyncsUp old new 0
 
 marks_of : (old new : History) (log : List ℕ) (before now : Tape) (b : Bool) → before.is_marked ≡ b → new.first ≡ old.first → calls_of log before.entries ≡ old.calls → new.calls ≡ calls_of log now.entries
-    → (IsTrue before.is_marked → now ≡ before) → (before.is_marked ≡ false → now ≡ record { entries = before.entries ++ Marked ∷ []; is_marked = true }) → Marks (replayed old) (replayed new) b
+    → (IsTrue before.is_marked → now ≡ before) → (before.is_marked ≡ false → now ≡ with_mark before) → Marks (replayed old) (replayed new) b
 marks_of old new log before now true b first was is again fresh =
     let idle = idle_none old new first (is ∙ ap (λ (t : Tape). calls_of log t.entries) (again b) ∙ was) in
     record { time = idle.time; keeps = idle.keeps; marks = idle.marks; syncs = idle.syncs }
@@ -49,5 +49,5 @@ marks_of old new log before now false b first was is again fresh =
     }
 
 pub marks_made : (old new : History) (log : List ℕ) (before now : Tape) → before.is_marked ≡ old.is_marked → new.first ≡ old.first → calls_of log before.entries ≡ old.calls → new.calls ≡ calls_of log now.entries
-    → (IsTrue before.is_marked → now ≡ before) → (before.is_marked ≡ false → now ≡ record { entries = before.entries ++ Marked ∷ []; is_marked = true }) → Marks (replayed old) (replayed new) old.is_marked
+    → (IsTrue before.is_marked → now ≡ before) → (before.is_marked ≡ false → now ≡ with_mark before) → Marks (replayed old) (replayed new) old.is_marked
 marks_made old new log before now same = marks_of old new log before now old.is_marked same

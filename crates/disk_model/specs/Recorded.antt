@@ -1,19 +1,24 @@
 -- The entries of a record, with the bytes of all writes one behind the other.
-use Rattle.std.specs.Prelude.{ℕ, ◌≡◌, ◌⊎◌, ◌≤◌, Bool, false, List, [], ◌∷◌, ◌++◌, length, take, drop, sum_by}
+use Rattle.std.specs.Prelude.{ℕ, ◌≡◌, ◌⊎◌, ◌≤◌, Bool, true, false, List, [], ◌∷◌, ◌++◌, length, take, drop, sum_by}
 use Rattle.disk_model.specs.Disk.{Image}
 use Rattle.disk_model.specs.Held.{Held}
 use Rattle.disk_model.specs.Replay.{Call, wrote, synced, other, marked, begun, after_all}
 use Rattle.disk_model.specs.declared.journal.Entry.{Entry}
 use Rattle.disk_model.specs.declared.journal.Entry.TheVariants.{Wrote, Synced, Other, Marked}
 
--- The entries so far, and whether a mark was made since the last call.
+-- The entries so far, whether a mark was made since the last call, and how many calls there may be.
 pub record Tape : Type 0 where
   pub entries : List Entry
   pub is_marked : Bool
+  pub limit : ℕ
 
 -- With one call more.
 abbrev pub with_entry : Tape → Entry → Tape
-with_entry tape entry = record { entries = tape.entries ++ entry ∷ []; is_marked = false }
+with_entry tape entry = record { entries = tape.entries ++ entry ∷ []; is_marked = false; limit = tape.limit }
+
+-- With a mark more.
+abbrev pub with_mark : Tape → Tape
+with_mark tape = record { entries = tape.entries ++ Marked ∷ []; is_marked = true; limit = tape.limit }
 
 -- With this call more, or as it was, where the record is full.
 abbrev pub IsTried : Tape → Tape → Entry → Type 0

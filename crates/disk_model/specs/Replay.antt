@@ -1,8 +1,9 @@
 -- A disk in memory: the calls that were made, and what they leave when they are replayed.
-use Rattle.std.specs.Prelude.{◌≡◌, ℕ, Bool, true, List, [], ◌∷◌, length, take, sum_by, Some, refl}
+use Rattle.std.specs.Prelude.{◌≡◌, ◌+◌, ◌<◌, ◌≤◌, ℕ, Bool, true, List, [], ◌∷◌, length, take, sum_by, Some, refl}
 use Rattle.std.proofs.Common.{sym, subst, arith}
 use Rattle.std.proofs.lemmas.List.{take_all}
 use Rattle.disk_model.specs.Disk.{Image, Torn, Attached, Meaning, IsDisk}
+use Rattle.sed_outside.specs.Failing.{Plan}
 use Rattle.disk_model.specs.Written.{written, torn_written}
 
 -- A recorded call, or a mark. A call that failed before it did anything is `other`, as is one that only asks.
@@ -24,6 +25,13 @@ marks_by (wrote at bytes) = 0
 marks_by synced = 0
 marks_by other = 0
 marks_by marked = 1
+
+-- The bytes that a call writes.
+abbrev pub bytes_by : Call → ℕ
+bytes_by (wrote at bytes) = length bytes
+bytes_by synced = 0
+bytes_by other = 0
+bytes_by marked = 0
 
 abbrev pub calls_by : Call → ℕ
 calls_by (wrote at bytes) = 1
@@ -67,6 +75,26 @@ pub record History : Type 0 where
   pub is_marked : Bool
   pub attached : Attached
   pub faults : ℕ
+
+-- What bounds a disk in memory: the size of its file and the bytes of all its writes, and the number of its calls.
+pub record Bounds : Type 0 where
+  pub room : ℕ
+  pub limit : ℕ
+
+-- A disk in memory: what it has been through, which calls fail by their number, and what bounds it.
+pub record InMemory : Type 0 where
+  pub history : History
+  pub plan : Plan
+  pub bounds : Bounds
+
+-- There is room for one call more.
+abbrev pub HasRoom : InMemory → Type 0
+HasRoom d = sum_by calls_by d.history.calls < d.bounds.limit
+
+-- There is room for so many bytes at this place, in the file and among all that was written.
+pub record HasBytes (d : InMemory) (at n : ℕ) : Type 0 where
+  pub file : at + n ≤ d.bounds.room
+  pub all : sum_by bytes_by d.history.calls + n ≤ d.bounds.room
 
 abbrev pub state_of : History → State
 state_of h = after_all (begun h.first) h.calls

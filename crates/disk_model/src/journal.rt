@@ -1,7 +1,7 @@
 //! The record of a disk's calls, in a room that is taken once.
-ghost use Rattle.std.specs.Prelude.{◌≡◌, ◌++◌, [], ◌∷◌, true, false, IfOk, IsTrue, sum_by, if◌then◌else◌};
+ghost use Rattle.std.specs.Prelude.{◌≡◌, ◌<◌, ◌↔◌, ◌++◌, [], ◌∷◌, true, false, IfOk, IsTrue, sum_by, if◌then◌else◌};
 ghost use Rattle.std.specs.Bool.{OnTrue, OnFalse};
-ghost use Rattle.disk_model.specs.Recorded.{is_call, with_entry};
+ghost use Rattle.disk_model.specs.Recorded.{is_call, with_entry, with_mark};
 
 use sed_value::Memory;
 use std::alloc::Global;
@@ -32,7 +32,7 @@ impl Model for Journal {
 
     ghost Value = { Tape };
 
-    ghost view = { λ j. record { entries = j.entries.items; is_marked = j.is_marked } };
+    ghost view = { λ j. record { entries = j.entries.items; is_marked = j.is_marked; limit = j.limit } };
 
     ghost invariant = { λ j.
         (j.calls ≡ sum_by is_call j.entries.items)
@@ -47,7 +47,7 @@ const LARGEST_LIMIT: usize = 1 << 60;
 impl Journal {
     /// No calls, with room for so many.
     pub fn with_room(alloc: Global, limit: usize) -> Result<Journal, Memory>
-        ensures { IfOk result (λ j. j ≡ record { entries = []; is_marked = false }) }
+        ensures { IfOk result (λ j. j ≡ record { entries = []; is_marked = false; limit = limit }) }
     {
         if limit > LARGEST_LIMIT {
             return Err(Memory);
@@ -66,6 +66,7 @@ impl Journal {
         requires { is_call entry ≡ 1 }
         ensures done { OnTrue result (self.new ≡ with_entry self.old entry) }
         ensures full { OnFalse result (self.new ≡ self.old) }
+        ensures room { IsTrue result ↔ (sum_by is_call self.old.entries < self.old.limit) }
     {
         if self.calls == self.limit {
             return false;
@@ -83,7 +84,7 @@ impl Journal {
     /// Records a mark, unless one was made since the last call.
     pub fn mark(&mut self)
         ensures again { IsTrue self.old.is_marked → self.new ≡ self.old }
-        ensures first { self.old.is_marked ≡ false → self.new ≡ record { entries = self.old.entries ++ Entry.Marked ∷ []; is_marked = true } }
+        ensures first { self.old.is_marked ≡ false → self.new ≡ with_mark self.old }
     {
         if self.is_marked {
             return;

@@ -1,10 +1,11 @@
 //! A disk in memory, which records its calls.
-ghost use Rattle.std.specs.Prelude.{◌≡◌, ◌+◌, ◌-◌, ◌^◌, ◌≤◌, ◌<◌, ◌++◌, ℕ, false, [], min, length, sum_by, IfOk, OnOk, IsErr};
+ghost use Rattle.std.specs.Prelude.{◌≡◌, ◌+◌, ◌-◌, ◌^◌, ◌≤◌, ◌<◌, ◌++◌, ℕ, true, false, [], min, length, take, drop, sum_by, IsTrue, IsOk, IsErr, is_ok, IfOk, OnOk, if◌then◌else◌};
 ghost use Rattle.std.specs.Bool.{OnTrue, OnFalse};
 ghost use Rattle.sed_outside.specs.Cause.{HasCause};
-ghost use Rattle.disk_model.specs.Disk.{Elapses, Keeps, MarksUp, SyncsUp, largest_file};
+ghost use Rattle.sed_outside.specs.Failing.{begins_with, FailsNow, after_call};
+ghost use Rattle.disk_model.specs.Disk.{Elapses, Keeps, Writes, Syncs, MarksUp, SyncsUp, one_more, longest_name, largest_file};
 ghost use Rattle.disk_model.specs.Written.{written};
-ghost use Rattle.disk_model.specs.Replay.{calls_by, replayed, replayed_is_disk};
+ghost use Rattle.disk_model.specs.Replay.{calls_by, HasRoom, HasBytes, replayed, replayed_is_disk};
 ghost use Rattle.disk_model.specs.Recorded.{is_call, with_entry, IsTried};
 ghost use Rattle.disk_model.specs.Left.{alike, image_left, IsMomentOf};
 
@@ -39,17 +40,21 @@ pub struct MemDisk {
 }
 
 impl Model for MemDisk {
-    ghost use Rattle.disk_model.specs.Replay.{History};
+    ghost use Rattle.disk_model.specs.Replay.{InMemory};
     ghost use Rattle.disk_model.specs.Recorded.{calls_of, IsRecord};
 
-    ghost Value = { History };
+    ghost Value = { InMemory };
 
     ghost view = { λ d. record {
-      first = d.first.items;
-      calls = calls_of d.log.bytes d.journal.entries;
-      is_marked = d.journal.is_marked;
-      attached = record { count = d.attaches; name = d.name.bytes };
-      faults = d.faults;
+      history = record {
+        first = d.first.items;
+        calls = calls_of d.log.bytes d.journal.entries;
+        is_marked = d.journal.is_marked;
+        attached = record { count = d.attaches; name = d.name.bytes };
+        faults = d.faults;
+      };
+      plan = d.calls;
+      bounds = record { room = d.log.room; limit = d.journal.limit };
     } };
 
     ghost invariant = { λ d. IsRecord d.first.items d.file d.log d.name d.journal.entries };
@@ -65,7 +70,11 @@ impl MemDisk {
         calls: usize,
         fails: Vec<usize>,
     ) -> Result<MemDisk, Memory>
-        ensures { IfOk result (λ disk. disk ≡ record { first = bytes.items; calls = []; is_marked = false; attached = record { count = 0; name = [] }; faults = 0 }) }
+        ensures { IfOk result (λ disk. disk ≡ record {
+          history = record { first = bytes.items; calls = []; is_marked = false; attached = record { count = 0; name = [] }; faults = 0 };
+          plan = begins_with fails.items;
+          bounds = record { room = room; limit = calls };
+        }) }
     {
         let mut file = Buffer::with_room(alloc, room.max(bytes.len()))?;
         file.set(&bytes);
@@ -90,7 +99,7 @@ impl MemDisk {
 
     /// How many calls other than `acknowledge` were recorded.
     pub fn calls(&self) -> usize
-        ensures { result ≡ sum_by calls_by self.now.calls }
+        ensures { result ≡ sum_by calls_by self.now.history.calls }
     {
         self.journal.calls()
     }
@@ -98,9 +107,9 @@ impl MemDisk {
     /// One image that a crash within the recorded call of this number, from 0, may leave: each range that waits for a
     /// sync then, the call's own among them, is filled in this way.
     pub fn left(&self, call: usize, fill: Fill) -> Result<Vec<u8>, Memory>
-        requires { call < sum_by calls_by self.now.calls }
-        ensures image { IfOk result (λ image. image.items ≡ image_left fill (alike self.now.first) self.now.calls call) }
-        ensures left { IfOk result (λ image. (u : ℕ) × IsMomentOf self.now.calls call u × (⟦<MemDisk as Disk>⟧.meaning self.now).leaves u image.items) }
+        requires { call < sum_by calls_by self.now.history.calls }
+        ensures image { IfOk result (λ image. image.items ≡ image_left fill (alike self.now.history.first) self.now.history.calls call) }
+        ensures left { IfOk result (λ image. (u : ℕ) × IsMomentOf self.now.history.calls call u × (⟦<MemDisk as Disk>⟧.meaning self.now).leaves u image.items) }
     {
         let alloc = *self.first.allocator();
         let entries = self.journal.entries();
@@ -109,13 +118,18 @@ impl MemDisk {
 
     // A call that only asks.
     fn ask(&mut self) -> Result<(), DiskFault>
-        ensures keeps { Keeps (replayed self.old) (replayed self.new) }
-        ensures attached { self.new.attached ≡ self.old.attached }
-        ensures time { Elapses (replayed self.old) (replayed self.new) }
-        ensures marks { MarksUp (replayed self.old) (replayed self.new) 0 }
-        ensures syncs { SyncsUp (replayed self.old) (replayed self.new) 0 }
-        ensures unmarked { OnOk result (self.new.is_marked ≡ false) }
-        ensures cause { HasCause self.old.faults self.new.faults (IsErr result) }
+        ensures keeps { Keeps (replayed self.old.history) (replayed self.new.history) }
+        ensures attached { self.new.history.attached ≡ self.old.history.attached }
+        ensures time { Elapses (replayed self.old.history) (replayed self.new.history) }
+        ensures marks { MarksUp (replayed self.old.history) (replayed self.new.history) 0 }
+        ensures syncs { SyncsUp (replayed self.old.history) (replayed self.new.history) 0 }
+        ensures unmarked { OnOk result (self.new.history.is_marked ≡ false) }
+        ensures cause { HasCause self.old.history.faults self.new.history.faults (IsErr result) }
+
+        ensures calls { self.new.plan ≡ after_call self.old.plan }
+        ensures bounds { self.new.bounds ≡ self.old.bounds }
+        ensures planned { FailsNow self.old.plan → IsErr result }
+        ensures fits { (FailsNow self.old.plan → ⊥) → HasRoom self.old → IsOk result }
     {
         if record_call(&mut self.calls, &mut self.journal, Entry::Other) {
             Ok(())
@@ -139,6 +153,10 @@ fn record_call(calls: &mut FailingCalls, journal: &mut Journal, done: Entry) -> 
     requires { is_call done ≡ 1 }
     ensures done { OnTrue result (journal.new ≡ with_entry journal.old done) }
     ensures failed { OnFalse result (IsTried journal.old journal.new Entry.Other) }
+    ensures limit { journal.new.limit ≡ journal.old.limit }
+    ensures calls { calls.new ≡ after_call calls.old }
+    ensures planned { FailsNow calls.old → result ≡ false }
+    ensures fits { (FailsNow calls.old → ⊥) → sum_by is_call journal.old.entries < journal.old.limit → IsTrue result }
 {
     if calls.fails_now() {
         let _ = journal.record(Entry::Other);
@@ -162,6 +180,9 @@ fn record_write(
     ensures log { OnTrue result (log.new ≡ record { bytes = log.old.bytes ++ bytes.now; room = log.old.room }) }
     ensures full { OnFalse result (IsTried journal.old journal.new Entry.Other) }
     ensures same { OnFalse result ((file.new ≡ file.old) × (log.new ≡ log.old)) }
+    ensures limit { journal.new.limit ≡ journal.old.limit }
+    ensures room { log.new.room ≡ log.old.room }
+    ensures fits { at + length bytes.now ≤ log.old.room → length log.old.bytes + length bytes.now ≤ log.old.room → sum_by is_call journal.old.entries < journal.old.limit → IsTrue result }
 {
     let start = at as usize;
     let end = start + bytes.len();
@@ -179,11 +200,27 @@ fn record_write(
 }
 
 impl Disk for MemDisk {
-    ghost meaning = { replayed };
+    ghost meaning = { λ d. replayed d.history };
 
-    ghost is_disk = { replayed_is_disk };
+    ghost is_disk = { λ d. replayed_is_disk d.history };
 
-    fn attach(&mut self, name: &str) -> Result<(), DiskFault> {
+    /// As every attach, and: the call is counted. One whose number is among those that fail is a fault, and any other is
+    /// done where there is room for it in the record. So are the calls below.
+    fn attach(&mut self, name: &str) -> Result<(), DiskFault>
+        requires { length name.now ≤ longest_name }
+        ensures attached { self.new.history.attached ≡ record { count = one_more self.old.history.attached.count; name = name.now } }
+        ensures keeps { Keeps (replayed self.old.history) (replayed self.new.history) }
+        ensures time { Elapses (replayed self.old.history) (replayed self.new.history) }
+        ensures marks { MarksUp (replayed self.old.history) (replayed self.new.history) 0 }
+        ensures syncs { SyncsUp (replayed self.old.history) (replayed self.new.history) 0 }
+        ensures unmarked { OnOk result (self.new.history.is_marked ≡ false) }
+        ensures cause { HasCause self.old.history.faults self.new.history.faults (IsErr result) }
+
+        ensures calls { self.new.plan ≡ after_call self.old.plan }
+        ensures bounds { self.new.bounds ≡ self.old.bounds }
+        ensures planned { FailsNow self.old.plan → IsErr result }
+        ensures fits { (FailsNow self.old.plan → ⊥) → HasRoom self.old → IsOk result }
+    {
         self.attaches = self.attaches.saturating_add(1);
         self.name.set(name.as_bytes());
         if record_call(&mut self.calls, &mut self.journal, Entry::Other) {
@@ -193,19 +230,63 @@ impl Disk for MemDisk {
         }
     }
 
-    fn size(&mut self) -> Result<u64, DiskFault> {
+    fn size(&mut self) -> Result<u64, DiskFault>
+        ensures size { IfOk result (λ n. n ≡ length (replayed self.old.history).content) }
+        ensures keeps { Keeps (replayed self.old.history) (replayed self.new.history) }
+        ensures attached { self.new.history.attached ≡ self.old.history.attached }
+        ensures time { Elapses (replayed self.old.history) (replayed self.new.history) }
+        ensures marks { MarksUp (replayed self.old.history) (replayed self.new.history) 0 }
+        ensures syncs { SyncsUp (replayed self.old.history) (replayed self.new.history) 0 }
+        ensures unmarked { OnOk result (self.new.history.is_marked ≡ false) }
+        ensures cause { HasCause self.old.history.faults self.new.history.faults (IsErr result) }
+
+        ensures calls { self.new.plan ≡ after_call self.old.plan }
+        ensures bounds { self.new.bounds ≡ self.old.bounds }
+        ensures planned { FailsNow self.old.plan → IsErr result }
+        ensures fits { (FailsNow self.old.plan → ⊥) → HasRoom self.old → IsOk result }
+    {
         self.ask()?;
         Ok(self.file.len() as u64)
     }
 
-    fn read(&mut self, at: u64, into: &mut [u8]) -> Result<(), DiskFault> {
+    fn read(&mut self, at: u64, into: &mut [u8]) -> Result<(), DiskFault>
+        requires { at + length into.old ≤ length (replayed self.old.history).content }
+        ensures bytes { OnOk result (into.new ≡ take (length into.old) (drop at (replayed self.old.history).content)) }
+        ensures keeps { Keeps (replayed self.old.history) (replayed self.new.history) }
+        ensures attached { self.new.history.attached ≡ self.old.history.attached }
+        ensures time { Elapses (replayed self.old.history) (replayed self.new.history) }
+        ensures marks { MarksUp (replayed self.old.history) (replayed self.new.history) 0 }
+        ensures syncs { SyncsUp (replayed self.old.history) (replayed self.new.history) 0 }
+        ensures unmarked { OnOk result (self.new.history.is_marked ≡ false) }
+        ensures cause { HasCause self.old.history.faults self.new.history.faults (IsErr result) }
+
+        ensures calls { self.new.plan ≡ after_call self.old.plan }
+        ensures bounds { self.new.bounds ≡ self.old.bounds }
+        ensures planned { FailsNow self.old.plan → IsErr result }
+        ensures fits { (FailsNow self.old.plan → ⊥) → HasRoom self.old → IsOk result }
+    {
         self.ask()?;
         let start = at as usize;
         into.copy_from_slice(&self.file.bytes()[start..start + into.len()]);
         Ok(())
     }
 
-    fn write_at(&mut self, at: u64, bytes: &[u8]) -> Result<(), DiskFault> {
+    /// A write is done where there is room for its bytes too.
+    fn write_at(&mut self, at: u64, bytes: &[u8]) -> Result<(), DiskFault>
+        requires { at + length bytes.now ≤ largest_file }
+        ensures writes { Writes at bytes.now result (replayed self.old.history) (replayed self.new.history) }
+        ensures attached { self.new.history.attached ≡ self.old.history.attached }
+        ensures time { Elapses (replayed self.old.history) (replayed self.new.history) }
+        ensures marks { MarksUp (replayed self.old.history) (replayed self.new.history) 0 }
+        ensures syncs { SyncsUp (replayed self.old.history) (replayed self.new.history) 0 }
+        ensures unmarked { OnOk result (self.new.history.is_marked ≡ false) }
+        ensures cause { HasCause self.old.history.faults self.new.history.faults (IsErr result) }
+
+        ensures calls { self.new.plan ≡ after_call self.old.plan }
+        ensures bounds { self.new.bounds ≡ self.old.bounds }
+        ensures planned { FailsNow self.old.plan → IsErr result }
+        ensures fits { (FailsNow self.old.plan → ⊥) → HasRoom self.old → HasBytes self.old at (length bytes.now) → IsOk result }
+    {
         let fails = self.calls.fails_now();
         if !record_write(&mut self.file, &mut self.log, &mut self.journal, at, bytes) {
             return Err(counted(&mut self.faults));
@@ -216,7 +297,20 @@ impl Disk for MemDisk {
         Ok(())
     }
 
-    fn sync(&mut self) -> Result<(), DiskFault> {
+    fn sync(&mut self) -> Result<(), DiskFault>
+        ensures durable { Syncs result (replayed self.old.history) (replayed self.new.history) }
+        ensures attached { self.new.history.attached ≡ self.old.history.attached }
+        ensures time { Elapses (replayed self.old.history) (replayed self.new.history) }
+        ensures marks { MarksUp (replayed self.old.history) (replayed self.new.history) 0 }
+        ensures syncs { SyncsUp (replayed self.old.history) (replayed self.new.history) (if is_ok result then 1 else 0) }
+        ensures unmarked { OnOk result (self.new.history.is_marked ≡ false) }
+        ensures cause { HasCause self.old.history.faults self.new.history.faults (IsErr result) }
+
+        ensures calls { self.new.plan ≡ after_call self.old.plan }
+        ensures bounds { self.new.bounds ≡ self.old.bounds }
+        ensures planned { FailsNow self.old.plan → IsErr result }
+        ensures fits { (FailsNow self.old.plan → ⊥) → HasRoom self.old → IsOk result }
+    {
         if record_call(&mut self.calls, &mut self.journal, Entry::Synced) {
             Ok(())
         } else {
@@ -224,7 +318,18 @@ impl Disk for MemDisk {
         }
     }
 
-    fn acknowledge(&mut self) {
+    /// It is no call that is counted or that needs room.
+    fn acknowledge(&mut self)
+        ensures keeps { Keeps (replayed self.old.history) (replayed self.new.history) }
+        ensures attached { self.new.history.attached ≡ self.old.history.attached }
+        ensures time { Elapses (replayed self.old.history) (replayed self.new.history) }
+        ensures marks { MarksUp (replayed self.old.history) (replayed self.new.history) (if self.old.history.is_marked then 0 else 1) }
+        ensures syncs { SyncsUp (replayed self.old.history) (replayed self.new.history) 0 }
+        ensures marked { self.new.history.is_marked ≡ true }
+        ensures faults { self.new.history.faults ≡ self.old.history.faults }
+        ensures calls { self.new.plan ≡ self.old.plan }
+        ensures bounds { self.new.bounds ≡ self.old.bounds }
+    {
         self.journal.mark();
     }
 }

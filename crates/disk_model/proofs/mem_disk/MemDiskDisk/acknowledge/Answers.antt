@@ -8,13 +8,13 @@ pub invariant_of-self : goal.invariant_of-self
 invariant_of-self c = marked_record _ _ _ _ c.self.inside.journal c.mark.new.self c.mark.ensures.again c.mark.ensures.first c.self.invariant
 
 pub returns-clause-keeps : goal.returns-clause-keeps
-returns-clause-keeps c told = (marks_made c.args.self.now _ c.self.inside.log.bytes c.self.inside.journal c.mark.new.self (ap (λ h. h.is_marked) c.self.view_is) (ap (λ h. h.first) c.self.view_is) (ap (λ h. h.calls) c.self.view_is) refl c.mark.ensures.again c.mark.ensures.first).keeps
+returns-clause-keeps c = (marks_made c.args.self.now.history _ c.self.inside.log.bytes c.self.inside.journal c.mark.new.self (ap (λ h. h.history.is_marked) c.self.view_is) (ap (λ h. h.history.first) c.self.view_is) (ap (λ h. h.history.calls) c.self.view_is) refl c.mark.ensures.again c.mark.ensures.first).keeps
 
 pub returns-clause-time : goal.returns-clause-time
-returns-clause-time c = (marks_made c.args.self.now _ c.self.inside.log.bytes c.self.inside.journal c.mark.new.self (ap (λ h. h.is_marked) c.self.view_is) (ap (λ h. h.first) c.self.view_is) (ap (λ h. h.calls) c.self.view_is) refl c.mark.ensures.again c.mark.ensures.first).time
+returns-clause-time c = (marks_made c.args.self.now.history _ c.self.inside.log.bytes c.self.inside.journal c.mark.new.self (ap (λ h. h.history.is_marked) c.self.view_is) (ap (λ h. h.history.first) c.self.view_is) (ap (λ h. h.history.calls) c.self.view_is) refl c.mark.ensures.again c.mark.ensures.first).time
 
 pub returns-clause-marks : goal.returns-clause-marks
-returns-clause-marks c = (marks_made c.args.self.now (history c.self.inside.first.items (calls_of c.self.inside.log.bytes c.mark.new.self.entries)) c.self.inside.log.bytes c.self.inside.journal c.mark.new.self (ap (λ h. h.is_marked) c.self.view_is) (ap (λ h. h.first) c.self.view_is) (ap (λ h. h.calls) c.self.view_is) refl c.mark.ensures.again c.mark.ensures.first).marks
+returns-clause-marks c = (marks_made c.args.self.now.history (history c.self.inside.first.items (calls_of c.self.inside.log.bytes c.mark.new.self.entries)) c.self.inside.log.bytes c.self.inside.journal c.mark.new.self (ap (λ h. h.history.is_marked) c.self.view_is) (ap (λ h. h.history.first) c.self.view_is) (ap (λ h. h.history.calls) c.self.view_is) refl c.mark.ensures.again c.mark.ensures.first).marks
 
 pub returns-clause-syncs : goal.returns-clause-syncs
-returns-clause-syncs c = (marks_made c.args.self.now (history c.self.inside.first.items (calls_of c.self.inside.log.bytes c.mark.new.self.entries)) c.self.inside.log.bytes c.self.inside.journal c.mark.new.self (ap (λ h. h.is_marked) c.self.view_is) (ap (λ h. h.first) c.self.view_is) (ap (λ h. h.calls) c.self.view_is) refl c.mark.ensures.again c.mark.ensures.first).syncs
+returns-clause-syncs c = (marks_made c.args.self.now.history (history c.self.inside.first.items (calls_of c.self.inside.log.bytes c.mark.new.self.entries)) c.self.inside.log.bytes c.self.inside.journal c.mark.new.self (ap (λ h. h.history.is_marked) c.self.view_is) (ap (λ h. h.history.first) c.self.view_is) (ap (λ h. h.history.calls) c.self.view_is) refl c.mark.ensures.again c.mark.ensures.first).syncs
