@@ -1,0 +1,5 @@
+pub mod AskedLemmas
+pub mod LimitLemmas
+pub mod ReadingLemmas
+pub mod TextLemmas
+pub mod WritingLemmas

@@ -1,0 +1,8 @@
+use Rattle.sox_msg.proofs.ReadingLemmas.{one_request, request-number}
+use Rattle.sox_msg.proofs.laws.payloads_are_one_request.Goals as goal
+
+pub returns-clause-one : goal.returns-clause-one
+returns-clause-one c = one_request
+
+pub returns-clause-number : goal.returns-clause-number
+returns-clause-number c = request-number

@@ -1,0 +1,29 @@
+//! Laws of requests, replies and events.
+ghost use Rattle.std.specs.Prelude.{◌≡◌, ◌≤◌, ℕ, List, length};
+ghost use Rattle.sed_value.specs.Refusal.{text_of_refusal};
+ghost use Rattle.sed_value.specs.declared.refusal.Refusal.{Refusal as Refused};
+ghost use Rattle.sox_msg.specs.Command.{Asking, IsRequest, IsMalformed, HasUnknownLetter, number_in};
+ghost use Rattle.sox_msg.specs.Limits.{KitText, PartFits, schema_text, tree_part};
+ghost use Rattle.sox_msg.specs.Reply.{event_text, reply_text, FitsLimits};
+ghost use Rattle.sox_msg.specs.declared.event.Event.{Event as Told};
+ghost use Rattle.sox_msg.specs.declared.reply.Reply.{Reply as Answer};
+
+/// A payload is one request at most, and a request's number is that of its payload.
+pub fn payloads_are_one_request()
+    ensures one { (payload : List ℕ) (asking other : Asking) → IsRequest payload asking → IsRequest payload other
+        → asking ≡ other }
+    ensures number { (payload : List ℕ) (asking : Asking) → IsRequest payload asking
+        → asking.number ≡ number_in payload }
+{}
+
+/// Within the platform's limits each reply and each event fits a message of 498 bytes: a part `t` has at most 438
+/// bytes, a part or value at most 438, the text of at most 16 kits at most 465.
+pub fn texts_fit_a_message()
+    ensures tree { (kit kind : ℕ) (name : List ℕ) (parent : ℕ) (children : List ℕ) → length name ≤ 31
+        → length children ≤ 200 → length (tree_part kit kind name parent children) ≤ 438 }
+    ensures parts { (bytes : List ℕ) → PartFits bytes → length bytes ≤ 438 }
+    ensures schema { (kits : List KitText) → length kits ≤ 16 → length (schema_text kits) ≤ 465 }
+    ensures refusals { (refusal : Refused) → length (text_of_refusal refusal) ≤ 18 }
+    ensures replies { (reply : Answer) → FitsLimits reply.body → length (reply_text reply) ≤ 498 }
+    ensures events { (event : Told) → PartFits event.bytes.now → length (event_text event) ≤ 498 }
+{}

@@ -1,0 +1,23 @@
+//! Requests, replies and events of the Sox protocol in bytes.
+//!
+//! A datagram message of a session carries one of them. `read_request` gives the request that a payload is, and
+//! refuses exactly where it is none, with why; `write_reply` and `write_event` give the one text of a reply and of an
+//! event. The laws say that a payload is one request at most, and that each text whose parts keep the platform's limits
+//! fits a message. Nothing here takes memory.
+#![tactic(auto)]
+
+mod command;
+mod event;
+mod forms;
+mod laws;
+mod reading;
+mod reply;
+mod text;
+mod writing;
+
+pub use command::{Command, Request};
+pub use event::Event;
+pub use laws::{payloads_are_one_request, texts_fit_a_message};
+pub use reading::{number_of, read_request};
+pub use reply::{Reply, ReplyBody};
+pub use writing::{write_event, write_reply};

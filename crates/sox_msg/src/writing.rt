@@ -1,0 +1,110 @@
+//! Writing a reply and an event.
+ghost use Rattle.std.specs.Prelude.{◌≡◌, ◌≤◌, ◌+◌, ◌∷◌, [], ◌++◌, length, IsTrue};
+ghost use Rattle.sed_wire.specs.Number.{SpellsNumber};
+ghost use Rattle.sed_wire.specs.Writing.{Appends, Writes, room};
+ghost use Rattle.sox_msg.specs.Command.{str, u2};
+ghost use Rattle.sox_msg.specs.Reply as replies;
+ghost use Rattle.sox_msg.specs.Reply.{MayReply, Puts, answer_of, event_text, is_told, reply_text};
+
+use crate::event::Event;
+use crate::reply::{Reply, ReplyBody};
+use sed_value::Id;
+use sed_wire::{Full, Writer};
+
+/// Writes the text of a reply to the front of `into`, and says how many bytes it has. What stood behind it stays.
+pub fn write_reply(reply: &Reply, into: &mut [u8; 498]) -> usize
+    requires may { MayReply reply.now.body }
+    requires fits { length (reply_text reply.now) ≤ 498 }
+    ensures { Puts (reply_text reply.now) result into.old into.new }
+{
+    let mut writer = Writer::new(into);
+    put_bytes(&mut writer, &[capital_of(&reply.body), reply.number]);
+    put_answer(&mut writer, &reply.body);
+    writer.done()
+}
+
+/// Writes the text of an event to the front of `into`, and says how many bytes it has. What stood behind it stays.
+pub fn write_event(event: &Event, into: &mut [u8; 498]) -> usize
+    requires may { IsTrue (is_told event.now.part) }
+    requires fits { length (event_text event.now) ≤ 498 }
+    ensures { Puts (event_text event.now) result into.old into.new }
+{
+    let mut writer = Writer::new(into);
+    put_bytes(&mut writer, &[b'e', 255]);
+    put_of_component(&mut writer, event.id, event.part, event.bytes);
+    writer.done()
+}
+
+// The letter of a reply: the capital of the request's, or `!`.
+fn capital_of(body: &ReplyBody) -> u8
+    ensures { result ≡ replies.capital_of body.now }
+{
+    match body {
+        ReplyBody::Done { letter } => *letter,
+        ReplyBody::Added { .. } => b'A',
+        ReplyBody::Part { .. } => b'C',
+        ReplyBody::Slot { .. } => b'R',
+        ReplyBody::Version { .. } => b'V',
+        ReplyBody::Refused(_) => b'!',
+    }
+}
+
+// Writes what stands behind the letter and the number.
+fn put_answer(writer: &mut Writer, body: &ReplyBody)
+    requires { length (answer_of body.now) ≤ room writer.old }
+    ensures { Appends writer.old writer.new (answer_of body.now) }
+{
+    match body {
+        ReplyBody::Done { .. } => {}
+        ReplyBody::Added { id } => put_id(writer, *id),
+        ReplyBody::Part { id, part, bytes } => put_of_component(writer, *id, *part, bytes),
+        ReplyBody::Slot { id, slot, bytes } => put_of_component(writer, *id, *slot, bytes),
+        ReplyBody::Version { schema } => put_bytes(writer, schema),
+        ReplyBody::Refused(refusal) => put_text(writer, refusal.text()),
+    }
+}
+
+// Writes a component's id, a byte that says what of it, and this.
+fn put_of_component(writer: &mut Writer, id: Id, which: u8, bytes: &[u8])
+    requires { 3 + length bytes.now ≤ room writer.old }
+    ensures { Appends writer.old writer.new (u2 id.0 ++ which ∷ bytes.now) }
+{
+    put_id(writer, id);
+    put_bytes(writer, &[which]);
+    put_bytes(writer, bytes);
+}
+
+fn put_text(writer: &mut Writer, text: &str)
+    requires { length text.now + 1 ≤ room writer.old }
+    ensures { Appends writer.old writer.new (str text.now) }
+{
+    put_bytes(writer, text.as_bytes());
+    put_bytes(writer, &[0]);
+}
+
+fn put_id(writer: &mut Writer, id: Id)
+    requires { 2 ≤ room writer.old }
+    ensures { Appends writer.old writer.new (u2 id.0) }
+{
+    put_u2(writer, id.0);
+}
+
+fn put_u2(writer: &mut Writer, number: u16)
+    requires { 2 ≤ room writer.old }
+    ensures { Writes (SpellsNumber 2) number writer.old writer.new }
+{
+    match writer.u2(number) {
+        Ok(()) => {}
+        Err(Full) => unreachable!(),
+    }
+}
+
+fn put_bytes(writer: &mut Writer, bytes: &[u8])
+    requires { length bytes.now ≤ room writer.old }
+    ensures { Appends writer.old writer.new bytes.now }
+{
+    match writer.bytes(bytes) {
+        Ok(()) => {}
+        Err(Full) => unreachable!(),
+    }
+}
