@@ -3,3 +3,5 @@ pub mod StmtAgain
 pub mod Depths
 pub mod Least
 pub mod Told
+pub mod ChainRows
+pub mod Values

@@ -5,4 +5,6 @@ pub mod Ones
 pub mod TypedTerm
 pub mod TypedStmtTerm
 pub mod TermDepth
+pub mod SortKind
+pub mod OpenTerm
 pub mod Faults

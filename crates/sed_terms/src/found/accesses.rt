@@ -1,0 +1,76 @@
+//! Members, elements, stores and calls of typed expressions in the making.
+ghost use Rattle.std.specs.Prelude.{◌≡◌, IfOk, true};
+ghost use Rattle.sed_terms.specs.declared.sign.Sign.TheVariants as sign;
+ghost use Rattle.sed_terms.specs.Sorts.{is_value};
+ghost use Rattle.sed_terms.specs.Term.{Absent, Node};
+
+use crate::found::Found;
+use crate::kinds::read_kind;
+use crate::links::with_link;
+use crate::open::Open;
+use crate::sort::Sort;
+use sed_typed::{Kind, Link};
+use sed_value::{Memory, Prim};
+use std::alloc::Global;
+
+// ---- members of an object
+
+impl Found {
+    /// A primitive field.
+    pub fn field(alloc: Global, object: Found, prim: Prim, number: u16) -> Result<Found, Memory>
+        requires { is_value object ≡ true }
+        ensures { IfOk result (λ r. r ≡ Node (sign.Field prim number) object Absent) }
+    {
+        let object = object.into_expr(alloc)?;
+        Ok(Found {
+            sort: Sort::Of(read_kind(prim)),
+            before: None,
+            tree: Open::Field(prim, object, number),
+        })
+    }
+
+    /// An inline object or a Str.
+    pub fn part(alloc: Global, object: Found, kind: Kind, number: u16) -> Result<Found, Memory>
+        requires { is_value object ≡ true }
+        ensures { IfOk result (λ r. r ≡ Node (sign.Part kind number) object Absent) }
+    {
+        let object = object.into_expr(alloc)?;
+        let tree = with_link(alloc, object, Link::Part(kind, number))?;
+        Ok(Found {
+            sort: Sort::Of(kind),
+            before: None,
+            tree: Open::Value(tree),
+        })
+    }
+
+    /// An array of so many elements.
+    pub fn array(
+        alloc: Global,
+        object: Found,
+        prim: Prim,
+        count: u16,
+        number: u16,
+    ) -> Result<Found, Memory>
+        requires { is_value object ≡ true }
+        ensures { IfOk result (λ r. r ≡ Node (sign.Array prim count number) object Absent) }
+    {
+        let object = object.into_expr(alloc)?;
+        Ok(Found {
+            sort: Sort::Array(prim),
+            before: None,
+            tree: Open::Array(prim, count, object, number),
+        })
+    }
+
+    pub fn buf(alloc: Global, object: Found, number: u16) -> Result<Found, Memory>
+        requires { is_value object ≡ true }
+        ensures { IfOk result (λ r. r ≡ Node (sign.Buf number) object Absent) }
+    {
+        let object = object.into_expr(alloc)?;
+        Ok(Found {
+            sort: Sort::Buf,
+            before: None,
+            tree: Open::Buf(object, number),
+        })
+    }
+}
