@@ -1,0 +1,68 @@
+-- Finite maps: what a change leaves, and a function applied to each value.
+use Rattle.std.proofs.Common.{◌≡◌, ◌≢◌, ℕ, suc, inl, inr, ◌+◌, List, [], ◌∷◌, Bool, true, false, cond, length, refl, sym, ◌∙◌, ap, subst}
+use Rattle.std.specs.Prelude.{Option, Some, None, is_some, ◌&&◌, T}
+use Rattle.std.specs.Option.{option_map}
+use Rattle.std.specs.FinMap as finite
+use Rattle.std.specs.FinMap.{FinMap, find, is_sorted}
+use Rattle.std.specs.FinMap.Entries.{below_all}
+use Rattle.std.specs.Ordering.{nat_cmp, eq_by_cmp, is_lt}
+use Rattle.std.specs.Cmp.{nat_cmp_total}
+use Rattle.std.proofs.lemmas.Bool.{cases_eq}
+use Rattle.comp_tree.specs.Mapped.{on_values, map_values}
+use Rattle.comp_tree.proofs.IndexLemmas.{tied_same, tied_apart}
+
+module _ {V : Type 0} where
+  pub get_put : (m : FinMap nat_cmp V) (k : ℕ) (x : V) → finite.get (finite.insert m k x) k ≡ Some x
+  get_put m k x = finite.get-insert nat_cmp_total m k x k ∙ rw (tied_same k) refl
+
+  pub get_beside : (m : FinMap nat_cmp V) (k : ℕ) (x : V) (q : ℕ) → q ≢ k → finite.get (finite.insert m k x) q ≡ finite.get m q
+  get_beside m k x q ne = finite.get-insert nat_cmp_total m k x q ∙ rw (tied_apart q k ne) refl
+
+  pub len_over : (m : FinMap nat_cmp V) (k : ℕ) (x y : V) → finite.get m k ≡ Some x → finite.len (finite.insert m k y) ≡ finite.len m
+  len_over m k x y e = finite.len-insert nat_cmp_total m k y ∙ ap (λ r. cond (is_some r) (finite.len m) (finite.len m + 1)) e
+
+  pub len_more : (m : FinMap nat_cmp V) (k : ℕ) (y : V) → finite.get m k ≡ None → finite.len (finite.insert m k y) ≡ finite.len m + 1
+  len_more m k y e = finite.len-insert nat_cmp_total m k y ∙ ap (λ r. cond (is_some r) (finite.len m) (finite.len m + 1)) e
+
+  -- to put what is there changes nothing
+  pub put_same : (m : FinMap nat_cmp V) (k : ℕ) (x : V) → finite.get m k ≡ Some x → finite.insert m k x ≡ m
+  put_same m k x e = finite.same_map nat_cmp_total finite.nat_cmp-IsAntisymmetric _ _ (λ q. elim (cases_eq q k) [
+    | inl is ↦ ap (finite.get (finite.insert m k x)) is ∙ get_put m k x ∙ sym e ∙ ap (finite.get m) (sym is)
+    | inr ne ↦ get_beside m k x q ne
+  ])
+
+  pub some_is : (x y : V) → ◌≡◌ {A = Option V} (Some x) (Some y) → x ≡ y
+  some_is x y e = cc
+
+module _ {V W : Type 0} (f : V → W) where
+  mapped_or : (b : Bool) (x : V) (r : Option V) → cond b (Some (f x)) (option_map f r) ≡ option_map f (cond b (Some x) r)
+  mapped_or true x r = refl
+  mapped_or false x r = refl
+
+  find-on_values : (es : List (ℕ × V)) (q : ℕ) → find nat_cmp q (on_values f es) ≡ option_map f (find nat_cmp q es)
+  find-on_values [] q = refl
+  find-on_values (e ∷ es) q = ap (cond (eq_by_cmp nat_cmp q e.0) (Some (f e.1))) (find-on_values es q) ∙ mapped_or (eq_by_cmp nat_cmp q e.0) e.1 (find nat_cmp q es)
+
+  below-on_values : (x : ℕ) (es : List (ℕ × V)) → below_all nat_cmp x (on_values f es) ≡ below_all nat_cmp x es
+  below-on_values x [] = refl
+  below-on_values x (e ∷ es) = ap (λ b. is_lt (nat_cmp x e.0) && b) (below-on_values x es)
+
+  sorted-on_values : (es : List (ℕ × V)) → is_sorted nat_cmp (on_values f es) ≡ is_sorted nat_cmp es
+  sorted-on_values [] = refl
+  sorted-on_values (e ∷ es) = ap (λ b. b && is_sorted nat_cmp (on_values f es)) (below-on_values e.0 es) ∙ ap (λ b. below_all nat_cmp e.0 es && b) (sorted-on_values es)
+
+  are_sorted : (m : FinMap nat_cmp V) → T (is_sorted nat_cmp (on_values f (finite.entries m)))
+  are_sorted m = subst T (sym (sorted-on_values (finite.entries m))) (finite.entries_sorted m)
+
+  pub get-map_values : (m : FinMap nat_cmp V) (q : ℕ) → finite.get (map_values f m) q ≡ option_map f (finite.get m q)
+  get-map_values m q =
+      finite.get-from_sorted nat_cmp (on_values f (finite.entries m)) q (are_sorted m) ∙ find-on_values (finite.entries m) q ∙ ap (option_map f) (sym (finite.get-entries m q))
+
+  length-on_values : (es : List (ℕ × V)) → length (on_values f es) ≡ length es
+  length-on_values [] = refl
+  length-on_values (e ∷ es) = ap suc (length-on_values es)
+
+  pub len-map_values : (m : FinMap nat_cmp V) → finite.len (map_values f m) ≡ finite.len m
+  len-map_values m =
+      finite.len-entries (map_values f m) ∙ ap length (finite.entries-from_sorted nat_cmp (on_values f (finite.entries m)) (are_sorted m))
+      ∙ length-on_values (finite.entries m) ∙ sym (finite.len-entries m)

@@ -1,0 +1,29 @@
+use Rattle.std.proofs.Common.{sym, ap, ◌∙◌}
+use Rattle.comp_tree.specs.Held.{Held, by_id_of, components_of}
+use Rattle.comp_tree.specs.Edits.{after_clear}
+use Rattle.comp_tree.specs.Refusals.{first_refusal, refusals_of_clear}
+use Rattle.comp_tree.proofs.RunLemmas.{placed_clear, cleared, clear_refused, clear_allowed}
+use Rattle.comp_tree.proofs.tree.Tree.clear.Goals as goal
+
+pub returns-in_default-clause-refused : goal.returns-in_default-clause-refused
+returns-in_default-clause-refused g c =
+    let i = c.self.inside in
+    ap (λ (h : Held _). first_refusal (refusals_of_clear (by_id_of (g.E.Engine.live h.engine) h.nodes) c.args.id.0)) (sym c.self.view_is)
+    ∙ clear_refused (g.E.Engine.live i.engine) i.nodes c.args.id.0 (sym c.in_default.ensures)
+
+pub invariant_of-self : goal.invariant_of-self
+invariant_of-self g c =
+    let h : Held _ = record { engine = c.self.inside.engine; nodes = c.self.inside.nodes } in
+    placed_clear g.E.Engine h c.self.invariant c.args.id.0 _ (sym c.in-Some.ensures) c.set_fault.new.self c.set_fault.ensures
+
+pub returns-clause-done : goal.returns-clause-done
+returns-clause-done g c =
+    let h : Held _ = record { engine = c.self.inside.engine; nodes = c.self.inside.nodes } in
+    cleared g.E.Engine h c.self.invariant c.args.id.0 _ (sym c.in-Some.ensures) c.set_fault.new.self c.set_fault.ensures
+    ∙ ap (λ (x : Held _). after_clear (components_of g.E.Engine x) c.args.id.0) c.self.view_is
+
+pub returns-clause-refused : goal.returns-clause-refused
+returns-clause-refused g c =
+    let i = c.self.inside in
+    ap (λ (h : Held _). first_refusal (refusals_of_clear (by_id_of (g.E.Engine.live h.engine) h.nodes) c.args.id.0)) (sym c.self.view_is)
+    ∙ clear_allowed (g.E.Engine.meaning i.engine) (g.E.Engine.live i.engine) i.nodes c.args.id.0 _ (sym c.in-Some.ensures)

@@ -1,0 +1,17 @@
+pub mod Mapped
+pub mod Application
+pub mod Order
+pub mod Values
+pub mod Same
+pub mod Parts
+pub mod Calls
+pub mod Links
+pub mod Refusals
+pub mod Edits
+pub mod Cycle
+pub mod Edit
+pub mod Whole
+pub mod Indexed
+pub mod Faults
+pub mod Held
+pub mod Told

@@ -1,0 +1,101 @@
+-- Links between slots, and what is copied along them.
+use Rattle.std.specs.Prelude.{ℕ, ◌==◌, ◌||◌, ◌&&◌, Bool, true, false, not, nat_lt, if◌then◌else◌, List, [], ◌∷◌, filter, Option, Some, ℤ}
+use Rattle.std.specs.List.{fold, list_any}
+use Rattle.sed_value.specs.declared.slot_type.Primitive.{Primitive}
+use Rattle.sed_value.specs.declared.slot_type.Primitive.TheVariants.{Bool as BoolType, Byte as ByteType, Short as ShortType, Int as IntType, Long as LongType}
+use Rattle.sed_value.specs.declared.slot_type.SlotType.{SlotType}
+use Rattle.sed_value.specs.declared.slot_type.SlotType.TheVariants.{Prim, Buf}
+use Rattle.sed_value.specs.declared.value.Value.{Value}
+use Rattle.sed_engine.specs.declared.call.Callback.TheVariants.{Changed}
+use Rattle.sed_engine.specs.Code.{Meaning, with_slot}
+use Rattle.comp_tree.specs.Application.{Component, Components, Link, change_at, object_of, value_at, with_components}
+use Rattle.comp_tree.specs.Calls.{Call, Counted, then_run}
+use Rattle.comp_tree.specs.Same.{is_same_value}
+
+-- ---- which slots go together
+
+abbrev pub reads_as_int : Primitive → Bool
+reads_as_int ByteType = true
+reads_as_int ShortType = true
+reads_as_int IntType = true
+reads_as_int BoolType = false
+reads_as_int LongType = false
+
+abbrev pub are_same_primitive : Primitive → Primitive → Bool
+are_same_primitive BoolType BoolType = true
+are_same_primitive LongType LongType = true
+are_same_primitive p q = reads_as_int p && reads_as_int q
+
+-- equal types, or both among byte, short and int; Bufs of one size
+abbrev pub go_together : SlotType → SlotType → Bool
+go_together (Prim p) (Prim q) = are_same_primitive p q
+go_together (Buf n) (Buf k) = n == k
+go_together from to = false
+
+abbrev pub go_together_if_there : Option SlotType → Option SlotType → Bool
+go_together_if_there (Some from) (Some to) = go_together from to
+go_together_if_there from to = false
+
+-- ---- the list of links
+
+abbrev pub is_same_link : Link → Link → Bool
+is_same_link k l = (k.from == l.from) && (k.from_slot == l.from_slot) && (k.to == l.to) && (k.to_slot == l.to_slot)
+
+abbrev pub has_target : ℕ → ℕ → Link → Bool
+has_target id slot l = (l.to == id) && (l.to_slot == slot)
+
+-- the target of one comes before that of another
+abbrev pub is_before : Link → Link → Bool
+is_before k l = nat_lt k.to l.to || ((k.to == l.to) && nat_lt k.to_slot l.to_slot)
+
+-- with one link more, at its place in the order of the targets
+abbrev pub with_link : Link → List Link → List Link
+with_link l [] = l ∷ []
+with_link l (k ∷ ks) = if is_before k l then k ∷ with_link l ks else l ∷ k ∷ ks
+
+abbrev pub without_link : Link → List Link → List Link
+without_link l links = filter (λ k. not (is_same_link k l)) links
+
+-- without each link from or to one of these components
+abbrev pub without_links_at : List ℕ → List Link → List Link
+without_links_at ids links = filter (λ l. not (list_any (λ id. (l.from == id) || (l.to == id)) ids)) links
+
+-- the links into a component, by ascending target slot
+abbrev pub links_into : ℕ → List Link → List Link
+links_into id links = filter (λ l. l.to == id) links
+
+-- ---- values that are stored
+
+-- a component with another value in a slot, as an assignment stores it
+abbrev pub with_value : Meaning → ℕ → Value → Component → Component
+with_value m slot v c = record {
+  class = c.class;
+  name = c.name;
+  parent = c.parent;
+  children = c.children;
+  contents = (with_slot m (object_of c) slot v).contents;
+  fault = c.fault;
+}
+
+abbrev pub store : Meaning → Components → ℕ → ℕ → Value → Components
+store m a id slot v = with_components a (change_at a.by_id id (with_value m slot v))
+
+-- the stored value differs from the one before
+abbrev pub has_changed : Meaning → Components → Components → ℕ → ℕ → Bool
+has_changed m before after id slot = not (is_same_value (value_at m before.by_id id slot) (value_at m after.by_id id slot))
+
+-- what is copied along a link: the source's value, stored in the target
+abbrev pub copy : Meaning → Components → Link → Components
+copy m a l = store m a l.to l.to_slot (value_at m a.by_id l.from l.from_slot)
+
+-- a copy, and then the target's `changed` where the stored value differs
+abbrev pub copy_along : Meaning → ℕ → ℤ → Counted → Link → Counted
+copy_along m turns moment s l =
+    let after : Components = copy m s.left l in
+    if has_changed m s.left after l.to l.to_slot
+    then then_run (record { left = after; traps = s.traps }) (λ a. Call m a l.to Changed l.to_slot turns moment)
+    else record { left = after; traps = s.traps }
+
+-- the links into a component, one after another
+abbrev pub copy_into : Meaning → List Link → ℕ → ℤ → Counted → ℕ → Counted
+copy_into m links turns moment s id = fold (copy_along m turns moment) s (links_into id links)

@@ -1,0 +1,21 @@
+//! The tree of components over any engine.
+//!
+//! An application is a finite map from ids to components, the links between their slots, the
+//! statics and a data limit. The definitions say what holds of every one, what each command does
+//! to it and when it is refused, and what a cycle does; they name no engine. A `Tree` keeps the
+//! components over an `Engine`, which keeps their values and runs their root calls; each of its
+//! calls leaves what the definition of its name says, or gives the first refusal of its table and
+//! leaves all as it was. Nodes are kept with the kit's slab; room for all that there may be is
+//! taken when a tree is made. Links and cycles are to stand on it.
+#![tactic(auto)]
+
+mod children;
+pub mod entry;
+mod node;
+mod nodes;
+pub mod tree;
+
+pub use children::MOST_CHILDREN;
+pub use entry::Entry;
+pub use nodes::MOST_COMPONENTS;
+pub use tree::Tree;

@@ -1,0 +1,210 @@
+//! The tree.
+ghost use Rattle.std.specs.Prelude.{◌≡◌, ◌<◌, ◌≤◌, ◌+◌, ℕ, IsTrue, IsSome, IfSome, IsSomeAnd, IfOk, OnOk, OnErr, MatchOption, MatchResult, Some, None, Ok, Err, length, slice_get, codes, []};
+ghost use Rattle.std.specs.FinMap as map;
+ghost use Rattle.std.specs.Option.{option_map};
+ghost use Rattle.sed_typed.specs.Classes.{slots};
+ghost use Rattle.sed_typed.specs.Schemas.{type_at as class_numbered};
+ghost use Rattle.sed_typed.specs.SysTypes.{app_type as app_number};
+ghost use Rattle.comp_tree.specs.Application.{children_of, value_at};
+ghost use Rattle.comp_tree.specs.Edits.{app_class, first_components};
+ghost use Rattle.comp_tree.specs.Held.{IsPropertyOf};
+ghost use Rattle.comp_tree.specs.Refusals.{first_refusal, refusals_of_read};
+ghost use Rattle.comp_tree.specs.Told.{IsEntry};
+
+mod running;
+
+use crate::children::Children;
+use crate::entry::Entry;
+use crate::node::Node;
+use crate::nodes::Nodes;
+use sed_engine::{AddRefusal, Engine, Place};
+use sed_typed::{Schema, SlotForm, SlotNo, TypeNo};
+use sed_value::{Id, Name, Refusal, SlotBuf};
+use std::alloc::Global;
+use std::marker::Model;
+
+/// A tree of components over an engine, which keeps their values and runs their root calls.
+///
+/// Contracts speak of the components that it stands for. Where the engine is fixed, no call after
+/// `new` wants memory.
+#[derive(Drop)]
+pub struct Tree<E: Engine> {
+    engine: E,
+    nodes: Nodes,
+}
+
+impl<E: Engine> Model for Tree<E> {
+    ghost use Rattle.comp_tree.specs.contracts.node.Node as node;
+    ghost use Rattle.comp_tree.specs.Held.{Held, held_code, IsPlaced};
+
+    ghost Value = { Held E };
+
+    ghost coded = { held_code E.code node.the_row.coded };
+
+    ghost view = { λ t. record { engine = t.engine; nodes = t.nodes } };
+
+    ghost invariant = { λ t. IsPlaced (E.meaning t.engine) (E.live t.engine) t.nodes };
+}
+
+impl<E: Engine> Tree<E> {
+    ghost use Rattle.comp_tree.specs.Held.{components_of};
+
+    /// The App alone, named `app`, over an engine without live places. Room for 4,096 components
+    /// and their children is taken here.
+    ///
+    /// `DataFull` comes exactly where the App's data passes the engine's limit.
+    pub fn new(alloc: Global, engine: E) -> Result<Tree<E>, AddRefusal>
+        requires { E.live engine ≡ map.empty }
+        ensures made { IfOk result (λ t. components_of E.Engine t ≡ first_components (E.meaning engine) (E.statics engine) (E.limit engine)) }
+        ensures meaning { IfOk result (λ t. E.meaning t.engine ≡ E.meaning engine) }
+        ensures steady { IfOk result (λ t. E.fixed t.engine ≡ E.fixed engine) }
+        ensures full { result ≡ Err AddRefusal.DataFull → E.limit engine < (E.meaning engine).data_size (app_class (E.meaning engine)) }
+        ensures fits { OnOk result ((E.meaning engine).data_size (app_class (E.meaning engine)) ≤ E.limit engine) }
+    {
+        let mut nodes = match Nodes::new(alloc) {
+            Ok(nodes) => nodes,
+            Err(_) => return Err(AddRefusal::Memory),
+        };
+        let kind = app_type(engine.schema());
+        let mut engine = engine;
+        let place = match engine.add(kind) {
+            Ok(place) => place,
+            Err(refusal) => return Err(refusal),
+        };
+        nodes.insert(Id(0), app_node(kind, place));
+        Ok(Tree { engine, nodes })
+    }
+
+    /// The schema of the engine's code.
+    pub fn schema(&self) -> &Schema
+        ensures { result.now ≡ (E.meaning self.now.engine).schema }
+    {
+        self.engine.schema()
+    }
+
+    /// What is told of a component: none exactly where the id is not live.
+    pub fn find(&self, id: Id) -> Option<Entry>
+        ensures { MatchOption result (map.get (components_of E.Engine self.now).by_id id.0 ≡ None)
+            (λ entry. IsSomeAnd (map.get (components_of E.Engine self.now).by_id id.0) (IsEntry (E.live self.now.engine) entry)) }
+    {
+        match self.nodes.get(id) {
+            Some(node) => Some(entry_of(node)),
+            None => None,
+        }
+    }
+
+    /// A component's child by its place, counted from 0: none exactly where the id is not live or
+    /// has no more children.
+    pub fn child(&self, id: Id, n: u8) -> Option<Id>
+        ensures { option_map (λ child. child.0) result ≡ slice_get (children_of (components_of E.Engine self.now).by_id id.0) n }
+    {
+        match self.nodes.get(id) {
+            Some(node) => nth_child(&node.children, n),
+            None => None,
+        }
+    }
+
+    /// Puts the value of a property into `out`. The first refusal of its row comes exactly where
+    /// one holds, and then `out` is as it was.
+    pub fn get(&self, id: Id, slot: u8, out: &mut SlotBuf) -> Result<(), Refusal>
+        ensures value { OnOk result (out.new ≡ value_at (E.meaning self.now.engine) (components_of E.Engine self.now).by_id id.0 slot) }
+        ensures refused { MatchResult result (λ _. first_refusal (refusals_of_read (E.meaning self.now.engine) (components_of E.Engine self.now).by_id id.0 slot) ≡ None)
+            (λ refusal. first_refusal (refusals_of_read (E.meaning self.now.engine) (components_of E.Engine self.now).by_id id.0 slot) ≡ Some refusal) }
+        ensures stays { OnErr result (out.new ≡ out.old) }
+    {
+        match self.property(id, slot) {
+            Ok(place) => {
+                self.engine.get(place, SlotNo(slot), out);
+                Ok(())
+            }
+            Err(refusal) => Err(refusal),
+        }
+    }
+
+    // Where the values of a component with this property are kept.
+    fn property(&self, id: Id, slot: u8) -> Result<Place, Refusal>
+        ensures { MatchResult result (λ place. IsPropertyOf E.Engine self.now id.0 slot place.0)
+            (λ refusal. first_refusal (refusals_of_read (E.meaning self.now.engine) (components_of E.Engine self.now).by_id id.0 slot) ≡ Some refusal) }
+    {
+        let Some(node) = self.nodes.get(id) else {
+            return Err(Refusal::NoComponent);
+        };
+        match form_of(self.engine.schema(), node.kind, slot) {
+            Some(SlotForm::Prop(_)) => Ok(node.place),
+            Some(SlotForm::Action(_)) => Err(Refusal::WrongKindOfSlot),
+            None => Err(Refusal::NoSlot),
+        }
+    }
+}
+
+// The form of a slot of a class.
+fn form_of(schema: &Schema, kind: TypeNo, slot: u8) -> Option<SlotForm>
+    ensures { result ≡ option_map (λ s. s.form) (slice_get (slots schema.now.classes kind.0) slot) }
+{
+    match schema.classes.as_slice().get(usize::from(kind.0)) {
+        Some(class) => match class.slots.as_slice().get(usize::from(slot)) {
+            Some(info) => Some(info.form),
+            None => None,
+        },
+        None => None,
+    }
+}
+
+// The type of the App.
+fn app_type(schema: &Schema) -> TypeNo
+    requires { IsSome (class_numbered schema.now.classes 0 app_number) }
+    ensures { class_numbered schema.now.classes 0 app_number ≡ Some result.0 }
+{
+    match schema.type_of(0, 3) {
+        Some(kind) => kind,
+        None => unreachable!(),
+    }
+}
+
+// The App's node.
+fn app_node(kind: TypeNo, place: Place) -> Node
+    ensures kind { result.kind ≡ kind }
+    ensures name { result.name ≡ codes "app" }
+    ensures parent { result.parent ≡ None }
+    ensures children { result.children ≡ [] }
+    ensures fault { result.fault ≡ 0 }
+    ensures place { result.place ≡ place }
+{
+    Node {
+        kind,
+        name: Name::read(b"app".as_slice()).unwrap(),
+        parent: None,
+        children: Children::new(),
+        fault: 0,
+        place,
+    }
+}
+
+// A child by its place.
+fn nth_child(children: &Children, n: u8) -> Option<Id>
+    ensures { option_map (λ child. child.0) result ≡ slice_get children.now n }
+{
+    match children.get(usize::from(n)) {
+        Some(child) => Some(Id(child)),
+        None => None,
+    }
+}
+
+// What is told of a node.
+fn entry_of(node: &Node) -> Entry
+    ensures kind { result.kind ≡ node.now.kind }
+    ensures name { result.name ≡ node.now.name }
+    ensures parent { result.parent ≡ node.now.parent }
+    ensures children { result.children ≡ length node.now.children }
+    ensures fault { result.fault ≡ node.now.fault }
+    ensures place { result.place ≡ node.now.place }
+{
+    Entry {
+        kind: node.kind,
+        name: node.name,
+        parent: node.parent,
+        children: node.children.len() as u8,
+        fault: node.fault,
+        place: node.place,
+    }
+}

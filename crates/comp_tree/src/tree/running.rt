@@ -1,0 +1,104 @@
+//! Root calls on components.
+ghost use Rattle.std.specs.Prelude.{◌≡◌, ◌≤◌, IsTrue, IsSome, IsSomeAnd, OnOk, OnErr, MatchResult, Some, None};
+ghost use Rattle.std.specs.FinMap as map;
+ghost use Rattle.sed_engine.specs.Code.{may_call};
+ghost use Rattle.comp_tree.specs.Application.{fault_of};
+ghost use Rattle.comp_tree.specs.Calls.{Call, callback_argument as argument_of, execute_at, fault_by, run_at};
+ghost use Rattle.comp_tree.specs.Edits.{after_clear};
+ghost use Rattle.comp_tree.specs.Refusals.{first_refusal, refusals_of_clear};
+
+use crate::tree::Tree;
+use sed_engine::{CallEnd, Callback, Engine, Root};
+use sed_value::{Id, Refusal, SlotBuf, Value};
+
+impl<E: Engine> Tree<E> {
+    ghost use Rattle.comp_tree.specs.Held.{components_of};
+
+    /// Runs `execute` of a component whose fault is 0, with so many turns, 1 to 1,000,000, at a
+    /// moment in nanoseconds. A trap becomes its fault.
+    pub fn execute(&mut self, id: Id, turns: u32, ticks: i64) -> CallEnd
+        requires live { IsSome (map.get (components_of E.Engine self.old).by_id id.0) }
+        requires no_fault { fault_of (components_of E.Engine self.old).by_id id.0 ≡ 0 }
+        requires some_turns { 1 ≤ turns }
+        requires most_turns { turns ≤ 1000000 }
+        ensures left { components_of E.Engine self.new ≡ (execute_at (E.meaning self.old.engine) (components_of E.Engine self.old) id.0 turns ticks).left }
+        ensures end { result ≡ (execute_at (E.meaning self.old.engine) (components_of E.Engine self.old) id.0 turns ticks).end }
+        ensures meaning { E.meaning self.new.engine ≡ E.meaning self.old.engine }
+        ensures steady { E.fixed self.new.engine ≡ E.fixed self.old.engine }
+    {
+        self.run(id, Root::Execute, &SlotBuf::new(), turns, ticks)
+    }
+
+    /// Calls a callback of a component; `slot` is the argument of `changed` and is otherwise not
+    /// read. A trap becomes its fault; where its fault isn't 0, nothing is run.
+    pub fn callback(&mut self, id: Id, c: Callback, slot: u8, turns: u32, ticks: i64) -> CallEnd
+        requires live { IsSome (map.get (components_of E.Engine self.old).by_id id.0) }
+        requires some_turns { 1 ≤ turns }
+        requires most_turns { turns ≤ 1000000 }
+        ensures left { components_of E.Engine self.new ≡ (Call (E.meaning self.old.engine) (components_of E.Engine self.old) id.0 c slot turns ticks).left }
+        ensures end { result ≡ (Call (E.meaning self.old.engine) (components_of E.Engine self.old) id.0 c slot turns ticks).end }
+        ensures meaning { E.meaning self.new.engine ≡ E.meaning self.old.engine }
+        ensures steady { E.fixed self.new.engine ≡ E.fixed self.old.engine }
+    {
+        let argument = callback_argument(c, slot);
+        self.run(id, Root::Callback(c), &argument, turns, ticks)
+    }
+
+    /// Sets a component's fault to 0. The one refusal comes exactly where the id is not live.
+    pub fn clear(&mut self, id: Id) -> Result<(), Refusal>
+        ensures done { OnOk result (components_of E.Engine self.new ≡ after_clear (components_of E.Engine self.old) id.0) }
+        ensures refused { MatchResult result (λ _. first_refusal (refusals_of_clear (components_of E.Engine self.old).by_id id.0) ≡ None)
+            (λ refusal. first_refusal (refusals_of_clear (components_of E.Engine self.old).by_id id.0) ≡ Some refusal) }
+        ensures stays { OnErr result (self.new ≡ self.old) }
+        ensures meaning { E.meaning self.new.engine ≡ E.meaning self.old.engine }
+        ensures steady { E.fixed self.new.engine ≡ E.fixed self.old.engine }
+    {
+        let Some(_node) = self.nodes.get(id) else {
+            return Err(Refusal::NoComponent);
+        };
+        self.nodes.set_fault(id, 0);
+        Ok(())
+    }
+
+    // A root call on a component, where its fault is 0.
+    fn run(&mut self, id: Id, which: Root, arg: &SlotBuf, turns: u32, ticks: i64) -> CallEnd
+        requires may { IsSomeAnd (map.get (components_of E.Engine self.old).by_id id.0) (λ c. IsTrue (may_call (E.meaning self.old.engine) c.class which arg.now)) }
+        requires some_turns { 1 ≤ turns }
+        requires most_turns { turns ≤ 1000000 }
+        ensures left { components_of E.Engine self.new ≡ (run_at (E.meaning self.old.engine) (components_of E.Engine self.old) id.0 which arg.now turns ticks).left }
+        ensures end { result ≡ (run_at (E.meaning self.old.engine) (components_of E.Engine self.old) id.0 which arg.now turns ticks).end }
+        ensures meaning { E.meaning self.new.engine ≡ E.meaning self.old.engine }
+        ensures steady { E.fixed self.new.engine ≡ E.fixed self.old.engine }
+    {
+        let Some(node) = self.nodes.get(id) else {
+            return CallEnd::Done { left: turns };
+        };
+        if node.fault != 0 {
+            return CallEnd::Done { left: turns };
+        }
+        let end = self.engine.call(node.place, which, arg, turns, ticks);
+        self.nodes.set_fault(id, fault_number(end));
+        end
+    }
+}
+
+// The argument of a callback.
+fn callback_argument(c: Callback, slot: u8) -> SlotBuf
+    ensures { result ≡ argument_of c slot }
+{
+    let mut argument = SlotBuf::new();
+    if let Callback::Changed = c {
+        argument.put(Value::Int(i32::from(slot)));
+    }
+    argument
+}
+
+// The fault that a root call leaves.
+fn fault_number(end: CallEnd) -> u8
+    ensures { result ≡ fault_by end }
+{
+    match end {
+        CallEnd::Done { .. } => 0,
+        CallEnd::Trap { number } => number,
+    }
+}
