@@ -80,7 +80,8 @@ pub fn make<D: Disk>(disk: &mut D, slot: u32, payload: &[u8]) -> Result<Store, S
     ensures full { IsErrOf result SaveRefusal.Full ↔ (slot < length payload.now) }
     ensures untouched { IsErrOf result SaveRefusal.Full → disk.new ≡ disk.old }
     ensures empty { IsTrue (D.meaning disk.old).tells → OnOk result (length (D.meaning disk.old).content ≡ 0) }
-    ensures not_empty { IsTrue (D.meaning disk.old).tells → IsErrOf result SaveRefusal.NotEmpty → (length (D.meaning disk.old).content ≢ 0) × Keeps (D.meaning disk.old) (D.meaning disk.new) }
+    ensures not_empty { IsTrue (D.meaning disk.old).tells → IsErrOf result SaveRefusal.NotEmpty → length (D.meaning disk.old).content ≢ 0 }
+    ensures kept { IsTrue (D.meaning disk.old).tells → length (D.meaning disk.old).content ≢ 0 → Keeps (D.meaning disk.old) (D.meaning disk.new) }
     ensures cause { HasCause (D.meaning disk.old).faults (D.meaning disk.new).faults (IsErrOf result SaveRefusal.Device) }
     ensures answers { IsErr result → IsErrOf result SaveRefusal.Full ⊎ IsErrOf result SaveRefusal.NotEmpty ⊎ IsErrOf result SaveRefusal.Device }
     ensures comes { IsTrue (D.meaning disk.old).tells → length (D.meaning disk.old).content ≡ 0 → length payload.now ≤ slot → (Rose (D.meaning disk.old).faults (D.meaning disk.new).faults → ⊥) → IsOk result }
