@@ -124,3 +124,22 @@ run_begins S payload m all = record {
     is_entry = record { k = 0; there = omega arith; not_before = let e : u ≡ m.now = omega (arith, from, to) in let same = ap m.marks e in omega (arith, same); is = refl };
   };
 }
+
+-- calls that write nothing and mark nothing
+pub run_kept : (S : ℕ) (opened : List ℕ) (saves : Saves) (start m n : Meaning) → IsTrue m.tells → IsTrue m.tells_marks → IsRun S opened saves start m → Elapses m n → MarksUp m n 0 → During m n (m.leaves m.now) → IsRun S opened saves start n
+run_kept S opened saves start m n told told_marks run time marks during = record {
+  later = let a = run.later in let b = time.later in omega (arith, a, b);
+  made = let a = run.made in let b = (marks told_marks).at_end in omega (arith, a, b);
+  each = λ u i from to left. elim (cases_lt u m.now) [
+    | inl before ↦
+        let same = time.past_marks told_marks u (omega (arith, before)) in
+        subst (λ (k : ℕ). OpensToEntry S opened saves (k - start.marks start.now) i) (sym same) (run.each u i from (omega (arith, before)) ((time.past told u i (omega (arith, before))).0 left))
+    | inr behind ↦
+        let counts = marks told_marks in
+        let same : n.marks u ≡ m.marks m.now = elim (cases_lt u n.now) [
+          | inl within ↦ counts.until u behind within
+          | inr ended ↦ let e : u ≡ n.now = omega (arith, to, ended) in let end = counts.at_end in ap n.marks e ∙ omega (arith, end)
+        ] in
+        subst (λ (k : ℕ). OpensToEntry S opened saves (k - start.marks start.now) i) (sym same) (run.each m.now i run.later (omega arith) (during u i behind to left))
+  ];
+}

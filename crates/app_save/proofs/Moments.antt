@@ -134,3 +134,7 @@ since_kept a b c P told told_syncs one two first keeps syncs u i from to more le
       ] in
       first b.now i one.later (omega arith) (omega (arith, more, same)) (keeps.during u i in_second to left)
 ]
+
+-- where no call is made nothing is written
+pub keeps_self : (a : Meaning) → Keeps a a
+keeps_self a = record { content = refl; during = λ u i from to left. now_alone a u i from to left }

@@ -32,6 +32,7 @@ pub fn load_newest<D: Disk>(disk: &mut D, slot: u32, into: &mut [u8]) -> Result<
     ensures opens { IsTrue (D.meaning disk.old).tells → IfOk result (λ len. Opens slot (D.meaning disk.old).content (take len into.new)) }
     ensures moments { IsTrue (D.meaning disk.old).tells → During (D.meaning disk.old) (D.meaning disk.new) ((D.meaning disk.old).leaves (D.meaning disk.old).now) }
     ensures opened { IsTrue (D.meaning disk.old).tells → IfOk result (λ len. AllOpen slot (take len into.new) (D.meaning disk.new)) }
+    ensures content { IsTrue (D.meaning disk.old).tells → OnOk result ((D.meaning disk.new).content ≡ (D.meaning disk.old).content) }
     ensures time { Elapses (D.meaning disk.old) (D.meaning disk.new) }
     ensures marks { MarksUp (D.meaning disk.old) (D.meaning disk.new) 0 }
     ensures attached { (D.meaning disk.new).attached ≡ (D.meaning disk.old).attached }

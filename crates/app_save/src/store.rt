@@ -104,8 +104,11 @@ impl Store {
         ensures moments { IsTrue (D.meaning disk.old).tells → During (D.meaning disk.old) (D.meaning disk.new) ((D.meaning disk.old).leaves (D.meaning disk.old).now) }
         ensures opened { IsTrue (D.meaning disk.old).tells → IfOk result (λ len. AllOpen self.old (take len into.new) (D.meaning disk.new)) }
         ensures stores { IsTrue (D.meaning disk.old).tells → AllStores self.old (D.meaning disk.new) }
+        ensures content { IsTrue (D.meaning disk.old).tells → (IsErrOf result SaveRefusal.Device → ⊥) → (D.meaning disk.new).content ≡ (D.meaning disk.old).content }
         ensures time { Elapses (D.meaning disk.old) (D.meaning disk.new) }
         ensures marks { MarksUp (D.meaning disk.old) (D.meaning disk.new) 0 }
+        ensures run { IsTrue (D.meaning disk.old).tells → IsTrue (D.meaning disk.old).tells_marks →
+            (start : D) (opened : List ℕ) (saves : Saves) → IsRun self.old opened saves (D.meaning start) (D.meaning disk.old) → IsRun self.old opened saves (D.meaning start) (D.meaning disk.new) }
         ensures attached { (D.meaning disk.new).attached ≡ (D.meaning disk.old).attached }
 
         // its answers
