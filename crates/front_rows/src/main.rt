@@ -1,4 +1,4 @@
-//! The rows of the crates that read sources: sed_value, sed_lexer, sed_parser and kit_manifest; and of rows itself.
+//! The rows of the crates that read sources: sed_value, sed_lexer, sed_parser with sed_units, and kit_manifest; and of rows itself.
 //!
 //! Each table of data/ is run through the public calls of its crate. A row of which something else comes than what is
 //! wanted is printed, and of each table how many rows it has and how many differ.

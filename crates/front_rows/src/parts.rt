@@ -4,7 +4,7 @@
 // calls itself, however deep a tree is.
 
 use crate::trees::write_type;
-use sed_parser::{
+use sed_units::{
     AssignOp, BinaryOp, Case, Expr, ForFirst, ForHead, Form, Link, Local, Node, PrefixOp, Step,
     Stmt, TypeRef, UpdateOp,
 };

@@ -1,7 +1,7 @@
 // Units as text, in one way for each tree.
 
 use crate::parts::{prim_text, write_stmts};
-use sed_parser::{
+use sed_units::{
     Base, Class, Facet, Ident, Init, InitValue, Literal, Member, MemberForm, Modifier,
     ModifierWord, Param, Size, Stmt, TypeName, TypeRef, Unit,
 };

@@ -5,7 +5,8 @@ use crate::tokens::tokens_of;
 use crate::trees::write_unit;
 use rows::Table;
 use sed_lexer::Tokens;
-use sed_parser::{ParseRefusal, Unit, parse};
+use sed_parser::{ParseRefusal, parse};
+use sed_units::Unit;
 use std::alloc::{AllocError, Global};
 use std::io::{self, Write};
 

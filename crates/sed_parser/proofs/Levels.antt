@@ -1,7 +1,7 @@
 -- An expression of a level is one of the form of that level.
 use Rattle.std.proofs.Common.{◌≡◌, ℕ, zero, suc, ◌-◌, ◌<◌, ◌==◌, Bool, false, List, [], ◌∷◌, length, codes, refl, arith}
 use Rattle.sed_lexer.specs.Token.{Token}
-use Rattle.sed_parser.specs.Tree.{Tree}
+use Rattle.sed_units.specs.Tree.{Tree}
 use Rattle.sed_parser.specs.Reading.{Stuck}
 use Rattle.sed_parser.specs.Rule.{Rule}
 use Rattle.sed_parser.specs.Many.{many_at}

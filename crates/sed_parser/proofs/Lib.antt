@@ -3,4 +3,3 @@ pub mod Repeats
 pub mod Levels
 pub mod Nesting
 pub mod Units
-pub mod Shown

@@ -2,8 +2,8 @@
 use Rattle.std.proofs.Common.{◌≡◌, ◌≤◌, ◌+◌, ◌-◌, ℕ, Bool, false, List, [], ◌∷◌, ◌++◌, length, drop, Result, Err, refl, sym, ap, subst, ◌∙◌, arith}
 use Rattle.std.proofs.lemmas.List.{length-append, length-drop}
 use Rattle.sed_lexer.specs.Token.{Token}
-use Rattle.sed_parser.specs.declared.classes.Class.{Class}
-use Rattle.sed_parser.specs.declared.classes.Unit.{Unit as TheUnit}
+use Rattle.sed_units.specs.declared.classes.Class.{Class}
+use Rattle.sed_units.specs.declared.classes.Unit.{Unit as TheUnit}
 use Rattle.sed_parser.specs.Phrase.{Phrase}
 use Rattle.sed_parser.specs.Reading.{Found, Stuck}
 use Rattle.sed_parser.specs.Rule.{IsLeft, found_eq, not_found, stuck_eq}

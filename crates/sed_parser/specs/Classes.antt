@@ -1,16 +1,16 @@
 -- The grammar of members, classes and units.
 use Rattle.std.specs.Prelude.{ℕ, Bool, not, List, [], ◌∷◌, Option, Some, None, codes}
 use Rattle.sed_lexer.specs.Token.{Token}
-use Rattle.sed_parser.specs.declared.leaves.Facet.{Facet}
-use Rattle.sed_parser.specs.declared.leaves.Modifier.{Modifier}
-use Rattle.sed_parser.specs.declared.leaves.Param.{Param}
-use Rattle.sed_parser.specs.declared.leaves.Init.{Init}
-use Rattle.sed_parser.specs.declared.leaves.TypeName.{TypeName}
-use Rattle.sed_parser.specs.declared.classes.Member.{Member}
-use Rattle.sed_parser.specs.declared.classes.MemberForm.{MemberForm}
-use Rattle.sed_parser.specs.declared.classes.MemberForm.TheVariants as form
-use Rattle.sed_parser.specs.declared.classes.Class.{Class}
-use Rattle.sed_parser.specs.Tree.{Tree}
+use Rattle.sed_units.specs.declared.leaves.Facet.{Facet}
+use Rattle.sed_units.specs.declared.leaves.Modifier.{Modifier}
+use Rattle.sed_units.specs.declared.leaves.Param.{Param}
+use Rattle.sed_units.specs.declared.leaves.Init.{Init}
+use Rattle.sed_units.specs.declared.leaves.TypeName.{TypeName}
+use Rattle.sed_units.specs.declared.classes.Member.{Member}
+use Rattle.sed_units.specs.declared.classes.MemberForm.{MemberForm}
+use Rattle.sed_units.specs.declared.classes.MemberForm.TheVariants as form
+use Rattle.sed_units.specs.declared.classes.Class.{Class}
+use Rattle.sed_units.specs.Tree.{Tree}
 use Rattle.sed_parser.specs.Rule.{Rule, give, when, ◌>>=◌, ◌>>◌}
 use Rattle.sed_parser.specs.Many.{many}
 use Rattle.sed_parser.specs.Next.{at_end, next_mark, next_key, next_modifier}

@@ -1,7 +1,7 @@
 -- What the tokens of a text derive, and where they fault.
 use Rattle.std.specs.Prelude.{◌≡◌, ◌≤◌, ℕ, List, [], length, drop}
 use Rattle.sed_lexer.specs.Token.{Token}
-use Rattle.sed_parser.specs.declared.classes.Unit.{Unit as TheUnit}
+use Rattle.sed_units.specs.declared.classes.Unit.{Unit as TheUnit}
 use Rattle.sed_parser.specs.Reading.{Stuck}
 use Rattle.sed_parser.specs.Classes.{classes}
 

@@ -7,9 +7,9 @@
 -- operators and casts, 0 what stands behind a primary.
 use Rattle.std.specs.Prelude.{ℕ, zero, suc, ◌==◌, Bool, true, ◌&&◌, ◌||◌, List, [], ◌∷◌, codes}
 use Rattle.sed_lexer.specs.Token.{Token}
-use Rattle.sed_parser.specs.declared.leaves.Ident.{Ident}
-use Rattle.sed_parser.specs.declared.label.Label.TheVariants as label
-use Rattle.sed_parser.specs.Tree.{Tree, Absent, Part, row}
+use Rattle.sed_units.specs.declared.leaves.Ident.{Ident}
+use Rattle.sed_units.specs.declared.label.Label.TheVariants as label
+use Rattle.sed_units.specs.Tree.{Tree, Absent, Part, row}
 use Rattle.sed_parser.specs.Rule.{Rule, give, nothing, when, must, ◌>>=◌, ◌>>◌}
 use Rattle.sed_parser.specs.Many.{many}
 use Rattle.sed_parser.specs.Next.{next_mark, next_key, next_literal, next_prefix, next_update, next_binary, next_assignment, next_goes, second_prim}

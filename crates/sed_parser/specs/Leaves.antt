@@ -1,27 +1,27 @@
 -- The grammar of names, literals, types, facets, modifiers, parameters and initial values.
 use Rattle.std.specs.Prelude.{ℕ, List, Option, Some, None, codes}
 use Rattle.sed_value.specs.declared.slot_type.Primitive.{Primitive as Prim}
-use Rattle.sed_parser.specs.declared.leaves.Ident.{Ident}
-use Rattle.sed_parser.specs.declared.leaves.Literal.{Literal}
-use Rattle.sed_parser.specs.declared.leaves.TypeName.{TypeName}
-use Rattle.sed_parser.specs.declared.leaves.Base.{Base}
-use Rattle.sed_parser.specs.declared.leaves.Base.TheVariants as base
-use Rattle.sed_parser.specs.declared.leaves.Size.{Size}
-use Rattle.sed_parser.specs.declared.leaves.Size.TheVariants as size
-use Rattle.sed_parser.specs.declared.leaves.TypeRef.{TypeRef}
-use Rattle.sed_parser.specs.declared.leaves.Facet.{Facet}
-use Rattle.sed_parser.specs.declared.leaves.Modifier.{Modifier}
-use Rattle.sed_parser.specs.declared.leaves.ModifierWord.{ModifierWord}
-use Rattle.sed_parser.specs.declared.leaves.Param.{Param}
-use Rattle.sed_parser.specs.declared.leaves.Init.{Init}
-use Rattle.sed_parser.specs.declared.leaves.InitValue.{InitValue}
-use Rattle.sed_parser.specs.declared.leaves.InitValue.TheVariants as init
-use Rattle.sed_parser.specs.declared.operators.BinaryOp.{BinaryOp}
-use Rattle.sed_parser.specs.declared.operators.AssignOp.{AssignOp}
-use Rattle.sed_parser.specs.declared.operators.PrefixOp.{PrefixOp}
-use Rattle.sed_parser.specs.declared.operators.UpdateOp.{UpdateOp}
+use Rattle.sed_units.specs.declared.leaves.Ident.{Ident}
+use Rattle.sed_units.specs.declared.leaves.Literal.{Literal}
+use Rattle.sed_units.specs.declared.leaves.TypeName.{TypeName}
+use Rattle.sed_units.specs.declared.leaves.Base.{Base}
+use Rattle.sed_units.specs.declared.leaves.Base.TheVariants as base
+use Rattle.sed_units.specs.declared.leaves.Size.{Size}
+use Rattle.sed_units.specs.declared.leaves.Size.TheVariants as size
+use Rattle.sed_units.specs.declared.leaves.TypeRef.{TypeRef}
+use Rattle.sed_units.specs.declared.leaves.Facet.{Facet}
+use Rattle.sed_units.specs.declared.leaves.Modifier.{Modifier}
+use Rattle.sed_units.specs.declared.leaves.ModifierWord.{ModifierWord}
+use Rattle.sed_units.specs.declared.leaves.Param.{Param}
+use Rattle.sed_units.specs.declared.leaves.Init.{Init}
+use Rattle.sed_units.specs.declared.leaves.InitValue.{InitValue}
+use Rattle.sed_units.specs.declared.leaves.InitValue.TheVariants as init
+use Rattle.sed_units.specs.declared.operators.BinaryOp.{BinaryOp}
+use Rattle.sed_units.specs.declared.operators.AssignOp.{AssignOp}
+use Rattle.sed_units.specs.declared.operators.PrefixOp.{PrefixOp}
+use Rattle.sed_units.specs.declared.operators.UpdateOp.{UpdateOp}
 use Rattle.sed_parser.specs.Rule.{Rule, give, look, token, when, must, ◌>>=◌, ◌>>◌}
-use Rattle.sed_parser.specs.Words.{mark_of, key_of, ident_of, literal_of, integer_of, prim_of, modifier_of, binary_of, assignment_of, update_of, prefix_of}
+use Rattle.sed_units.specs.Words.{mark_of, key_of, ident_of, literal_of, integer_of, prim_of, modifier_of, binary_of, assignment_of, update_of, prefix_of}
 use Rattle.sed_parser.specs.Next.{start_of, next_mark, next_key, next_literal, next_prim, may_end}
 
 unfoldable pub mark : List ℕ → Rule (Unit {0})

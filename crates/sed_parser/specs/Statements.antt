@@ -4,14 +4,14 @@
 -- one, and so does a pair of brackets.
 use Rattle.std.specs.Prelude.{ℕ, zero, suc, Bool, true, false, not, ◌||◌, List, Option, Some, None, codes}
 use Rattle.sed_lexer.specs.Token.{Token}
-use Rattle.sed_parser.specs.declared.leaves.Ident.{Ident}
-use Rattle.sed_parser.specs.declared.label.Label.TheVariants as label
-use Rattle.sed_parser.specs.declared.statements.Local.{Local}
-use Rattle.sed_parser.specs.declared.statements.ForHead.{ForHead}
-use Rattle.sed_parser.specs.declared.statements.ForFirst.{ForFirst}
-use Rattle.sed_parser.specs.declared.statements.ForFirst.TheVariants as first
-use Rattle.sed_parser.specs.Tree.{Tree, Absent, Part, row, optional}
-use Rattle.sed_parser.specs.StatementTree.{local_tree, for_tree, case_tree}
+use Rattle.sed_units.specs.declared.leaves.Ident.{Ident}
+use Rattle.sed_units.specs.declared.label.Label.TheVariants as label
+use Rattle.sed_units.specs.declared.statements.Local.{Local}
+use Rattle.sed_units.specs.declared.statements.ForHead.{ForHead}
+use Rattle.sed_units.specs.declared.statements.ForFirst.{ForFirst}
+use Rattle.sed_units.specs.declared.statements.ForFirst.TheVariants as first
+use Rattle.sed_units.specs.Tree.{Tree, Absent, Part, row, optional}
+use Rattle.sed_units.specs.StatementTree.{local_tree, for_tree, case_tree}
 use Rattle.sed_parser.specs.Rule.{Rule, give, nothing, when, must, headed, ◌>>=◌, ◌>>◌}
 use Rattle.sed_parser.specs.Many.{many}
 use Rattle.sed_parser.specs.Next.{next_mark, next_key, next_first, may_end}

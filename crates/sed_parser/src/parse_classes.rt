@@ -9,11 +9,9 @@ ghost use Rattle.sed_parser.specs.Next as next;
 ghost use Rattle.sed_parser.specs.Statements as statements;
 ghost use Rattle.sed_parser.specs.Halts.{Gives, Makes};
 
-use crate::classes::{Class, Member, MemberForm};
 use crate::halt::Halt;
-use crate::leaves::{Facet, Init, Modifier, Param, TypeName};
 use crate::parser::Parser;
-use crate::statements::Stmt;
+use sed_units::{Class, Facet, Init, Member, MemberForm, Modifier, Param, Stmt, TypeName};
 use sed_value::Items;
 use std::alloc::Global;
 

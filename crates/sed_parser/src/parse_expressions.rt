@@ -1,14 +1,13 @@
 // Expressions.
 ghost use Rattle.std.specs.Prelude.{◌≡◌, ◌≤◌, ◌<◌, ◌-◌};
 ghost use Rattle.sed_parser.specs.Expressions as grammar;
-ghost use Rattle.sed_parser.specs.Tree as tree;
-ghost use Rattle.sed_parser.specs.declared.label.Label.TheVariants as label;
+ghost use Rattle.sed_units.specs.Tree as tree;
+ghost use Rattle.sed_units.specs.declared.label.Label.TheVariants as label;
 ghost use Rattle.sed_parser.specs.Halts.{Gives, Makes};
 
-use crate::expressions::{Expr, Link, Node, Step};
 use crate::halt::Halt;
-use crate::operators::{AssignOp, PrefixOp, UpdateOp};
 use crate::parser::Parser;
+use sed_units::{AssignOp, Expr, Link, Node, PrefixOp, Step, UpdateOp};
 use sed_value::{Items, Prim};
 use std::alloc::Global;
 

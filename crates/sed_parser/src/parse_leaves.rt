@@ -4,10 +4,8 @@ ghost use Rattle.sed_parser.specs.Leaves as grammar;
 ghost use Rattle.sed_parser.specs.Halts.{Gives};
 
 use crate::halt::Halt;
-use crate::leaves::{
-    Base, Facet, Init, InitValue, Literal, Modifier, Param, Size, TypeName, TypeRef,
-};
 use crate::parser::Parser;
+use sed_units::{Base, Facet, Init, InitValue, Literal, Modifier, Param, Size, TypeName, TypeRef};
 use std::alloc::Global;
 
 impl<'a> Parser<'a> {

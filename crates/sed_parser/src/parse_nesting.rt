@@ -1,15 +1,14 @@
 // Statements with others within them.
 ghost use Rattle.std.specs.Prelude.{◌≡◌};
 ghost use Rattle.sed_parser.specs.Statements as grammar;
-ghost use Rattle.sed_parser.specs.Tree as tree;
-ghost use Rattle.sed_parser.specs.declared.label.Label.TheVariants as label;
+ghost use Rattle.sed_units.specs.Tree as tree;
+ghost use Rattle.sed_units.specs.declared.label.Label.TheVariants as label;
 ghost use Rattle.sed_parser.specs.Halts.{Gives};
 
 use crate::boxed::Boxed;
-use crate::expressions::Expr;
 use crate::halt::Halt;
 use crate::parser::Parser;
-use crate::statements::{Case, Form, Stmt};
+use sed_units::{Case, Expr, Form, Stmt};
 use sed_value::Items;
 use std::alloc::Global;
 

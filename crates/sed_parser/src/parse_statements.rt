@@ -5,11 +5,9 @@ ghost use Rattle.sed_parser.specs.Expressions as expressions;
 ghost use Rattle.sed_parser.specs.Reading.{as_far};
 ghost use Rattle.sed_parser.specs.Halts.{Gives};
 
-use crate::expressions::Expr;
 use crate::halt::Halt;
-use crate::leaves::Ident;
 use crate::parser::Parser;
-use crate::statements::{ForFirst, ForHead, Form, Local, Stmt};
+use sed_units::{Expr, ForFirst, ForHead, Form, Ident, Local, Stmt};
 use std::alloc::Global;
 
 // The level of any expression.

@@ -3,10 +3,9 @@ ghost use Rattle.std.specs.Prelude.{◌≡◌};
 ghost use Rattle.sed_parser.specs.Expressions as grammar;
 ghost use Rattle.sed_parser.specs.Halts.{Gives};
 
-use crate::expressions::{Expr, Node};
 use crate::halt::Halt;
-use crate::leaves::Ident;
 use crate::parser::Parser;
+use sed_units::{Expr, Ident, Node};
 use std::alloc::Global;
 
 impl<'a> Parser<'a> {

@@ -7,12 +7,11 @@ ghost use Rattle.sed_parser.specs.Reading.{further};
 ghost use Rattle.sed_parser.specs.Halts.{Gives};
 
 use crate::halt::Halt;
-use crate::leaves::{Ident, Literal, LiteralKind, ModifierWord};
-use crate::operators::{AssignOp, BinaryOp, PrefixOp, UpdateOp};
-use crate::tables::{
+use sed_lexer::{TokenKind, Tokens};
+use sed_units::{
+    AssignOp, BinaryOp, Ident, Literal, LiteralKind, ModifierWord, PrefixOp, UpdateOp,
     assignment_of, binary_of, leads_on, literal_kind, modifier_of, prefix_of, prim_of, update_of,
 };
-use sed_lexer::{TokenKind, Tokens};
 use sed_value::{Items, Prim};
 use std::alloc::Global;
 use std::marker::Model;

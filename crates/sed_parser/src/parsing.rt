@@ -2,13 +2,13 @@
 ghost use Rattle.std.specs.Prelude.{◌≡◌, ◌⊎◌, ◌≤◌, ℕ, IfOk, List, length, Ok, Err};
 ghost use Rattle.sed_lexer.specs.Token.{Token};
 ghost use Rattle.sed_parser.specs.Derives.{Derives, FaultsAt};
-ghost use Rattle.sed_parser.specs.declared.classes.Unit.{Unit as TheUnit};
+ghost use Rattle.sed_units.specs.declared.classes.Unit.{Unit as TheUnit};
 ghost use Rattle.sed_parser.specs.declared.parsing.ParseRefusal.TheVariants as refusal;
 
-use crate::classes::Unit;
 use crate::halt::Halt;
 use crate::parser::Parser;
 use sed_lexer::Tokens;
+use sed_units::Unit;
 use std::alloc::Global;
 use thiserror::Error;
 

@@ -3,9 +3,9 @@ use Rattle.std.proofs.Common.{◌≡◌, ◌∙◌, ℕ, List, Option, Some, sym
 use Rattle.sed_lexer.specs.Token.{Token}
 use Rattle.sed_lexer.specs.Lexes.{Lexes}
 use Rattle.sed_parser.specs.Derives.{Derives}
-use Rattle.sed_parser.specs.FirstForm.{IsFirst}
-use Rattle.sed_parser.specs.declared.classes.Unit.{Unit as TheUnit}
-use Rattle.sed_parser.specs.declared.form.First.{First}
+use Rattle.sed_first.specs.FirstForm.{IsFirst}
+use Rattle.sed_units.specs.declared.classes.Unit.{Unit as TheUnit}
+use Rattle.sed_first.specs.declared.form.First.{First}
 use Rattle.sedona_cli.specs.Program.{IsUnit, IsOfFirstForm}
 
 -- a unit of the text is one of the tokens that were found

@@ -9,10 +9,10 @@ use Rattle.std.proofs.lemmas.List.Sums.{fold_more}
 use Rattle.std.proofs.lemmas.Map.Text.{is_eq-slice_cmp}
 use Rattle.std.proofs.lemmas.Slice.Eq.{bytes_eq-Decides}
 use Rattle.std.proofs.lemmas.List.Elements.{All-weaker, All-from_recursion}
-use Rattle.sed_parser.specs.declared.form.First.{First}
-use Rattle.sed_parser.specs.declared.form.FirstProp.{FirstProp}
-use Rattle.sed_parser.specs.declared.form.FirstAssign.{FirstAssign}
-use Rattle.sed_parser.specs.Naming.{has_property, is_slot, is_known_term, is_known_assignment}
+use Rattle.sed_first.specs.declared.form.First.{First}
+use Rattle.sed_first.specs.declared.form.FirstProp.{FirstProp}
+use Rattle.sed_first.specs.declared.form.FirstAssign.{FirstAssign}
+use Rattle.sed_first.specs.Naming.{has_property, is_slot, is_known_term, is_known_assignment}
 use Rattle.sedona_cli.specs.declared.component.Slot.{Slot}
 use Rattle.sedona_cli.specs.Cycles.{Values, value_at, sum_of, assigned, initial}
 use Rattle.sedona_cli.specs.Slots.{entries_of, value_in, slot_with, with_value, AssignSlots}

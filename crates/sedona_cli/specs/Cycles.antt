@@ -6,10 +6,10 @@ use Rattle.std.specs.Ordering.{nat_cmp}
 use Rattle.std.specs.Cmp.Lexicographic.{slice_cmp}
 use Rattle.std.specs.FinMap as map_of
 use Rattle.sed_value.specs.Wrap.{wrap}
-use Rattle.sed_parser.specs.declared.form.First.{First}
-use Rattle.sed_parser.specs.declared.form.FirstAssign.{FirstAssign}
-use Rattle.sed_parser.specs.declared.form.FirstTerm.{FirstTerm}
-use Rattle.sed_parser.specs.declared.form.FirstTerm.TheVariants.{Name, Number}
+use Rattle.sed_first.specs.declared.form.First.{First}
+use Rattle.sed_first.specs.declared.form.FirstAssign.{FirstAssign}
+use Rattle.sed_first.specs.declared.form.FirstTerm.{FirstTerm}
+use Rattle.sed_first.specs.declared.form.FirstTerm.TheVariants.{Name, Number}
 
 -- the values of a component, by the names of its slots
 abbrev pub Values : Type 0

@@ -2,7 +2,7 @@ pub use Rattle.sed_outside.specs.Cause
 pub use Rattle.sed_outside.specs.Files
 pub use Rattle.sed_outside.specs.Sink
 pub use Rattle.sed_lexer.specs.Lexes
-pub use Rattle.sed_parser.specs.FirstForm
+pub use Rattle.sed_first.specs.FirstForm
 pub mod Command
 pub mod Cycles
 pub mod Text

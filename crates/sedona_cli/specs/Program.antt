@@ -5,9 +5,9 @@ use Rattle.sed_lexer.specs.Token.{Token, token_at}
 use Rattle.sed_lexer.specs.Lexes.{Lexes, FaultsAt}
 use Rattle.sed_parser.specs.Derives as grammar
 use Rattle.sed_parser.specs.Derives.{Derives}
-use Rattle.sed_parser.specs.FirstForm.{IsFirst}
-use Rattle.sed_parser.specs.declared.classes.Unit.{Unit as TheUnit}
-use Rattle.sed_parser.specs.declared.form.First.{First}
+use Rattle.sed_first.specs.FirstForm.{IsFirst}
+use Rattle.sed_units.specs.declared.classes.Unit.{Unit as TheUnit}
+use Rattle.sed_first.specs.declared.form.First.{First}
 use Rattle.sed_outside.specs.Cause.{Rose}
 use Rattle.sed_outside.specs.Files.{Contents}
 use Rattle.sed_outside.specs.Sink.{with_text, PutsFront}

@@ -2,7 +2,7 @@
 use Rattle.std.specs.Prelude.{◌≡◌, ℕ, ℤ, pos, true, if◌then◌else◌, List, [], ◌∷◌, map, All}
 use Rattle.std.specs.Str.{bytes_eq}
 use Rattle.std.specs.FinMap as map_of
-use Rattle.sed_parser.specs.declared.form.FirstAssign.{FirstAssign}
+use Rattle.sed_first.specs.declared.form.FirstAssign.{FirstAssign}
 use Rattle.sedona_cli.specs.Cycles.{Values}
 use Rattle.sedona_cli.specs.declared.component.Slot.{Slot}
 

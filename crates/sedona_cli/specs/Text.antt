@@ -2,8 +2,8 @@
 use Rattle.std.specs.Prelude.{ℕ, List, [], ◌∷◌, ◌++◌, map, codes}
 use Rattle.std.specs.List.{flat_map}
 use Rattle.std.specs.Fmt.{signed_decimal}
-use Rattle.sed_parser.specs.declared.form.First.{First}
-use Rattle.sed_parser.specs.declared.form.FirstProp.{FirstProp}
+use Rattle.sed_first.specs.declared.form.First.{First}
+use Rattle.sed_first.specs.declared.form.FirstProp.{FirstProp}
 use Rattle.sedona_cli.specs.Cycles.{Values, value_at, initial, after_cycles}
 
 abbrev pub line_end : List ℕ

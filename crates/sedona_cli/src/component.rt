@@ -2,11 +2,11 @@
 ghost use Rattle.std.specs.Prelude.{◌≡◌, IfOk, true};
 ghost use Rattle.std.specs.List.{list_all};
 ghost use Rattle.std.specs.FinMap as map_of;
-ghost use Rattle.sed_parser.specs.Naming.{is_known_assignment};
+ghost use Rattle.sed_first.specs.Naming.{is_known_assignment};
 ghost use Rattle.sedona_cli.specs.Cycles as meaning;
 ghost use Rattle.sedona_cli.specs.Slots.{value_in, slot_with, with_value, AssignSlots};
 
-use sed_parser::{First, FirstAssign, FirstTerm};
+use sed_first::{First, FirstAssign, FirstTerm};
 use sed_value::{Word, add_int};
 use std::alloc::{AllocError, Global};
 use std::marker::Model;

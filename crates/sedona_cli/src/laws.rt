@@ -1,6 +1,6 @@
 //! Laws of source texts.
 ghost use Rattle.std.specs.Prelude.{◌≡◌, ℕ, List};
-ghost use Rattle.sed_parser.specs.declared.form.First.{First};
+ghost use Rattle.sed_first.specs.declared.form.First.{First};
 ghost use Rattle.sedona_cli.specs.Program.{IsClass};
 
 use sed_lexer::tokens_are_one;

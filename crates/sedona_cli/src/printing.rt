@@ -4,7 +4,7 @@ ghost use Rattle.std.specs.Fmt.{signed_decimal};
 ghost use Rattle.sedona_cli.specs.Text as text;
 
 use crate::component::Component;
-use sed_parser::FirstProp;
+use sed_first::FirstProp;
 use sed_value::Word;
 use std::alloc::{AllocError, Global};
 

@@ -1,8 +1,8 @@
 //! The top call.
 ghost use Rattle.std.specs.Prelude.{◌≡◌, ◌≢◌, ◌⊎◌, ◌↔◌, ◌++◌, ℕ, List, Some, None, [], ◌∷◌, IfOk, IfErr, true};
 ghost use Rattle.std.specs.List.{list_all};
-ghost use Rattle.sed_parser.specs.Naming.{is_known_assignment};
-ghost use Rattle.sed_parser.specs.declared.classes.Unit.{Unit as TheUnit};
+ghost use Rattle.sed_first.specs.Naming.{is_known_assignment};
+ghost use Rattle.sed_units.specs.declared.classes.Unit.{Unit as TheUnit};
 ghost use Rattle.sed_outside.specs.Cause.{Rose};
 ghost use Rattle.sed_outside.specs.Sink.{with_text, PutsFront};
 ghost use Rattle.sedona_cli.specs.Refused.{IsRefusal, words_of};
@@ -16,9 +16,11 @@ use crate::component::{Component, run};
 use crate::printing::{component_text, line_with_file};
 use crate::refusal::{TextRefusal, Why};
 use crate::status::Status;
+use sed_first::{First, FirstRefusal, first};
 use sed_lexer::{LexRefusal, Tokens, lex};
 use sed_outside::{FileFault, Files, Sink};
-use sed_parser::{First, FirstRefusal, ParseRefusal, Unit, first, parse};
+use sed_parser::{ParseRefusal, parse};
+use sed_units::Unit;
 use std::alloc::{AllocError, Global};
 
 // The place where a token begins, or the end of the text where there is no token of this number.

@@ -1,8 +1,8 @@
 use Rattle.std.proofs.Common.{List, subst}
 use Rattle.sed_lexer.specs.Token.{Token}
 use Rattle.sed_parser.specs.Derives.{Derives}
-use Rattle.sed_parser.specs.FirstForm.{IsFirst}
-use Rattle.sed_parser.specs.declared.classes.Unit.{Unit as TheUnit}
+use Rattle.sed_first.specs.FirstForm.{IsFirst}
+use Rattle.sed_units.specs.declared.classes.Unit.{Unit as TheUnit}
 use Rattle.sedona_cli.specs.Program.{IsUnit}
 use Rattle.sedona_cli.proofs.Classes.{class_is_one}
 use Rattle.sedona_cli.proofs.laws.class_of_text_is_one.Goals as goal

@@ -2,13 +2,13 @@
 use Rattle.std.specs.Prelude.{ℕ, ◌+◌, ◌≤◌, List, [], ◌∷◌}
 use Rattle.std.proofs.Common.{arith}
 use denote.Param.Weighed.{most}
-use Rattle.sed_parser.specs.Tree.{Tree, row, tree_size}
-use Rattle.sed_parser.specs.ExpressionTree.{node_tree, step_tree}
-use Rattle.sed_parser.specs.declared.expressions.Node.{Node}
-use Rattle.sed_parser.specs.declared.expressions.Node.TheVariants as node
-use Rattle.sed_parser.specs.declared.expressions.Step.{Step}
-use Rattle.sed_parser.specs.declared.expressions.Step.TheVariants as step
-use Rattle.sed_parser.specs.declared.expressions.Expr.TheDeep.{deep-Node, deep-Step}
+use Rattle.sed_units.specs.Tree.{Tree, row, tree_size}
+use Rattle.sed_units.specs.ExpressionTree.{node_tree, step_tree}
+use Rattle.sed_units.specs.declared.expressions.Node.{Node}
+use Rattle.sed_units.specs.declared.expressions.Node.TheVariants as node
+use Rattle.sed_units.specs.declared.expressions.Step.{Step}
+use Rattle.sed_units.specs.declared.expressions.Step.TheVariants as step
+use Rattle.sed_units.specs.declared.expressions.Expr.TheDeep.{deep-Node, deep-Step}
 
 pub row_falls : (ts : List Tree) → most (λ t. tree_size t + 1) ts ≤ tree_size (row ts) + 1
 row_falls [] = omega arith

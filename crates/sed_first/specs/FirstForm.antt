@@ -5,35 +5,35 @@ use Rattle.std.specs.Str.{bytes_eq}
 use Rattle.sed_value.specs.Names.{is_word}
 use Rattle.sed_value.specs.Decimal.{number_of}
 use Rattle.sed_value.specs.declared.slot_type.Primitive.TheVariants as prim
-use Rattle.sed_parser.specs.declared.leaves.Ident.{Ident}
-use Rattle.sed_parser.specs.declared.leaves.Literal.{Literal}
-use Rattle.sed_parser.specs.declared.leaves.LiteralKind.{LiteralKind}
-use Rattle.sed_parser.specs.declared.leaves.LiteralKind.TheVariants as literal
-use Rattle.sed_parser.specs.declared.leaves.TypeName.{TypeName}
-use Rattle.sed_parser.specs.declared.leaves.Base.{Base}
-use Rattle.sed_parser.specs.declared.leaves.Base.TheVariants as base
-use Rattle.sed_parser.specs.declared.leaves.Size.{Size}
-use Rattle.sed_parser.specs.declared.leaves.Facet.{Facet}
-use Rattle.sed_parser.specs.declared.leaves.Modifier.{Modifier}
-use Rattle.sed_parser.specs.declared.leaves.ModifierWord.{ModifierWord}
-use Rattle.sed_parser.specs.declared.leaves.ModifierWord.TheVariants as modifier
-use Rattle.sed_parser.specs.declared.leaves.InitValue.{InitValue}
-use Rattle.sed_parser.specs.declared.leaves.InitValue.TheVariants as init
-use Rattle.sed_parser.specs.declared.operators.BinaryOp.TheVariants as binary
-use Rattle.sed_parser.specs.declared.operators.AssignOp.TheVariants as assign
-use Rattle.sed_parser.specs.declared.label.Label.TheVariants as label
-use Rattle.sed_parser.specs.declared.classes.MemberForm.{MemberForm}
-use Rattle.sed_parser.specs.declared.classes.MemberForm.TheVariants as form
-use Rattle.sed_parser.specs.declared.classes.Member.{Member}
-use Rattle.sed_parser.specs.declared.classes.Class.{Class}
-use Rattle.sed_parser.specs.declared.classes.Unit.{Unit as TheUnit}
-use Rattle.sed_parser.specs.declared.form.First.{First}
-use Rattle.sed_parser.specs.declared.form.FirstProp.{FirstProp}
-use Rattle.sed_parser.specs.declared.form.FirstAssign.{FirstAssign}
-use Rattle.sed_parser.specs.declared.form.FirstTerm.{FirstTerm}
-use Rattle.sed_parser.specs.declared.form.FirstTerm.TheVariants.{Name, Number}
-use Rattle.sed_parser.specs.Tree.{Tree, Part, row_items}
-use Rattle.sed_parser.specs.Naming.{is_well_named}
+use Rattle.sed_units.specs.declared.leaves.Ident.{Ident}
+use Rattle.sed_units.specs.declared.leaves.Literal.{Literal}
+use Rattle.sed_units.specs.declared.leaves.LiteralKind.{LiteralKind}
+use Rattle.sed_units.specs.declared.leaves.LiteralKind.TheVariants as literal
+use Rattle.sed_units.specs.declared.leaves.TypeName.{TypeName}
+use Rattle.sed_units.specs.declared.leaves.Base.{Base}
+use Rattle.sed_units.specs.declared.leaves.Base.TheVariants as base
+use Rattle.sed_units.specs.declared.leaves.Size.{Size}
+use Rattle.sed_units.specs.declared.leaves.Facet.{Facet}
+use Rattle.sed_units.specs.declared.leaves.Modifier.{Modifier}
+use Rattle.sed_units.specs.declared.leaves.ModifierWord.{ModifierWord}
+use Rattle.sed_units.specs.declared.leaves.ModifierWord.TheVariants as modifier
+use Rattle.sed_units.specs.declared.leaves.InitValue.{InitValue}
+use Rattle.sed_units.specs.declared.leaves.InitValue.TheVariants as init
+use Rattle.sed_units.specs.declared.operators.BinaryOp.TheVariants as binary
+use Rattle.sed_units.specs.declared.operators.AssignOp.TheVariants as assign
+use Rattle.sed_units.specs.declared.label.Label.TheVariants as label
+use Rattle.sed_units.specs.declared.classes.MemberForm.{MemberForm}
+use Rattle.sed_units.specs.declared.classes.MemberForm.TheVariants as form
+use Rattle.sed_units.specs.declared.classes.Member.{Member}
+use Rattle.sed_units.specs.declared.classes.Class.{Class}
+use Rattle.sed_units.specs.declared.classes.Unit.{Unit as TheUnit}
+use Rattle.sed_first.specs.declared.form.First.{First}
+use Rattle.sed_first.specs.declared.form.FirstProp.{FirstProp}
+use Rattle.sed_first.specs.declared.form.FirstAssign.{FirstAssign}
+use Rattle.sed_first.specs.declared.form.FirstTerm.{FirstTerm}
+use Rattle.sed_first.specs.declared.form.FirstTerm.TheVariants.{Name, Number}
+use Rattle.sed_units.specs.Tree.{Tree, Part, row_items}
+use Rattle.sed_first.specs.Naming.{is_well_named}
 
 -- a step, and the next on what it gives
 infixl 10 ◌>>=◌

@@ -2,7 +2,7 @@
 ghost use Rattle.std.specs.Prelude.{◌≡◌};
 ghost use Rattle.std.specs.List.{list_all, list_any};
 ghost use Rattle.std.specs.Str.{bytes_eq};
-ghost use Rattle.sed_parser.specs.Naming as names;
+ghost use Rattle.sed_first.specs.Naming as names;
 
 use crate::{First, FirstAssign, FirstProp, FirstTerm};
 use sed_value::Word;

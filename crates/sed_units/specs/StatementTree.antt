@@ -1,13 +1,13 @@
 -- The tree of a statement.
 use Rattle.std.specs.Prelude.{ℕ, List, Option, Some, None}
-use Rattle.sed_parser.specs.Tree.{Tree, Absent, Part, row, optional}
-use Rattle.sed_parser.specs.declared.label.Label.TheVariants as label
-use Rattle.sed_parser.specs.declared.statements.Form.{Form}
-use Rattle.sed_parser.specs.declared.statements.Form.TheVariants as form
-use Rattle.sed_parser.specs.declared.statements.Local.{Local}
-use Rattle.sed_parser.specs.declared.statements.ForHead.{ForHead}
-use Rattle.sed_parser.specs.declared.statements.ForFirst.{ForFirst}
-use Rattle.sed_parser.specs.declared.statements.ForFirst.TheVariants as first
+use Rattle.sed_units.specs.Tree.{Tree, Absent, Part, row, optional}
+use Rattle.sed_units.specs.declared.label.Label.TheVariants as label
+use Rattle.sed_units.specs.declared.statements.Form.{Form}
+use Rattle.sed_units.specs.declared.statements.Form.TheVariants as form
+use Rattle.sed_units.specs.declared.statements.Local.{Local}
+use Rattle.sed_units.specs.declared.statements.ForHead.{ForHead}
+use Rattle.sed_units.specs.declared.statements.ForFirst.{ForFirst}
+use Rattle.sed_units.specs.declared.statements.ForFirst.TheVariants as first
 
 abbrev pub local_tree : Local → Tree
 local_tree l = Part (label.Local l.at l.kind l.name) (optional l.value) Absent

@@ -1,5 +1,5 @@
 // What a class of the first form has.
-ghost use Rattle.sed_parser.specs.declared.form.FirstRefusal.TheVariants.{Memory};
+ghost use Rattle.sed_first.specs.declared.form.FirstRefusal.TheVariants.{Memory};
 ghost use Rattle.std.specs.Prelude.{◌≡◌};
 
 use sed_value::{Items, Word};

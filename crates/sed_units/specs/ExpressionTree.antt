@@ -1,11 +1,11 @@
 -- The tree of an expression.
 use Rattle.std.specs.Prelude.{ℕ}
-use Rattle.sed_parser.specs.Tree.{Tree, Absent, Part, row}
-use Rattle.sed_parser.specs.declared.label.Label.TheVariants as label
-use Rattle.sed_parser.specs.declared.expressions.Node.{Node}
-use Rattle.sed_parser.specs.declared.expressions.Node.TheVariants as node
-use Rattle.sed_parser.specs.declared.expressions.Step.{Step}
-use Rattle.sed_parser.specs.declared.expressions.Step.TheVariants as step
+use Rattle.sed_units.specs.Tree.{Tree, Absent, Part, row}
+use Rattle.sed_units.specs.declared.label.Label.TheVariants as label
+use Rattle.sed_units.specs.declared.expressions.Node.{Node}
+use Rattle.sed_units.specs.declared.expressions.Node.TheVariants as node
+use Rattle.sed_units.specs.declared.expressions.Step.{Step}
+use Rattle.sed_units.specs.declared.expressions.Step.TheVariants as step
 
 abbrev pub step_tree : ℕ → Step → Tree
 step_tree at (step.Member id) = Part (label.Member at id) Absent Absent

@@ -1,6 +1,6 @@
 use Rattle.std.proofs.lemmas.Result.{err_from_is_err_and}
-use Rattle.sed_parser.proofs.Shown.{one_more, refused}
-use Rattle.sed_parser.proofs.reading.at_most.Goals as goal
+use Rattle.sed_first.proofs.Shown.{one_more, refused}
+use Rattle.sed_first.proofs.reading.at_most.Goals as goal
 
 pub returns-in_err-next : goal.returns-in_err-next
 returns-in_err-next g c =

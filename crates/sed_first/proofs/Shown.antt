@@ -4,11 +4,11 @@ use Rattle.std.specs.Prelude.{nat_le}
 use Rattle.std.proofs.lemmas.Bool.Decides.{nat_tests}
 use Rattle.std.proofs.Math.Seq.{take-suc}
 use Rattle.std.proofs.Math.ListN.{get_or}
-use Rattle.sed_parser.specs.declared.form.FirstRefusal.{FirstRefusal}
-use Rattle.sed_parser.specs.declared.form.FirstRefusal.TheVariants.{NotFirst, Memory}
-use Rattle.sed_parser.specs.FirstForm.{◌>>=◌, all_of, at_most}
-use Rattle.sed_parser.specs.Answers.{Answers}
-use Rattle.sed_parser.specs.Tree.{Tree, row, row_items}
+use Rattle.sed_first.specs.declared.form.FirstRefusal.{FirstRefusal}
+use Rattle.sed_first.specs.declared.form.FirstRefusal.TheVariants.{NotFirst, Memory}
+use Rattle.sed_first.specs.FirstForm.{◌>>=◌, all_of, at_most}
+use Rattle.sed_first.specs.Answers.{Answers}
+use Rattle.sed_units.specs.Tree.{Tree, row, row_items}
 
 later : {B : Type 0} (o q : Option B) (p : Option (List B))
     → (o >>= λ b. ((p >>= λ ys. q >>= λ y. Some (ys ++ y ∷ [])) >>= λ bs. Some (b ∷ bs)))

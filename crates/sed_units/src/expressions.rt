@@ -62,41 +62,41 @@ pub enum Step {
 }
 
 impl Model for Expr {
-    ghost use Rattle.sed_parser.specs.Tree.{Tree, tree_code, tree_size};
-    ghost use Rattle.sed_parser.specs.contracts.label.Label as l;
+    ghost use Rattle.sed_units.specs.Tree.{Tree, tree_code, tree_size};
+    ghost use Rattle.sed_units.specs.contracts.label.Label as l;
 
     ghost Value = { Tree };
 
     ghost coded = { tree_code l.the_row.coded };
 
-    ghost use Rattle.sed_parser.specs.ExpressionTree.{node_tree};
+    ghost use Rattle.sed_units.specs.ExpressionTree.{node_tree};
 
     ghost view = { λ e. node_tree e.at e.node };
 
     ghost size = { tree_size };
 
     ghost use Rattle.std.proofs.Common.{arith};
-    ghost use Rattle.sed_parser.specs.ExpressionFalls.{node_falls};
+    ghost use Rattle.sed_units.specs.ExpressionFalls.{node_falls};
 
     ghost size_decreases = { λ e h. Prim.omega (arith, node_falls e.at e.node) };
 }
 
 impl Model for Link {
-    ghost use Rattle.sed_parser.specs.Tree.{Tree, tree_code, tree_size};
-    ghost use Rattle.sed_parser.specs.contracts.label.Label as l;
+    ghost use Rattle.sed_units.specs.Tree.{Tree, tree_code, tree_size};
+    ghost use Rattle.sed_units.specs.contracts.label.Label as l;
 
     ghost Value = { Tree };
 
     ghost coded = { tree_code l.the_row.coded };
 
-    ghost use Rattle.sed_parser.specs.ExpressionTree.{step_tree};
+    ghost use Rattle.sed_units.specs.ExpressionTree.{step_tree};
 
     ghost view = { λ k. step_tree k.at k.step };
 
     ghost size = { tree_size };
 
     ghost use Rattle.std.proofs.Common.{arith};
-    ghost use Rattle.sed_parser.specs.ExpressionFalls.{step_falls};
+    ghost use Rattle.sed_units.specs.ExpressionFalls.{step_falls};
 
     ghost size_decreases = { λ k h. Prim.omega (arith, step_falls k.at k.step) };
 }

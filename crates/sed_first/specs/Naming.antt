@@ -2,11 +2,11 @@
 use Rattle.std.specs.Prelude.{ℕ, Bool, true, ◌||◌, ◌&&◌, not, List, [], ◌∷◌, codes}
 use Rattle.std.specs.List.{list_all, list_any}
 use Rattle.std.specs.Str.{bytes_eq}
-use Rattle.sed_parser.specs.declared.form.First.{First}
-use Rattle.sed_parser.specs.declared.form.FirstProp.{FirstProp}
-use Rattle.sed_parser.specs.declared.form.FirstAssign.{FirstAssign}
-use Rattle.sed_parser.specs.declared.form.FirstTerm.{FirstTerm}
-use Rattle.sed_parser.specs.declared.form.FirstTerm.TheVariants.{Name, Number}
+use Rattle.sed_first.specs.declared.form.First.{First}
+use Rattle.sed_first.specs.declared.form.FirstProp.{FirstProp}
+use Rattle.sed_first.specs.declared.form.FirstAssign.{FirstAssign}
+use Rattle.sed_first.specs.declared.form.FirstTerm.{FirstTerm}
+use Rattle.sed_first.specs.declared.form.FirstTerm.TheVariants.{Name, Number}
 
 abbrev pub is_among : List (List ℕ) → List ℕ → Bool
 is_among names name = list_any (λ other. bytes_eq name other) names

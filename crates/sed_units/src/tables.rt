@@ -1,6 +1,6 @@
 // The tables of operators and key words.
 ghost use Rattle.std.specs.Prelude.{◌≡◌};
-ghost use Rattle.sed_parser.specs.Words as words;
+ghost use Rattle.sed_units.specs.Words as words;
 
 use crate::leaves::{LiteralKind, ModifierWord};
 use crate::operators::{AssignOp, BinaryOp, PrefixOp, UpdateOp};
@@ -21,6 +21,7 @@ fn constant_of(bytes: &[u8]) -> Option<LiteralKind>
     }
 }
 
+/// The kind of literal that a token is, if it is one: a number, a character, a text, or `true`, `false`, `null`.
 pub fn literal_kind(kind: TokenKind, bytes: &[u8]) -> Option<LiteralKind>
     ensures { result ≡ words.literal_kind kind bytes.now }
 {
@@ -52,6 +53,7 @@ fn prim_word(bytes: &[u8]) -> Option<Prim>
     }
 }
 
+/// The primitive type that a token names, if it names one: `bool`, `byte`, `short`, `int` or `long`.
 pub fn prim_of(kind: TokenKind, bytes: &[u8]) -> Option<Prim>
     ensures { result ≡ words.prim_of kind bytes.now }
 {
@@ -111,6 +113,7 @@ fn member_word(bytes: &[u8]) -> Option<ModifierWord>
     }
 }
 
+/// The modifier that a token is, if it is one.
 pub fn modifier_of(kind: TokenKind, bytes: &[u8]) -> Option<ModifierWord>
     ensures { result ≡ words.modifier_of kind bytes.now }
 {
@@ -226,6 +229,8 @@ fn level_of(op: BinaryOp) -> usize
     }
 }
 
+/// The binary operator of a level that a token is, if it is one. A greater level binds less tight: `*`, `/` and `%` have
+/// level 2, `||` has 11.
 pub fn binary_of(level: usize, kind: TokenKind, bytes: &[u8]) -> Option<BinaryOp>
     ensures { result ≡ words.binary_of level kind bytes.now }
 {
@@ -278,6 +283,7 @@ fn bit_assignment(bytes: &[u8]) -> Option<AssignOp>
     }
 }
 
+/// The assignment that a token is, if it is one: `=`, or an operator with `=` behind it.
 pub fn assignment_of(kind: TokenKind, bytes: &[u8]) -> Option<AssignOp>
     ensures { result ≡ words.assignment_of kind bytes.now }
 {
@@ -290,6 +296,7 @@ pub fn assignment_of(kind: TokenKind, bytes: &[u8]) -> Option<AssignOp>
     bit_assignment(bytes)
 }
 
+/// The update that a token is, if it is one: `++` or `--`.
 pub fn update_of(kind: TokenKind, bytes: &[u8]) -> Option<UpdateOp>
     ensures { result ≡ words.update_of kind bytes.now }
 {
@@ -323,6 +330,7 @@ fn prefix_mark(bytes: &[u8]) -> Option<PrefixOp>
     }
 }
 
+/// The prefix operator that a token is, if it is one: `!`, `-`, `~`, `++` or `--`.
 pub fn prefix_of(kind: TokenKind, bytes: &[u8]) -> Option<PrefixOp>
     ensures { result ≡ words.prefix_of kind bytes.now }
 {

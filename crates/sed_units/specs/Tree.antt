@@ -3,8 +3,8 @@
 use Rattle.std.specs.Prelude.{◌≡◌, ℕ, ◌+◌, List, [], ◌∷◌, Option, Some, None, refl}
 use Rattle.std.proofs.Common.{◌∙◌, ap}
 use Rattle.std.specs.Coded.{Coded, code_by, coded_list, coded_option}
-use Rattle.sed_parser.specs.declared.label.Label.{Label}
-use Rattle.sed_parser.specs.declared.label.Label.TheVariants as label
+use Rattle.sed_units.specs.declared.label.Label.{Label}
+use Rattle.sed_units.specs.declared.label.Label.TheVariants as label
 
 pub data Tree : Type 0 where
   Absent : Tree

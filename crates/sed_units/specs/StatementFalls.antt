@@ -2,12 +2,12 @@
 use Rattle.std.specs.Prelude.{ℕ, ◌+◌, ◌≤◌, List, Option, Some, None}
 use Rattle.std.proofs.Common.{arith}
 use denote.Param.Weighed.{most}
-use Rattle.sed_parser.specs.Tree.{Tree, tree_size}
-use Rattle.sed_parser.specs.ExpressionFalls.{row_falls}
-use Rattle.sed_parser.specs.StatementTree.{form_tree, case_tree}
-use Rattle.sed_parser.specs.declared.statements.Form.{Form}
-use Rattle.sed_parser.specs.declared.statements.Form.TheVariants as form
-use Rattle.sed_parser.specs.declared.statements.Case.TheDeep.{deep-Form}
+use Rattle.sed_units.specs.Tree.{Tree, tree_size}
+use Rattle.sed_units.specs.ExpressionFalls.{row_falls}
+use Rattle.sed_units.specs.StatementTree.{form_tree, case_tree}
+use Rattle.sed_units.specs.declared.statements.Form.{Form}
+use Rattle.sed_units.specs.declared.statements.Form.TheVariants as form
+use Rattle.sed_units.specs.declared.statements.Case.TheDeep.{deep-Form}
 
 pub case_falls : (at : ℕ) (l : Option Tree) (body : List Tree) → most (λ t. tree_size t + 1) body ≤ tree_size (case_tree at l body)
 case_falls at None body = omega (arith, row_falls body)

@@ -1,19 +1,16 @@
 // A class of the first form, read from its unit.
 ghost use Rattle.std.specs.Prelude.{◌≡◌, IfOk, IsErrOf, Option, Some, [], ◌∷◌};
-ghost use Rattle.sed_parser.specs.declared.form.First.{First as ClassOfFirstForm};
-ghost use Rattle.sed_parser.specs.FirstForm as form;
-ghost use Rattle.sed_parser.specs.Answers.{Answers};
+ghost use Rattle.sed_first.specs.declared.form.First.{First as ClassOfFirstForm};
+ghost use Rattle.sed_first.specs.FirstForm as form;
+ghost use Rattle.sed_first.specs.Answers.{Answers};
 
-use crate::classes::{Class, Member, MemberForm, Unit};
-use crate::expressions::{Expr, Link, Node, Step};
-use crate::leaves::{
-    Base, Facet, Ident, Init, InitValue, Literal, LiteralKind, Modifier, ModifierWord, TypeName,
-    TypeRef,
-};
 use crate::naming::is_well_named;
-use crate::operators::{AssignOp, BinaryOp};
-use crate::statements::{Form, Stmt};
 use crate::{First, FirstAssign, FirstProp, FirstRefusal, FirstTerm};
+use sed_units::{
+    AssignOp, Base, BinaryOp, Class, Expr, Facet, Form, Ident, Init, InitValue, Link, Literal,
+    LiteralKind, Member, MemberForm, Modifier, ModifierWord, Node, Step, Stmt, TypeName, TypeRef,
+    Unit,
+};
 use sed_value::{Items, Prim, Word, read_decimal};
 use std::alloc::Global;
 

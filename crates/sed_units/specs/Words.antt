@@ -6,20 +6,20 @@ use Rattle.sed_value.specs.declared.slot_type.Primitive.TheVariants as prim
 use Rattle.sed_lexer.specs.Token.{Token}
 use Rattle.sed_lexer.specs.declared.kind.TokenKind.{TokenKind}
 use Rattle.sed_lexer.specs.declared.kind.TokenKind.TheVariants as kind
-use Rattle.sed_parser.specs.declared.leaves.Ident.{Ident}
-use Rattle.sed_parser.specs.declared.leaves.Literal.{Literal}
-use Rattle.sed_parser.specs.declared.leaves.LiteralKind.{LiteralKind}
-use Rattle.sed_parser.specs.declared.leaves.LiteralKind.TheVariants as literal
-use Rattle.sed_parser.specs.declared.leaves.ModifierWord.{ModifierWord}
-use Rattle.sed_parser.specs.declared.leaves.ModifierWord.TheVariants as modifier
-use Rattle.sed_parser.specs.declared.operators.BinaryOp.{BinaryOp}
-use Rattle.sed_parser.specs.declared.operators.BinaryOp.TheVariants as binary
-use Rattle.sed_parser.specs.declared.operators.AssignOp.{AssignOp}
-use Rattle.sed_parser.specs.declared.operators.AssignOp.TheVariants as assign
-use Rattle.sed_parser.specs.declared.operators.PrefixOp.{PrefixOp}
-use Rattle.sed_parser.specs.declared.operators.PrefixOp.TheVariants as prefix
-use Rattle.sed_parser.specs.declared.operators.UpdateOp.{UpdateOp}
-use Rattle.sed_parser.specs.declared.operators.UpdateOp.TheVariants as update
+use Rattle.sed_units.specs.declared.leaves.Ident.{Ident}
+use Rattle.sed_units.specs.declared.leaves.Literal.{Literal}
+use Rattle.sed_units.specs.declared.leaves.LiteralKind.{LiteralKind}
+use Rattle.sed_units.specs.declared.leaves.LiteralKind.TheVariants as literal
+use Rattle.sed_units.specs.declared.leaves.ModifierWord.{ModifierWord}
+use Rattle.sed_units.specs.declared.leaves.ModifierWord.TheVariants as modifier
+use Rattle.sed_units.specs.declared.operators.BinaryOp.{BinaryOp}
+use Rattle.sed_units.specs.declared.operators.BinaryOp.TheVariants as binary
+use Rattle.sed_units.specs.declared.operators.AssignOp.{AssignOp}
+use Rattle.sed_units.specs.declared.operators.AssignOp.TheVariants as assign
+use Rattle.sed_units.specs.declared.operators.PrefixOp.{PrefixOp}
+use Rattle.sed_units.specs.declared.operators.PrefixOp.TheVariants as prefix
+use Rattle.sed_units.specs.declared.operators.UpdateOp.{UpdateOp}
+use Rattle.sed_units.specs.declared.operators.UpdateOp.TheVariants as update
 
 abbrev pub is_some : {A : Type 0} → Option A → Bool
 is_some None = false

@@ -66,41 +66,41 @@ pub enum ForFirst {
 }
 
 impl Model for Stmt {
-    ghost use Rattle.sed_parser.specs.Tree.{Tree, tree_code, tree_size};
-    ghost use Rattle.sed_parser.specs.contracts.label.Label as l;
+    ghost use Rattle.sed_units.specs.Tree.{Tree, tree_code, tree_size};
+    ghost use Rattle.sed_units.specs.contracts.label.Label as l;
 
     ghost Value = { Tree };
 
     ghost coded = { tree_code l.the_row.coded };
 
-    ghost use Rattle.sed_parser.specs.StatementTree.{form_tree};
+    ghost use Rattle.sed_units.specs.StatementTree.{form_tree};
 
     ghost view = { λ s. form_tree s.at s.form };
 
     ghost size = { tree_size };
 
     ghost use Rattle.std.proofs.Common.{arith};
-    ghost use Rattle.sed_parser.specs.StatementFalls.{form_falls};
+    ghost use Rattle.sed_units.specs.StatementFalls.{form_falls};
 
     ghost size_decreases = { λ s h. Prim.omega (arith, form_falls s.at s.form) };
 }
 
 impl Model for Case {
-    ghost use Rattle.sed_parser.specs.Tree.{Tree, tree_code, tree_size};
-    ghost use Rattle.sed_parser.specs.contracts.label.Label as l;
+    ghost use Rattle.sed_units.specs.Tree.{Tree, tree_code, tree_size};
+    ghost use Rattle.sed_units.specs.contracts.label.Label as l;
 
     ghost Value = { Tree };
 
     ghost coded = { tree_code l.the_row.coded };
 
-    ghost use Rattle.sed_parser.specs.StatementTree.{case_tree};
+    ghost use Rattle.sed_units.specs.StatementTree.{case_tree};
 
     ghost view = { λ c. case_tree c.at c.label c.body.items };
 
     ghost size = { tree_size };
 
     ghost use Rattle.std.proofs.Common.{arith};
-    ghost use Rattle.sed_parser.specs.StatementFalls.{case_falls};
+    ghost use Rattle.sed_units.specs.StatementFalls.{case_falls};
 
     ghost size_decreases = { λ c h. Prim.omega (arith, case_falls c.at c.label c.body.items) };
 }
