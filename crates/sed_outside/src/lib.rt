@@ -1,4 +1,4 @@
-//! The outside of the program: files by their names, and the sink of what it prints.
+//! The outside of the program: files by their names, the sink of what it prints, and addresses of peers.
 //!
 //! Each is a trait with two kinds of meaning. What the object holds is *told* by the memory forms and not by the real
 //! ones; how many of its calls have failed is counted by both. A clause on content holds where the content is told, and
@@ -7,6 +7,7 @@
 //! the system's files and a writer. Every crate that reads, writes or prints stands on these traits.
 #![tactic(auto)]
 
+mod addr;
 mod bounded_text;
 mod failing_calls;
 mod files;
@@ -17,6 +18,7 @@ mod out_sink;
 mod real_files;
 mod sink;
 
+pub use addr::Addr;
 pub use failing_calls::FailingCalls;
 pub use files::{FileFault, Files, LARGEST_FILE};
 pub use mem_files::MemFiles;
