@@ -1,0 +1,5 @@
+pub mod Entry
+pub mod Reading
+pub mod Record
+pub mod Split
+pub mod View
