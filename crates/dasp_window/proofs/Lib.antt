@@ -1,3 +1,4 @@
+pub mod AheadLemmas
 pub mod DoneTo
 pub mod KeptLemmas
 pub mod NumberLemmas

@@ -17,6 +17,10 @@ gap_from least (index ∷ later) = if index == least then gap_from (suc least) l
 abbrev pub first_gap : List ℕ → ℕ
 first_gap taken = gap_from 0 taken
 
+-- an index above the first gap was taken
+abbrev pub is_ahead : List ℕ → Bool
+is_ahead taken = list_any (λ index. nat_lt (first_gap taken) index) taken
+
 -- ascending from `least` on, and each index once
 abbrev pub AscendsFrom : ℕ → List ℕ → Type 0
 AscendsFrom least [] = Unit {0}

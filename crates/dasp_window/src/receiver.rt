@@ -3,6 +3,7 @@ ghost use Rattle.std.specs.Prelude.{◌≡◌, ℕ, ◌+◌, ◌<◌, ◌&&◌, 
 ghost use Rattle.dasp_window.specs.Numbers.{distance};
 ghost use Rattle.dasp_window.specs.Acks.{ack_of, SaysMore};
 ghost use Rattle.dasp_window.specs.Receiving.{ReceivesLike};
+ghost use Rattle.dasp_window.specs.TakenIndexes as indexes;
 ghost use Rattle.dasp_window.specs.TakenIndexes.{taken_as, after_take, first_gap, answer_at, with_new};
 
 use crate::message::WINDOW;
@@ -99,6 +100,13 @@ impl Receiver {
         ensures more { (taken : List ℕ) → ReceivesLike self.now taken → SaysMore taken result.1 }
     {
         (self.gap.wrapping_sub(1), self.bits.to_le_bytes())
+    }
+
+    /// Whether an index above the first gap was taken: only then do the four bytes say anything.
+    pub fn is_ahead(&self) -> bool
+        ensures { (taken : List ℕ) → ReceivesLike self.now taken → result ≡ indexes.is_ahead taken }
+    {
+        self.bits != 0
     }
 }
 

@@ -44,6 +44,14 @@ impl Sender {
         })
     }
 
+    /// Forgets all that was posted, and stands for no message. Takes no memory and keeps its own.
+    pub fn restart(&mut self)
+        ensures { SendsLike self.new [] }
+    {
+        self.messages.clear();
+        self.first = 0;
+    }
+
     /// Whether fewer than 31 messages stand from the first open one on.
     pub fn room(&self) -> bool
         ensures window { result ≡ nat_lt (length self.now.messages) 31 }
@@ -87,6 +95,7 @@ impl Sender {
     pub fn due(&self, now: i64) -> Due
         ensures window { result ≡ due_from self.now.first self.now.messages now }
         ensures posted { (posted : List Message) → SendsLike self.now posted → result ≡ due_of posted now }
+        ensures few { length self.now.messages ≤ 31 }
         ensures there { (number : ℕ) → result ≡ Due.Resend number → IsTrue (has_message self.now number) }
     {
         due_among(self.first, &self.messages, now)
@@ -106,7 +115,8 @@ impl Sender {
     /// The bytes of the message of this number, which is the first open one or one behind it.
     pub fn bytes(&self, number: u16) -> &[u8]
         requires { IsTrue (has_message self.now number) }
-        ensures { (posted : List Message) → SendsLike self.now posted → bytes_at posted number ≡ Some result.now }
+        ensures posted { (posted : List Message) → SendsLike self.now posted → bytes_at posted number ≡ Some result.now }
+        ensures short { length result.now ≤ 498 }
     {
         let place = usize::from(number.wrapping_sub(self.first));
         self.messages[place].bytes.as_bytes()

@@ -14,8 +14,8 @@ index-requires c =
     (subst (λ (w : Window). has_message w c.args.number ≡ true) (sym c.self.view_is) c.requires) in
     omega (arith, here.within)
 
-pub returns : goal.returns
-returns c = λ posted like.
+pub returns-clause-posted : goal.returns-clause-posted
+returns-clause-posted c = λ posted like.
     let window : Window = record { first = c.self.inside.first; messages = c.self.inside.messages.items } in
     let here : StandsHere window c.args.number c.from-place.result =
     stands_here window c.args.number c.from-place.result (omega arith) (omega arith) c.from-place.ensures
