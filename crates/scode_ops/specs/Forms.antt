@@ -1,4 +1,4 @@
--- Which operands the instruction of a number has.
+-- Which operands the instruction of a number has: the code's own reading, for its private clauses. No public clause rests on it.
 use Rattle.std.specs.Prelude.{ℕ, Bool, ◌||◌, ◌==◌, if◌then◌else◌, Option, Some, None}
 use Rattle.sed_value.specs.Characters.{is_between}
 use Rattle.scode_ops.specs.declared.operands.Form.{Form}

@@ -1,0 +1,52 @@
+//! Reading what stands several times.
+ghost use Rattle.std.specs.Prelude.{◌≡◌};
+ghost use Rattle.scode_image.specs.Form.{Form};
+ghost use Rattle.scode_image.specs.Grammar as grammar;
+ghost use Rattle.scode_image.specs.Row.{times, counted};
+ghost use Rattle.scode_image.specs.Gives.{Gives};
+
+use crate::fields::{u1, u2};
+use crate::halt::Halt;
+use sed_value::Items;
+use sed_wire::Reader;
+use std::alloc::Global;
+
+// What stands in a row.
+pub(crate) trait Item: Drop {
+    ghost form: { Form Self };
+
+    fn read(alloc: Global, reader: &mut Reader) -> Result<Self, Halt>
+        ensures { Gives result reader.new (form.reads reader.old) };
+}
+
+// So many of them.
+pub(crate) fn times<T: Item>(
+    alloc: Global,
+    reader: &mut Reader,
+    count: usize,
+) -> Result<Items<T>, Halt>
+    ensures { Gives result reader.new ((times count T.form).reads reader.old) }
+{
+    let mut items = Vec::new(alloc);
+    for _ in 0..count {
+        let next = T::read(alloc, reader)?;
+        items.push(next)?;
+    }
+    Ok(Items::new(items))
+}
+
+// Their number in one byte, and then they.
+pub(crate) fn few<T: Item>(alloc: Global, reader: &mut Reader) -> Result<Items<T>, Halt>
+    ensures { Gives result reader.new ((counted grammar.u1 T.form).reads reader.old) }
+{
+    let count = u1(reader)?;
+    times(alloc, reader, usize::from(count))
+}
+
+// Their number in two bytes, and then they.
+pub(crate) fn many<T: Item>(alloc: Global, reader: &mut Reader) -> Result<Items<T>, Halt>
+    ensures { Gives result reader.new ((counted grammar.u2 T.form).reads reader.old) }
+{
+    let count = u2(reader)?;
+    times(alloc, reader, usize::from(count))
+}

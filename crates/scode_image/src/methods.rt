@@ -1,0 +1,117 @@
+//! Reading methods.
+ghost use Rattle.std.specs.Prelude.{◌≡◌, length};
+ghost use Rattle.scode_image.specs.Grammar as grammar;
+ghost use Rattle.scode_image.specs.Leaves as leaf;
+ghost use Rattle.scode_image.specs.Gives.{Gives};
+
+use crate::fields::{run, u1_to, u2, u2_from};
+use crate::halt::Halt;
+use crate::image::{ImageEntry, ImageKind, ImageMethod};
+use crate::items::{Item, few, many, times};
+use sed_value::Items;
+use sed_wire::Reader;
+use std::alloc::Global;
+
+impl Item for ImageKind {
+    ghost form = { grammar.kind };
+
+    #[tactic(auto, unfolding(crate::specs::Grammar::kind))]
+    fn read(_: Global, reader: &mut Reader) -> Result<ImageKind, Halt> {
+        let kind = u1_to(reader, 6)?;
+        let class = kind_class(reader, kind)?;
+        Ok(ImageKind { kind, class })
+    }
+}
+
+// The class of an object's kind; else none stands there.
+#[tactic(auto, unfolding(crate::specs::Grammar::kind_class))]
+fn kind_class(reader: &mut Reader, kind: u8) -> Result<u16, Halt>
+    ensures { Gives result reader.new ((grammar.kind_class kind).reads reader.old) }
+{
+    if kind == 6 { u2(reader) } else { Ok(0) }
+}
+
+// The entry of a method with so many locals, at this place or behind it.
+#[tactic(auto, unfolding(crate::specs::Grammar::entry))]
+fn entry(
+    alloc: Global,
+    reader: &mut Reader,
+    locals: usize,
+    least: usize,
+) -> Result<ImageEntry, Halt>
+    ensures { Gives result reader.new ((grammar.entry locals least).reads reader.old) }
+{
+    let place = u2_from(reader, least)?;
+    let locals = times(alloc, reader, locals)?;
+    let stack = many(alloc, reader)?;
+    Ok(ImageEntry {
+        place,
+        locals,
+        stack,
+    })
+}
+
+// So many entries, whose places ascend.
+#[tactic(auto, unfolding(crate::specs::Grammar::entries))]
+fn entries(
+    alloc: Global,
+    reader: &mut Reader,
+    locals: usize,
+    count: usize,
+) -> Result<Items<ImageEntry>, Halt>
+    ensures { Gives result reader.new ((grammar.entries locals count).reads reader.old) }
+{
+    let mut all = Vec::new(alloc);
+    let mut least = 0;
+    for _ in 0..count {
+        let next = entry(alloc, reader, locals, least)?;
+        least = usize::from(next.place) + 1;
+        all.push(next)?;
+    }
+    Ok(Items::new(all))
+}
+
+#[tactic(auto, unfolding(crate::specs::Grammar::counted_entries))]
+fn counted_entries(
+    alloc: Global,
+    reader: &mut Reader,
+    locals: usize,
+) -> Result<Items<ImageEntry>, Halt>
+    ensures { Gives result reader.new ((grammar.counted_entries locals).reads reader.old) }
+{
+    let count = u2(reader)?;
+    entries(alloc, reader, locals, usize::from(count))
+}
+
+fn code(alloc: Global, reader: &mut Reader) -> Result<Items<u8>, Halt>
+    ensures { Gives result reader.new ((leaf.counted_run grammar.u2).reads reader.old) }
+{
+    let size = u2(reader)?;
+    run(alloc, reader, usize::from(size))
+}
+
+impl Item for ImageMethod {
+    ghost form = { grammar.method };
+
+    #[tactic(auto, unfolding(crate::specs::Grammar::method, crate::specs::Grammar::behind_locals))]
+    fn read(alloc: Global, reader: &mut Reader) -> Result<ImageMethod, Halt> {
+        let class = u2(reader)?;
+        let flags = u1_to(reader, 3)?;
+        let params = few(alloc, reader)?;
+        let result = ImageKind::read(alloc, reader)?;
+        let locals = few(alloc, reader)?;
+        let stack = u2(reader)?;
+        let code = code(alloc, reader)?;
+        let entries = counted_entries(alloc, reader, locals.len())?;
+        Ok(ImageMethod {
+            class,
+            flags,
+            params,
+            result,
+            locals,
+            stack,
+            code,
+            entries,
+        })
+    }
+}
