@@ -1,0 +1,5 @@
+mod FilterLemmas
+mod OrderLemmas
+mod RowLemmas
+mod KeptLemmas
+mod LawLemmas

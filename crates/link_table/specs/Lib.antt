@@ -1,0 +1,5 @@
+pub mod Link
+pub mod Links
+pub mod Rows
+pub mod Ends
+pub mod Marks
