@@ -148,19 +148,19 @@ kinds_again (more_of-Expr e es) = ap (λ k. k ∷ term_kinds (args_term es)) (ki
 pub goes_again : (p : Program) {a b x y : Kind} → a ≡ x → b ≡ y → GoesTo p a b → GoesTo p x y
 goes_again p {a} {b} {x} {y} e f h = subst (λ (k : Kind). GoesTo p k y) e (subst (λ (k : Kind). GoesTo p a k) f h)
 
-operands_again : (op : Binary) {a b x y : Kind} → a ≡ x → b ≡ y → AreOperands op a b → AreOperands op x y
+pub operands_again : (op : Binary) {a b x y : Kind} → a ≡ x → b ≡ y → AreOperands op a b → AreOperands op x y
 operands_again op {a} {b} {x} {y} e f h = subst (λ (k : Kind). AreOperands op k y) e (subst (λ (k : Kind). AreOperands op a k) f h)
 
-buf_again : (p : Program) (i : ℕ) {a x : Kind} → a ≡ x → IsBuf (field_form p a i) → IsBuf (field_form p x i)
+pub buf_again : (p : Program) (i : ℕ) {a x : Kind} → a ≡ x → IsBuf (field_form p a i) → IsBuf (field_form p x i)
 buf_again p i {a} {x} e h = subst (λ (k : Kind). IsBuf (field_form p k i)) e h
 
-static_again : (p : Program) (m : ℕ) (k : Kind) {a x : List Kind} → a ≡ x → IsStaticCall p m k a → IsStaticCall p m k x
+pub static_again : (p : Program) (m : ℕ) (k : Kind) {a x : List Kind} → a ≡ x → IsStaticCall p m k a → IsStaticCall p m k x
 static_again p m k {a} {x} e h = subst (λ (ks : List Kind). IsStaticCall p m k ks) e h
 
-super_again : (p : Program) (class m : ℕ) (k : Kind) {a x : List Kind} → a ≡ x → IsSuperCall p class m k a → IsSuperCall p class m k x
+pub super_again : (p : Program) (class m : ℕ) (k : Kind) {a x : List Kind} → a ≡ x → IsSuperCall p class m k a → IsSuperCall p class m k x
 super_again p class m k {a} {x} e h = subst (λ (ks : List Kind). IsSuperCall p class m k ks) e h
 
-invocation_again : (p : Program) (m : ℕ) (k : Kind) {a x : Kind} {ks xs : List Kind} → a ≡ x → ks ≡ xs →
+pub invocation_again : (p : Program) (m : ℕ) (k : Kind) {a x : Kind} {ks xs : List Kind} → a ≡ x → ks ≡ xs →
     IsInvocation p (object_class a) m k ks → IsInvocation p (object_class x) m k xs
 invocation_again p m k {a} {x} {ks} {xs} e f h =
     subst (λ (q : Kind). IsInvocation p (object_class q) m k xs) e (subst (λ (qs : List Kind). IsInvocation p (object_class a) m k qs) f h)

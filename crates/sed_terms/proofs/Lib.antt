@@ -5,3 +5,8 @@ pub mod Least
 pub mod Told
 pub mod ChainRows
 pub mod Values
+pub mod Behind
+pub mod Rows
+pub mod Discarded
+pub mod Back
+pub mod StmtBack

@@ -1,6 +1,6 @@
 -- Faults, and what is found of a part of a text. An expression with a fault inside is unknown, and no rule speaks of it: rules
 -- are written with the words of this file, which pass on what is unknown.
-use Rattle.std.specs.Prelude.{ℕ, Bool, ◌==◌, ◌&&◌, ◌||◌, nat_lt, if◌then◌else◌, List, [], ◌∷◌, ◌++◌, Option, Some, None}
+use Rattle.std.specs.Prelude.{◌≡◌, ℕ, Bool, ◌==◌, ◌&&◌, ◌||◌, nat_lt, if◌then◌else◌, List, [], ◌∷◌, ◌++◌, Option, Some, None}
 use Rattle.sed_terms.specs.declared.judged.Fault.{Fault}
 use Rattle.sed_terms.specs.declared.judged.Judged.{Judged}
 use Rattle.sed_terms.specs.declared.judged.Judged.TheVariants.{Sound, Unknown}
@@ -70,3 +70,15 @@ some_or m fault None = Unknown (m.one fault)
 abbrev pub told : {A : Type 0} → Judged A (List Fault) → Judged A (Option Fault)
 told (Sound a) = Sound a
 told (Unknown fs) = Unknown (least fs)
+
+-- ---- what is promised
+
+-- of what is found, where it is sound
+abbrev pub IfSound : {F A : Type 0} → Judged A F → (A → Type 0) → Type 0
+IfSound (Sound a) P = P a
+IfSound (Unknown f) P = Unit {0}
+
+-- of a rule where all faults are kept: what is sound has this, and what is unknown has a fault
+abbrev pub Right : {A : Type 0} → (A → Type 0) → Judged A (List Fault) → Type 0
+Right P (Sound a) = P a
+Right P (Unknown fs) = fs ≡ [] → ⊥

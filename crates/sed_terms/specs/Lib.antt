@@ -8,3 +8,5 @@ pub mod TermDepth
 pub mod SortKind
 pub mod OpenTerm
 pub mod Faults
+pub mod Forms
+pub mod Cases

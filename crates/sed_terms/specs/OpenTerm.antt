@@ -4,6 +4,7 @@ use Rattle.sed_typed.specs.declared.tree.Expr.{Expr}
 use Rattle.sed_terms.specs.declared.open.Open.{Open}
 use Rattle.sed_terms.specs.declared.open.Open.TheVariants as held
 use Rattle.sed_terms.specs.declared.sign.Sign.TheVariants as sign
+use Rattle.sed_terms.specs.Forms.{evaluated_after}
 use Rattle.sed_terms.specs.Term.{Term, Absent, Node, leaf}
 use Rattle.sed_terms.specs.Seen.{term_of}
 
@@ -38,3 +39,8 @@ is_open (held.Bytes e i) = false
 abbrev pub behind : Option Expr → Term → Term
 behind None t = t
 behind (Some e) t = Node sign.After (term_of e) t
+
+-- what is evaluated of it behind that instance
+abbrev pub evaluated_behind : Option Expr → Term → Term
+evaluated_behind None t = t
+evaluated_behind (Some e) t = evaluated_after (term_of e) t

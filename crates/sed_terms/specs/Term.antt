@@ -17,6 +17,11 @@ abbrev pub row : List Term → Term
 row [] = Absent
 row (t ∷ ts) = Node sign.More t (row ts)
 
+-- a part that may be missing
+abbrev pub optional : Option Term → Term
+optional None = Absent
+optional (Some t) = t
+
 -- a row, or labels, with one more at the end
 abbrev pub appended : Term → Term → Term
 appended Absent last = last

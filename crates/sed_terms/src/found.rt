@@ -1,15 +1,19 @@
 //! A typed expression in the making.
 ghost use Rattle.std.specs.Prelude.{◌≡◌, IfOk, true};
 ghost use Rattle.sed_terms.specs.declared.sign.Sign.TheVariants as sign;
-ghost use Rattle.sed_terms.specs.Seen.{term_of};
+ghost use Rattle.sed_terms.specs.Forms as forms;
+ghost use Rattle.sed_terms.specs.OpenTerm.{open_term, is_open, behind};
+ghost use Rattle.sed_terms.specs.Seen.{optional_term, term_of};
 ghost use Rattle.sed_terms.specs.Sorts as sorts;
 ghost use Rattle.sed_terms.specs.Sorts.{is_value, sort_of};
 ghost use Rattle.sed_terms.specs.Term.{Absent, Node, leaf};
 
 mod accesses;
+mod calls;
+mod stores;
 
 use crate::kinds::{binary_kind, kind_in, read_kind, unary_kind};
-use crate::links::{closed, put_behind, with_link};
+use crate::links::{closed, evaluated, evaluated_part, put_behind, with_link};
 use crate::open::Open;
 use crate::sort::Sort;
 use sed_typed::{Binary, Expr, Kind, Link, TypeNo, Unary};
@@ -39,6 +43,16 @@ impl Model for Found {
     ghost view = { λ f. behind f.before (open_term f.tree) };
 
     ghost invariant = { λ f. (f.sort ≡ sort_of (behind f.before (open_term f.tree))) × (is_open f.tree ≡ is_place (behind f.before (open_term f.tree))) };
+}
+
+// One with its parts.
+#[tactic(auto, using(crate::proofs::Values::place_behind, crate::proofs::Values::sort_behind))]
+fn held(before: Option<Expr>, sort: Sort, tree: Open) -> Found
+    requires sort_is { sort ≡ sort_of (open_term tree) }
+    requires place_is { is_open tree ≡ sorts.is_place (open_term tree) }
+    ensures { result ≡ behind before (open_term tree) }
+{
+    Found { sort, before, tree }
 }
 
 // ---- what stands alone
@@ -208,6 +222,17 @@ impl Found {
     {
         let e = closed(alloc, self.tree)?;
         put_behind(alloc, self.before, e)
+    }
+}
+
+impl Found {
+    /// What is evaluated of it where its value is not used; nothing, where it names only an array or a Buf without a receiver.
+    #[tactic(auto, using(crate::proofs::Discarded::discarded_behind))]
+    pub fn into_evaluated(self, alloc: Global) -> Result<Option<Expr>, Memory>
+        ensures { IfOk result (λ e. optional_term e ≡ forms.discarded self) }
+    {
+        let part = evaluated_part(alloc, self.tree)?;
+        evaluated(alloc, self.before, part)
     }
 }
 

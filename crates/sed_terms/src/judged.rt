@@ -1,4 +1,7 @@
 //! What is found of a part of a text.
+ghost use Rattle.std.specs.Prelude.{◌≡◌, Some};
+ghost use Rattle.sed_terms.specs.Faults as faults;
+ghost use Rattle.sed_terms.specs.Faults.{least_fault};
 
 /// A broken rule, and the byte place at which it is broken.
 #[derive(Clone, Copy, Debug, PartialEq, Eq)]
@@ -13,4 +16,43 @@ pub struct Fault {
 pub enum Judged<T, F> {
     Sound(T),
     Unknown(F),
+}
+
+fn is_before(a: &Fault, b: &Fault) -> bool
+    ensures { result ≡ faults.is_before a.now b.now }
+{
+    a.at < b.at || (a.at == b.at && a.rule < b.rule)
+}
+
+/// The lesser of two faults that may be there: the one at the lesser place, and at one place the one of the lesser rule.
+pub fn lesser(a: Option<Fault>, b: Option<Fault>) -> Option<Fault>
+    ensures { result ≡ faults.lesser a b }
+{
+    match (a, b) {
+        (None, b) => b,
+        (Some(a), None) => Some(a),
+        (Some(a), Some(b)) => { if is_before(&b, &a) { Some(b) } else { Some(a) } }
+    }
+}
+
+/// Two parts together: the lesser of their faults.
+pub fn paired<T: Drop, U: Drop>(
+    x: Judged<T, Option<Fault>>,
+    y: Judged<U, Option<Fault>>,
+) -> Judged<(T, U), Option<Fault>>
+    ensures { result ≡ faults.paired least_fault x y }
+{
+    match (x, y) {
+        (Judged::Sound(x), Judged::Sound(y)) => Judged::Sound((x, y)),
+        (Judged::Sound(_), Judged::Unknown(f)) => Judged::Unknown(f),
+        (Judged::Unknown(f), Judged::Sound(_)) => Judged::Unknown(f),
+        (Judged::Unknown(f), Judged::Unknown(g)) => Judged::Unknown(lesser(f, g)),
+    }
+}
+
+/// A broken rule, at the place where it is broken.
+pub fn broken<T: Drop>(rule: u8, at: usize) -> Judged<T, Option<Fault>>
+    ensures { result ≡ Judged.Unknown (Some (faults.broken rule at)) }
+{
+    Judged::Unknown(Some(Fault { at, rule }))
 }

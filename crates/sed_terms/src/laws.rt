@@ -27,6 +27,13 @@ pub fn typed_terms_give_typed_trees()
     ensures statement { (c : Context) (around : Around) (s : Stmt) → IsStmtTerm c around (stmt_term s) → IsStmt c around s }
 {}
 
+/// The term of a typed tree is typed, so a term says all that the typing rules ask of a tree.
+pub fn typed_trees_have_typed_terms()
+    ensures expression { (c : Context) (e : Expr) → IsExpr c e → IsTerm c (term_of e) }
+    ensures place { (c : Context) (p : Place) → IsPlace c p → IsTermPlace c (place_term p) }
+    ensures statement { (c : Context) (around : Around) (s : Stmt) → IsStmt c around s → IsStmtTerm c around (stmt_term s) }
+{}
+
 /// A tree nests as deep as its term, and declares the same locals.
 pub fn trees_nest_as_their_terms()
     ensures expression { (e : Expr) → depth_of e ≡ term_depth (term_of e) }

@@ -7,7 +7,9 @@
 //! all faults and with the least; `rules_keep_the_least` says that both find the same.
 #![tactic(auto)]
 
+pub mod arguments;
 pub mod found;
+pub mod found_stmt;
 pub mod judged;
 mod kinds;
 pub mod laws;
@@ -16,11 +18,13 @@ pub mod open;
 pub mod sign;
 pub mod sort;
 
+pub use arguments::Arguments;
 pub use found::Found;
-pub use judged::{Fault, Judged};
+pub use found_stmt::{FoundCases, FoundStmt, FoundStmts};
+pub use judged::{Fault, Judged, broken, lesser, paired};
 pub use laws::{
     least_of_two_lists, rules_keep_the_least, trees_nest_as_their_terms,
-    typed_terms_give_typed_trees,
+    typed_terms_give_typed_trees, typed_trees_have_typed_terms,
 };
 pub use sign::Sign;
 pub use sort::Sort;

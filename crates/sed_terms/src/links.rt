@@ -1,7 +1,8 @@
 // Links behind an expression, and what an expression whose last access is held back becomes.
 ghost use Rattle.std.specs.Prelude.{◌≡◌, IfOk, true};
-ghost use Rattle.sed_terms.specs.OpenTerm.{open_term, is_open, behind};
-ghost use Rattle.sed_terms.specs.Seen.{term_of, place_term, link_term};
+ghost use Rattle.sed_terms.specs.Forms as forms;
+ghost use Rattle.sed_terms.specs.OpenTerm.{open_term, is_open, behind, evaluated_behind};
+ghost use Rattle.sed_terms.specs.Seen.{term_of, place_term, link_term, optional_term};
 ghost use Rattle.sed_terms.specs.Sorts.{is_value};
 
 use crate::open::Open;
@@ -27,30 +28,61 @@ pub fn with_link(alloc: Global, tree: Expr, link: Link) -> Result<Expr, Memory>
     }
 }
 
+// What is evaluated of an expression whose value is not used: of a value all, with its last access behind it.
+#[tactic(auto, using(crate::proofs::Discarded::whole))]
+pub fn evaluated_part(alloc: Global, tree: Open) -> Result<Option<Expr>, Memory>
+    ensures { IfOk result (λ e. optional_term e ≡ forms.discarded (open_term tree)) }
+{
+    match tree {
+        Open::Nothing | Open::StaticArray(_, _, _) => Ok(None),
+        Open::Array(_, _, e, _) | Open::Buf(e, _) | Open::Bytes(e, _) => Ok(Some(e)),
+        Open::Value(e) => Ok(Some(e)),
+        Open::Local(kind, number) => Ok(Some(Expr::Local(kind, number))),
+        Open::Static(prim, number) => Ok(Some(Expr::Static(prim, number))),
+        Open::StaticElement(prim, count, number, index) => {
+            let index = Box::new(alloc, index)?;
+            Ok(Some(Expr::StaticElement(prim, count, number, index)))
+        }
+        Open::Field(prim, e, number) => {
+            let e = with_link(alloc, e, Link::Field(prim, number))?;
+            Ok(Some(e))
+        }
+        Open::Element(prim, count, e, number, index) => {
+            let e = with_link(alloc, e, Link::Element(prim, count, number, index))?;
+            Ok(Some(e))
+        }
+    }
+}
+
+// The same behind what is evaluated before it.
+#[tactic(auto, using(crate::proofs::Discarded::after_is))]
+pub fn evaluated(
+    alloc: Global,
+    before: Option<Expr>,
+    part: Option<Expr>,
+) -> Result<Option<Expr>, Memory>
+    ensures { IfOk result (λ e. optional_term e ≡ evaluated_behind before (optional_term part)) }
+{
+    match (before, part) {
+        (None, part) => Ok(part),
+        (Some(before), None) => Ok(Some(before)),
+        (Some(before), Some(part)) => {
+            let both = with_link(alloc, before, Link::After(part))?;
+            Ok(Some(both))
+        }
+    }
+}
+
 // A value with its last access behind it.
+#[tactic(auto, using(crate::proofs::Discarded::value_whole))]
 pub fn closed(alloc: Global, tree: Open) -> Result<Expr, Memory>
     requires { is_value (open_term tree) ≡ true }
     ensures { IfOk result (λ e. term_of e ≡ open_term tree) }
 {
-    match tree {
-        Open::Value(e) => Ok(e),
-        Open::Local(kind, number) => Ok(Expr::Local(kind, number)),
-        Open::Static(prim, number) => Ok(Expr::Static(prim, number)),
-        Open::StaticElement(prim, count, number, index) => {
-            let index = Box::new(alloc, index)?;
-            Ok(Expr::StaticElement(prim, count, number, index))
-        }
-        Open::Field(prim, e, number) => with_link(alloc, e, Link::Field(prim, number)),
-        Open::Element(prim, count, e, number, index) => with_link(
-            alloc,
-            e,
-            Link::Element(prim, count, number, index),
-        ),
-        Open::Nothing
-        | Open::Array(_, _, _, _)
-        | Open::StaticArray(_, _, _)
-        | Open::Buf(_, _)
-        | Open::Bytes(_, _) => Err(Memory),
+    let part = evaluated_part(alloc, tree)?;
+    match part {
+        Some(e) => Ok(e),
+        None => Err(Memory),
     }
 }
 

@@ -1,15 +1,18 @@
-//! Members, elements, stores and calls of typed expressions in the making.
+// Members of objects, of typed expressions in the making, and static members through an instance.
 ghost use Rattle.std.specs.Prelude.{◌≡◌, IfOk, true};
 ghost use Rattle.sed_terms.specs.declared.sign.Sign.TheVariants as sign;
-ghost use Rattle.sed_terms.specs.Sorts.{is_value};
+ghost use Rattle.sed_terms.specs.Forms as forms;
+ghost use Rattle.sed_terms.specs.OpenTerm.{open_term, is_open, behind};
+ghost use Rattle.sed_terms.specs.Seen.{term_of};
+ghost use Rattle.sed_terms.specs.Sorts.{is_place, is_value, sort_of};
 ghost use Rattle.sed_terms.specs.Term.{Absent, Node};
 
-use crate::found::Found;
+use crate::found::{Found, held};
 use crate::kinds::read_kind;
 use crate::links::with_link;
 use crate::open::Open;
 use crate::sort::Sort;
-use sed_typed::{Kind, Link};
+use sed_typed::{Expr, Kind, Link};
 use sed_value::{Memory, Prim};
 use std::alloc::Global;
 
@@ -72,5 +75,30 @@ impl Found {
             before: None,
             tree: Open::Buf(object, number),
         })
+    }
+}
+
+// ---- through an instance
+
+impl Found {
+    /// A static member through an instance, which is evaluated before it.
+    pub fn after(alloc: Global, instance: Found, member: Found) -> Result<Found, Memory>
+        requires instance_is_value { is_value instance ≡ true }
+        requires member_is_alone { forms.is_alone member ≡ true }
+        ensures { IfOk result (λ r. r ≡ Node sign.After instance member) }
+    {
+        let instance = instance.into_expr(alloc)?;
+        put_after(instance, member.sort, member.before, member.tree)
+    }
+}
+
+fn put_after(instance: Expr, sort: Sort, before: Option<Expr>, tree: Open) -> Result<Found, Memory>
+    requires sort_is { sort ≡ sort_of (behind before (open_term tree)) }
+    requires place_is { is_open tree ≡ is_place (behind before (open_term tree)) }
+    ensures { IfOk result (λ r. r ≡ Node sign.After (term_of instance) (behind before (open_term tree))) }
+{
+    match before {
+        None => Ok(held(Some(instance), sort, tree)),
+        Some(_) => Err(Memory),
     }
 }
