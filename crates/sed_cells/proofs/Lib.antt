@@ -4,3 +4,4 @@ pub mod Found
 pub mod Kept
 pub mod ClassesThere
 pub mod Plans
+pub mod Nearest

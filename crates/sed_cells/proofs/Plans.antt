@@ -114,11 +114,11 @@ module _ (program : Program) (top : Stands) (is : IsTop top) (layout : Layout) (
       (λ p m e same. sym (path-number program top layout.nodes layout.values g p m e).1 ∙ ap (path_to layout.nodes) same)
       (first_of program top) values v lt
 
-  no-number : (n k : ℕ) → n < length layout.nodes → child layout.nodes n k ≡ None → number_of layout.nodes (path_to layout.nodes n ++ k ∷ []) ≡ None
-  no-number n k h e =
-      walk-append layout.nodes (path_to layout.nodes n) (k ∷ []) (Some 0)
-      ∙ ap (walk layout.nodes (k ∷ [])) (number-path program top layout.nodes layout.values g n h)
-      ∙ walk-step layout.nodes k n ∙ e
+  no-number : (n k : ℕ) (rest : Path) → n < length layout.nodes → child layout.nodes n k ≡ None → number_of layout.nodes (path_to layout.nodes n ++ k ∷ rest) ≡ None
+  no-number n k rest h e =
+      walk-append layout.nodes (path_to layout.nodes n) (k ∷ rest) (Some 0)
+      ∙ ap (walk layout.nodes (k ∷ rest)) (number-path program top layout.nodes layout.values g n h)
+      ∙ ap (walk layout.nodes rest) e
 
   pub found-at : (place step : ℕ) (r : Option ℕ) → r ≡ child layout.nodes (known layout.nodes place) step → IfSome r (λ m. path_of layout.nodes m ≡ path_of layout.nodes place ++ step ∷ [])
   found-at place step None e = tt
@@ -128,10 +128,10 @@ module _ (program : Program) (top : Stands) (is : IsTop top) (layout : Layout) (
       ap (path_to layout.nodes) (known-is layout.nodes m i.0) ∙ path-child program top layout.nodes layout.values g (known layout.nodes place) step m h (sym e)
 
   pub nothing-at : (place step : ℕ) (r : Option ℕ) → r ≡ child layout.nodes (known layout.nodes place) step →
-      IfNone r ((values : List Value) → value_at (seen layout.nodes (first_of program top) values) (path_of layout.nodes place ++ step ∷ []) ≡ None)
+      IfNone r ((values : List Value) (rest : Path) → value_at (seen layout.nodes (first_of program top) values) (path_of layout.nodes place ++ step ∷ rest) ≡ None)
   nothing-at place step (Some m) e = tt
-  nothing-at place step None e = λ values.
-      nothing-seen (path_of layout.nodes place ++ step ∷ []) (no-number (known layout.nodes place) step (known-within program top layout.nodes layout.values g place) (sym e)) values
+  nothing-at place step None e = λ values rest.
+      nothing-seen (path_of layout.nodes place ++ step ∷ rest) (no-number (known layout.nodes place) step rest (known-within program top layout.nodes layout.values g place) (sym e)) values
 
   -- a node past the first as a piece of its parent
   part-of : (m : ℕ) → 0 < m → m < length layout.nodes → HasParent program layout.nodes layout.values m

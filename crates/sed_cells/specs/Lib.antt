@@ -1,3 +1,4 @@
 pub mod Cells
 pub mod Layouts
 pub mod Places
+pub mod Nearest

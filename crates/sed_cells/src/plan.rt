@@ -7,9 +7,11 @@ ghost use Rattle.sed_value.specs.declared.value.Value.TheVariants as kept;
 ghost use Rattle.sed_typed.specs.Contents.{value_at, with_value};
 ghost use Rattle.sed_cells.specs.Places.{Plan as Planned, IsPlan, classes_in, place_of, contents_of, first_at, class_there, layout_at, known, walk, stands_at};
 ghost use Rattle.sed_cells.specs.Layouts.{child, keeps_value};
+ghost use Rattle.sed_cells.specs.Nearest.{nearest_of};
 
 use crate::cells::Cells;
 use crate::layout::{Layout, Stands};
+use crate::methods::{self, rows_of};
 use sed_typed::{FieldForm, Program, TypeNo};
 use sed_value::Memory;
 use std::alloc::Global;
@@ -24,6 +26,7 @@ use std::marker::Model;
 pub struct Plan {
     program: Program,
     layouts: Vec<Layout>,
+    rows: Vec<Vec<Option<usize>>>,
 }
 
 impl Model for Plan {
@@ -36,10 +39,11 @@ impl Model for Plan {
     ghost coded = { Prim.hlevel (codes, program_code.the_row.coded) };
 
     ghost use Rattle.sed_cells.specs.Places.{IsPlan};
+    ghost use Rattle.sed_cells.specs.Nearest.{AreRows};
 
     ghost view = { λ p. record { program = p.program; layouts = p.layouts.items } };
 
-    ghost invariant = { λ p. IsPlan (record { program = p.program; layouts = p.layouts.items }) };
+    ghost invariant = { λ p. IsPlan (record { program = p.program; layouts = p.layouts.items }) × AreRows p.program p.rows.items };
 }
 
 impl Plan {
@@ -48,7 +52,12 @@ impl Plan {
         ensures { IfOk result (λ plan. plan.program ≡ program) }
     {
         let layouts = layouts_of(alloc, &program)?;
-        Ok(Plan { program, layouts })
+        let rows = rows_of(alloc, &program)?;
+        Ok(Plan {
+            program,
+            layouts,
+            rows,
+        })
     }
 
     /// The program.
@@ -77,7 +86,7 @@ impl Plan {
     pub fn inside(&self, top: usize, place: usize, step: usize) -> Option<usize>
         requires { top ≤ classes_in self.now }
         ensures found { IfSome result (λ m. place_of self.now top m ≡ place_of self.now top place ++ step ∷ []) }
-        ensures nothing { IfNone result ((values : List Value) → value_at (contents_of self.now top values) (place_of self.now top place ++ step ∷ []) ≡ None) }
+        ensures nothing { IfNone result ((values : List Value) (rest : List ℕ) → value_at (contents_of self.now top values) (place_of self.now top place ++ step ∷ rest) ≡ None) }
         ensures no_class { IfNone result (class_there self.now.program top (place_of self.now top place ++ step ∷ []) ≡ None) }
     {
         self.layouts[top].step_from(place, step)
@@ -98,6 +107,14 @@ impl Plan {
         ensures written { IfSome result (λ n. (values : List Value) (v : Value) → n < length values → contents_of self.now top (slice_set values n v) ≡ with_value (contents_of self.now top values) (place_of self.now top place) v) }
     {
         self.layouts[top].cell(place)
+    }
+
+    /// The method that is nearest at or above a class, by the name of this one. It is looked up, not
+    /// sought, where the schema has the class.
+    pub fn nearest(&self, class: u16, method: usize) -> Option<usize>
+        ensures { result ≡ nearest_of self.now.program class method }
+    {
+        methods::nearest(&self.rows, &self.program, class, method)
     }
 
     /// Whether two numbers are of the same place.

@@ -16,17 +16,17 @@ returns-clause-read c = λ values.
     let p : Plan = the_view c.self.inside in
     let top = c.args.top in
     let within : top ≤ classes_in p = subst (λ (q : Plan). top ≤ classes_in q) (sym c.self.view_is) c.requires in
-    let x_is = layout-is p c.self.invariant top within c.index.result.now c.index.ensures in
+    let x_is = layout-is p c.self.invariant.0 top within c.index.result.now c.index.ensures in
     let found = c.cell.ensures ∙ ap (λ (l : Layout). if keeps_value (node_at l.nodes (known l.nodes c.args.place)).stands then Some (known l.nodes c.args.place) else None) x_is in
     subst (λ (q : Plan). value_at (contents_of q top values) (place_of q top c.args.place) ≡ option_map (λ n. get_or values n kept.Nothing) c.cell.result) c.self.view_is
-    (read-at p.program (stands_at p.program top) (top_is p.program top) (layout_at p top) (layout-ok p c.self.invariant top within) c.args.place c.cell.result found values)
+    (read-at p.program (stands_at p.program top) (top_is p.program top) (layout_at p top) (layout-ok p c.self.invariant.0 top within) c.args.place c.cell.result found values)
 
 pub returns-clause-written : goal.returns-clause-written
 returns-clause-written c =
     let p : Plan = the_view c.self.inside in
     let top = c.args.top in
     let within : top ≤ classes_in p = subst (λ (q : Plan). top ≤ classes_in q) (sym c.self.view_is) c.requires in
-    let x_is = layout-is p c.self.invariant top within c.index.result.now c.index.ensures in
+    let x_is = layout-is p c.self.invariant.0 top within c.index.result.now c.index.ensures in
     let found = c.cell.ensures ∙ ap (λ (l : Layout). if keeps_value (node_at l.nodes (known l.nodes c.args.place)).stands then Some (known l.nodes c.args.place) else None) x_is in
     subst (λ (q : Plan). IfSome c.cell.result (λ n. (values : List Value) (v : Value) → n < length values → contents_of q top (slice_set values n v) ≡ with_value (contents_of q top values) (place_of q top c.args.place) v)) c.self.view_is
-    (written-at p.program (stands_at p.program top) (top_is p.program top) (layout_at p top) (layout-ok p c.self.invariant top within) c.args.place c.cell.result found)
+    (written-at p.program (stands_at p.program top) (top_is p.program top) (layout_at p top) (layout-ok p c.self.invariant.0 top within) c.args.place c.cell.result found)

@@ -13,6 +13,6 @@ returns c =
     let p : Plan = the_view c.self.inside in
     let top = c.args.top in
     let within : top ≤ classes_in p = subst (λ (q : Plan). top ≤ classes_in q) (sym c.self.view_is) c.requires in
-    let x_is = layout-is p c.self.invariant top within c.index.result.now c.index.ensures in
+    let x_is = layout-is p c.self.invariant.0 top within c.index.result.now c.index.ensures in
     subst (λ (q : Plan). IfOk c.copy.result (λ cells. contents_of q top cells ≡ first_at q.program top)) c.self.view_is
-    (IfOk-weaker c.copy.result (λ (cells : List Value). cells ≡ c.fresh.result.now) (λ (cells : List Value). contents_of p top cells ≡ first_at p.program top) (λ cells e. ap (contents_of p top) (e ∙ c.fresh.ensures ∙ ap (λ (l : Layout). l.values) x_is) ∙ of-fresh p.program (stands_at p.program top) (top_is p.program top) (layout_at p top) (layout-ok p c.self.invariant top within)) c.copy.ensures)
+    (IfOk-weaker c.copy.result (λ (cells : List Value). cells ≡ c.fresh.result.now) (λ (cells : List Value). contents_of p top cells ≡ first_at p.program top) (λ cells e. ap (contents_of p top) (e ∙ c.fresh.ensures ∙ ap (λ (l : Layout). l.values) x_is) ∙ of-fresh p.program (stands_at p.program top) (top_is p.program top) (layout_at p top) (layout-ok p c.self.invariant.0 top within)) c.copy.ensures)

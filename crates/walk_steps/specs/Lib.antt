@@ -1,0 +1,4 @@
+pub mod Seen
+pub mod Stored
+pub mod Found
+pub mod Targets
