@@ -190,7 +190,7 @@ or_swap false true true s = refl
 or_swap false true false s = refl
 or_swap false false r s = refl
 
-any_either : (from to : ℕ) (ids : List ℕ) → list_any (λ id. (from == id) || (to == id)) ids ≡ (list_any (λ id. from == id) ids || list_any (λ id. to == id) ids)
+pub any_either : (from to : ℕ) (ids : List ℕ) → list_any (λ id. (from == id) || (to == id)) ids ≡ (list_any (λ id. from == id) ids || list_any (λ id. to == id) ids)
 any_either from to [] = refl
 any_either from to (id ∷ ids) =
     ap (λ b. ((from == id) || (to == id)) || b) (any_either from to ids)

@@ -1,20 +1,21 @@
 -- What follows from the order of the targets.
-use Rattle.std.proofs.Common.{◌≡◌, ◌↔◌, ℕ, zero, suc, ◌<◌, Bool, true, false, List, [], ◌∷◌, length, get_or, Some, ◌⊎◌, inl, inr, refl, sym, ap, subst, ◌∙◌, ⊎_elim, arith}
-use Rattle.std.specs.Prelude.{filter, slice_get}
+use Rattle.std.proofs.Common.{◌≡◌, ◌↔◌, ℕ, zero, suc, ◌<◌, ◌≤◌, Bool, true, false, not, ◌||◌, ◌==◌, List, [], ◌∷◌, length, get_or, Some, ◌⊎◌, inl, inr, refl, sym, ap, subst, ◌∙◌, ⊎_elim, arith}
+use Rattle.std.specs.Prelude.{filter, slice_get, unwrap_or}
 use Rattle.std.specs.List.{All, Contains, list_any}
 use Rattle.std.specs.List.Sorted.{IsPermutation}
-use Rattle.std.proofs.lemmas.Bool.{cases_Bool, cases_order, cond-true, cond-false, false≢true}
+use Rattle.std.proofs.lemmas.Bool.{cases_Bool, cases_order, cond-true, cond-false, false≢true, not-true, not_from_true, or_parts}
 use Rattle.std.proofs.lemmas.Bool.Decides.{nat_tests}
 use Rattle.std.proofs.lemmas.List.{get_or_default}
 use Rattle.std.proofs.lemmas.Option.{slice_get_within, unwrap_or-slice_get}
-use Rattle.std.specs.Prelude.{unwrap_or}
-use Rattle.std.proofs.lemmas.List.Elements.{All-contains}
+use Rattle.std.proofs.lemmas.List.Elements.{All-contains, All-weaker, filter_passes}
+use Rattle.std.proofs.lemmas.Map.Views.{any-filter_same}
 use Rattle.std.proofs.lemmas.List.Sorted.{IsPermutation-refl, IsPermutation-sym, IsPermutation-cons, IsPermutation-trans, IsPermutation-middle}
 use Rattle.link_table.specs.Link.{Link}
-use Rattle.link_table.specs.Links.{AreInOrder, has_target, is_before, with_link}
-use Rattle.link_table.proofs.FilterLemmas.{filter_yes, filter_no}
-use Rattle.link_table.proofs.OrderLemmas.{ascends_head, ascends_tail, ascends_placed, before_irrefl, before_trans, by_target, with_is}
-use Rattle.link_table.proofs.KeptLemmas.{before_else, untargeted}
+use Rattle.link_table.specs.Links.{AreInOrder, has_target, is_before, is_same_link, with_link, without_link, without_links_at}
+use Rattle.link_table.proofs.FilterLemmas.{filter_yes, filter_no, filter_swap}
+use Rattle.link_table.proofs.OrderLemmas.{ascends_head, ascends_tail, ascends_placed, before_irrefl, before_trans, by_target, same_is, same_itself, with_is}
+use Rattle.link_table.proofs.KeptLemmas.{any_either, before_else, untargeted}
+use Rattle.link_table.proofs.RowLemmas.{length_filter}
 
 -- ---- members
 
@@ -113,6 +114,24 @@ counted p l (x ∷ xs) =
     ∙ two_more p x l xs)
     (λ (e : is_before x l ≡ false). ap (λ ys. length (filter p ys)) (cond-false (is_before x l) (x ∷ with_link l xs) (l ∷ x ∷ xs) e))
     (cases_Bool (is_before x l))
+
+-- ---- some links less
+
+pub gone : (l : Link) (xs : List Link) → list_any (is_same_link l) (without_link l xs) ≡ false
+gone l xs =
+    any-filter_same (is_same_link l) (λ k. not (is_same_link k l)) false
+    (λ k s. not_from_true (is_same_link k l) (subst (λ m. is_same_link m l ≡ true) (same_is l k s) (same_itself l))) xs
+
+pub gone_at : (ids : List ℕ) (xs : List Link)
+    → All (λ l. (list_any (λ id. l.from == id) ids ≡ false) × (list_any (λ id. l.to == id) ids ≡ false)) (without_links_at ids xs)
+gone_at ids xs =
+    let at : Link → Bool = λ l. list_any (λ id. (l.from == id) || (l.to == id)) ids in
+    All-weaker (λ l. not (at l) ≡ true) (λ l. (list_any (λ id. l.from == id) ids ≡ false) × (list_any (λ id. l.to == id) ids ≡ false))
+    (λ l e. or_parts (list_any (λ id. l.from == id) ids) (list_any (λ id. l.to == id) ids) (sym (any_either l.from l.to ids) ∙ not-true (at l) e))
+    (without_links_at ids xs) (filter_passes (λ l. not (at l)) xs)
+
+pub no_more : (p q : Link → Bool) (xs : List Link) → length (filter p (filter q xs)) ≤ length (filter p xs)
+no_more p q xs = omega (arith, length_filter q (filter p xs), ap length (filter_swap p q xs))
 
 -- ---- one link into a slot
 

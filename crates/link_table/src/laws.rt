@@ -1,9 +1,9 @@
 //! Laws of lists of links in the order of their targets.
-ghost use Rattle.std.specs.Prelude.{◌≡◌, ◌↔◌, ◌||◌, ◌==◌, ℕ, List, ◌∷◌, Some, true, false, length, slice_get};
-ghost use Rattle.std.specs.List.{Contains, list_any};
+ghost use Rattle.std.specs.Prelude.{◌≡◌, ◌≤◌, ◌↔◌, ◌||◌, ◌==◌, ℕ, List, ◌∷◌, Some, true, false, length, slice_get};
+ghost use Rattle.std.specs.List.{All, Contains, list_any};
 ghost use Rattle.std.specs.List.Sorted.{IsPermutation};
 ghost use Rattle.link_table.specs.Link.{Link};
-ghost use Rattle.link_table.specs.Links.{AreInOrder, has_target, links_at, with_link, without_link, without_links_at};
+ghost use Rattle.link_table.specs.Links.{AreInOrder, has_target, is_same_link, links_at, with_link, without_link, without_links_at};
 
 /// Two lists in the order of the targets that have the same links are one list.
 pub fn lists_in_order_are_one()
@@ -24,6 +24,18 @@ pub fn a_new_link_joins_the_others()
     ensures all { (l : Link) (links : List Link) → IsPermutation (l ∷ links) (with_link l links) }
     ensures count { (l : Link) (links : List Link) (id : ℕ)
         → length (links_at id (with_link l links)) ≡ length (links_at id (l ∷ links)) }
+{}
+
+/// What was taken out is gone, and no component has more links than before.
+pub fn links_taken_out_are_gone()
+    ensures one { (l : Link) (links : List Link) → list_any (is_same_link l) (without_link l links) ≡ false }
+    ensures at { (ids : List ℕ) (links : List Link)
+        → All (λ l. (list_any (λ id. l.from == id) ids ≡ false) × (list_any (λ id. l.to == id) ids ≡ false))
+        (without_links_at ids links) }
+    ensures fewer { (l : Link) (links : List Link) (id : ℕ)
+        → length (links_at id (without_link l links)) ≤ length (links_at id links) }
+    ensures fewer_at { (ids : List ℕ) (links : List Link) (id : ℕ)
+        → length (links_at id (without_links_at ids links)) ≤ length (links_at id links) }
 {}
 
 /// Into a slot leads one link at most.

@@ -55,7 +55,7 @@ impl Links {
         })
     }
 
-    /// How many there are.
+    /// How many there are: at most 8,192, in the order of their targets.
     pub fn len(&self) -> usize
         ensures same { result ≡ length self.now }
         ensures most { length self.now ≤ most_links }
