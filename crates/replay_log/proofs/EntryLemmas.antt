@@ -1,7 +1,6 @@
 -- Reading an entry finds exactly what stands there.
-use Rattle.std.proofs.Common.{◌≡◌, ℕ, ◌≤◌, ◌<◌, ℤ, ◌⊎◌, inl, inr, ◌==◌, Option, Some, None, List, [], ◌∷◌, ◌++◌, length, refl, sym, subst, ◌∙◌, ap, arith, append_assoc}
+use Rattle.std.proofs.Common.{◌≡◌, ℕ, ◌≤◌, ℤ, inl, inr, ◌==◌, Some, None, List, [], ◌∷◌, ◌++◌, length, refl, sym, subst, ◌∙◌, ap, arith, append_assoc}
 use Rattle.std.proofs.lemmas.Bool.{eqb-true}
-use Rattle.sed_outside.specs.declared.addr.Addr.{Addr}
 use Rattle.sed_wire.specs.Number.{SpellsNumber}
 use Rattle.sed_wire.specs.Reading.{Reads}
 use Rattle.replay_log.specs.Entry.{Entry, datagram, tick, SpellsDatagram, SpellsEntry, SpellsTick}

@@ -1,3 +1,6 @@
 mod EntryLemmas
+mod GeneratedLemmas
+mod MakingLemmas
+mod MessageLemmas
 mod NumberLemmas
 mod RecordLemmas

@@ -1,5 +1,5 @@
 -- Bytes are split behind their whole entries in one way.
-use Rattle.std.proofs.Common.{◌≡◌, ◌≢◌, ℕ, zero, suc, ◌+◌, ◌-◌, ◌≤◌, ◌<◌, inl, inr, true, false, ◌==◌, if◌then◌else◌, Option, Some, None, Result, Ok, Err, MatchResult, IsOkAnd, IsErrAnd, List, [], ◌∷◌, ◌++◌, length, refl, sym, subst, ◌∙◌, ap, arith, append_assoc, length-append}
+use Rattle.std.proofs.Common.{◌≡◌, ◌≢◌, ℕ, zero, suc, ◌-◌, ◌≤◌, ◌<◌, inl, inr, true, false, ◌==◌, if◌then◌else◌, Option, Some, None, Result, Ok, Err, MatchResult, IsOkAnd, IsErrAnd, List, [], ◌∷◌, ◌++◌, length, refl, sym, subst, ◌∙◌, ap, arith, append_assoc, length-append}
 use Rattle.std.proofs.lemmas.Bool.{eqb-true}
 use Rattle.std.proofs.lemmas.Bool.Decides.{nat_tests}
 use Rattle.std.proofs.lemmas.List.{append-nil}

@@ -1,5 +1,5 @@
 -- Entries in bytes.
-use Rattle.std.specs.Prelude.{◌≡◌, ℕ, ◌≤◌, ℤ, List, [], ◌∷◌, ◌++◌, length}
+use Rattle.std.specs.Prelude.{◌≡◌, ℕ, ◌≤◌, ℤ, List, ◌∷◌, ◌++◌, length}
 use Rattle.std.specs.Int.{w64}
 use Rattle.sed_outside.specs.declared.addr.Addr.{Addr}
 use Rattle.sed_wire.specs.Number.{SpellsNumber, SpellsSigned}

@@ -1,5 +1,10 @@
+pub mod Draw
 pub mod Entry
+pub mod Generated
+pub mod Making
 pub mod Reading
 pub mod Record
+pub mod Session
 pub mod Split
+pub mod Step
 pub mod View

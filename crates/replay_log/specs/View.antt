@@ -1,5 +1,4 @@
 -- Entries without where their bytes lie in memory.
-use Rattle.std.specs.Prelude.{ℕ, List}
 use Rattle.replay_log.specs.declared.event.Event.{Event}
 use Rattle.replay_log.specs.declared.event.Event.TheVariants.{Datagram, Tick}
 use Rattle.replay_log.specs.Entry.{Entry, datagram, tick}

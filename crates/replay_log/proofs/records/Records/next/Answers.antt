@@ -1,4 +1,4 @@
-use Rattle.std.proofs.Common.{◌≡◌, [], ◌∷◌, refl, sym, ◌∙◌}
+use Rattle.std.proofs.Common.{◌≡◌, ◌∷◌, refl, sym, ◌∙◌}
 use Rattle.replay_log.specs.Reading.{entries_of}
 use Rattle.replay_log.specs.View.{entry_of}
 use Rattle.replay_log.proofs.RecordLemmas.{left_after, none_left}
