@@ -1,3 +1,5 @@
 pub mod LeafLemmas
 pub mod Rows
 pub mod Images
+pub mod Putting
+pub mod PutParts

@@ -198,6 +198,10 @@ image =
 abbrev pub IsImage : List ℕ → Image → Type 0
 IsImage bytes i = image.spells i bytes
 
+-- an image that the grammar can spell
+abbrev pub HasText : Image → Type 0
+HasText i = (bytes : List ℕ) × IsImage bytes i
+
 -- a field is cut or not allowed where these bytes are left; or an image ended, and they are left
 abbrev pub IsFault : List ℕ → List ℕ → Type 0
 IsFault bytes rest = image.faults bytes rest ⊎ ((i : Image) × Begins (image.spells i) bytes rest × (rest ≢ []))

@@ -1,13 +1,14 @@
-//! Reading kits, classes and the static block.
-ghost use Rattle.std.specs.Prelude.{◌≡◌};
+//! Reading and writing kits, classes and the static block.
+ghost use Rattle.std.specs.Prelude.{◌≡◌, OnOk};
 ghost use Rattle.scode_image.specs.Grammar as grammar;
-ghost use Rattle.scode_image.specs.Gives.{Gives};
+ghost use Rattle.scode_image.specs.Gives.{Gives, Puts};
 
 use crate::fields::{field_form, i4, run, slot_form, text, u1, u1_to, u2};
 use crate::halt::Halt;
 use crate::image::{ImageClass, ImageField, ImageKit, ImageSlot};
-use crate::items::{Item, few, many};
-use sed_value::Items;
+use crate::items::{Item, few, many, put_few, put_many};
+use crate::put::{put_count, put_i4, put_run, put_text, put_u1, put_u2};
+use sed_value::{Items, Memory};
 use sed_wire::Reader;
 use std::alloc::Global;
 
@@ -20,6 +21,11 @@ impl Item for ImageKit {
         let checksum = i4(reader)?;
         Ok(ImageKit { name, checksum })
     }
+
+    fn put(&self, into: &mut Vec<u8>) -> Result<(), Memory> {
+        put_text(into, &self.name)?;
+        put_i4(into, self.checksum)
+    }
 }
 
 impl Item for ImageField {
@@ -31,6 +37,12 @@ impl Item for ImageField {
         let form = field_form(reader)?;
         let n = u2(reader)?;
         Ok(ImageField { offset, form, n })
+    }
+
+    fn put(&self, into: &mut Vec<u8>) -> Result<(), Memory> {
+        put_u2(into, self.offset)?;
+        put_u1(into, self.form)?;
+        put_u2(into, self.n)
     }
 }
 
@@ -52,6 +64,14 @@ impl Item for ImageSlot {
             config,
         })
     }
+
+    fn put(&self, into: &mut Vec<u8>) -> Result<(), Memory> {
+        put_text(into, &self.name)?;
+        put_u1(into, self.form)?;
+        put_u2(into, self.place)?;
+        put_u2(into, self.n)?;
+        put_u1(into, self.config)
+    }
 }
 
 impl Item for u16 {
@@ -59,6 +79,10 @@ impl Item for u16 {
 
     fn read(_: Global, reader: &mut Reader) -> Result<u16, Halt> {
         u2(reader)
+    }
+
+    fn put(&self, into: &mut Vec<u8>) -> Result<(), Memory> {
+        put_u2(into, *self)
     }
 }
 
@@ -89,6 +113,19 @@ impl Item for ImageClass {
             contents,
         })
     }
+
+    fn put(&self, into: &mut Vec<u8>) -> Result<(), Memory> {
+        put_u1(into, self.kit)?;
+        put_u1(into, self.number)?;
+        put_text(into, &self.name)?;
+        put_u2(into, self.base)?;
+        put_u1(into, self.flags)?;
+        put_count(into, self.contents.len())?;
+        put_many(into, &self.fields)?;
+        put_few(into, &self.slots)?;
+        put_few(into, &self.table)?;
+        put_run(into, &self.contents)
+    }
 }
 
 // The fields and first bytes of the static block.
@@ -103,4 +140,16 @@ pub(crate) fn statics(
     let fields = many(alloc, reader)?;
     let bytes = run(alloc, reader, usize::from(size))?;
     Ok((fields, bytes))
+}
+
+pub(crate) fn put_statics(
+    into: &mut Vec<u8>,
+    fields: &Items<ImageField>,
+    bytes: &Items<u8>,
+) -> Result<(), Memory>
+    ensures { OnOk result (Puts grammar.statics (fields.now, bytes.now) into.old.items into.new.items) }
+{
+    put_count(into, bytes.len())?;
+    put_many(into, fields)?;
+    put_run(into, bytes)
 }

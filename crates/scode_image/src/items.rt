@@ -1,13 +1,14 @@
-//! Reading what stands several times.
-ghost use Rattle.std.specs.Prelude.{◌≡◌};
+//! Reading and writing what stands several times.
+ghost use Rattle.std.specs.Prelude.{◌≡◌, ℕ, OnOk};
 ghost use Rattle.scode_image.specs.Form.{Form};
 ghost use Rattle.scode_image.specs.Grammar as grammar;
 ghost use Rattle.scode_image.specs.Row.{times, counted};
-ghost use Rattle.scode_image.specs.Gives.{Gives};
+ghost use Rattle.scode_image.specs.Gives.{Gives, Puts};
 
 use crate::fields::{u1, u2};
 use crate::halt::Halt;
-use sed_value::Items;
+use crate::put::{put_count, put_small_count};
+use sed_value::{Items, Memory};
 use sed_wire::Reader;
 use std::alloc::Global;
 
@@ -17,6 +18,9 @@ pub(crate) trait Item: Drop {
 
     fn read(alloc: Global, reader: &mut Reader) -> Result<Self, Halt>
         ensures { Gives result reader.new (form.reads reader.old) };
+
+    fn put(&self, into: &mut Vec<u8>) -> Result<(), Memory>
+        ensures { OnOk result (Puts form self.now into.old.items into.new.items) };
 }
 
 // So many of them.
@@ -49,4 +53,30 @@ pub(crate) fn many<T: Item>(alloc: Global, reader: &mut Reader) -> Result<Items<
 {
     let count = u2(reader)?;
     times(alloc, reader, usize::from(count))
+}
+
+// All of them, of whatever number.
+pub(crate) fn put_all<T: Item>(into: &mut Vec<u8>, items: &[T]) -> Result<(), Memory>
+    ensures { OnOk result ((count : ℕ) → Puts (times count T.form) items.now into.old.items into.new.items) }
+{
+    for item in items {
+        item.put(into)?;
+    }
+    Ok(())
+}
+
+// Their number in one byte, and then they.
+pub(crate) fn put_few<T: Item>(into: &mut Vec<u8>, items: &Items<T>) -> Result<(), Memory>
+    ensures { OnOk result (Puts (counted grammar.u1 T.form) items.now into.old.items into.new.items) }
+{
+    put_small_count(into, items.len())?;
+    put_all(into, items.as_slice())
+}
+
+// Their number in two bytes, and then they.
+pub(crate) fn put_many<T: Item>(into: &mut Vec<u8>, items: &Items<T>) -> Result<(), Memory>
+    ensures { OnOk result (Puts (counted grammar.u2 T.form) items.now into.old.items into.new.items) }
+{
+    put_count(into, items.len())?;
+    put_all(into, items.as_slice())
 }

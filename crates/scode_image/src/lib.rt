@@ -13,11 +13,14 @@ mod image;
 mod items;
 mod laws;
 mod methods;
+mod put;
 mod reading;
 mod whole;
+mod writing;
 
 pub use image::{
     Image, ImageClass, ImageEntry, ImageField, ImageKind, ImageKit, ImageMethod, ImageSlot,
 };
 pub use laws::{bytes_are_an_image_or_fault, images_have_one_text};
 pub use reading::{ImageRefusal, read_image};
+pub use writing::write_image;

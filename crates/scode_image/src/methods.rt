@@ -1,14 +1,15 @@
-//! Reading methods.
-ghost use Rattle.std.specs.Prelude.{◌≡◌, length};
+//! Reading and writing methods.
+ghost use Rattle.std.specs.Prelude.{◌≡◌, length, ℕ, OnOk};
 ghost use Rattle.scode_image.specs.Grammar as grammar;
 ghost use Rattle.scode_image.specs.Leaves as leaf;
-ghost use Rattle.scode_image.specs.Gives.{Gives};
+ghost use Rattle.scode_image.specs.Gives.{Gives, Puts};
 
 use crate::fields::{run, u1_to, u2, u2_from};
 use crate::halt::Halt;
 use crate::image::{ImageEntry, ImageKind, ImageMethod};
-use crate::items::{Item, few, many, times};
-use sed_value::Items;
+use crate::items::{Item, few, many, put_all, put_few, put_many, times};
+use crate::put::{put_count, put_run, put_u1, put_u2};
+use sed_value::{Items, Memory};
 use sed_wire::Reader;
 use std::alloc::Global;
 
@@ -20,6 +21,14 @@ impl Item for ImageKind {
         let kind = u1_to(reader, 6)?;
         let class = kind_class(reader, kind)?;
         Ok(ImageKind { kind, class })
+    }
+
+    fn put(&self, into: &mut Vec<u8>) -> Result<(), Memory> {
+        put_u1(into, self.kind)?;
+        if self.kind == 6 {
+            return put_u2(into, self.class);
+        }
+        Ok(())
     }
 }
 
@@ -114,4 +123,48 @@ impl Item for ImageMethod {
             entries,
         })
     }
+
+    fn put(&self, into: &mut Vec<u8>) -> Result<(), Memory> {
+        put_u2(into, self.class)?;
+        put_u1(into, self.flags)?;
+        put_few(into, &self.params)?;
+        self.result.put(into)?;
+        put_few(into, &self.locals)?;
+        put_u2(into, self.stack)?;
+        put_code(into, &self.code)?;
+        put_entries(into, &self.entries)
+    }
+}
+
+// An entry, of a method with whatever locals and at whatever place.
+fn put_entry(into: &mut Vec<u8>, entry: &ImageEntry) -> Result<(), Memory>
+    ensures { OnOk result ((locals least : ℕ) → Puts (grammar.entry locals least) entry.now into.old.items into.new.items) }
+{
+    put_u2(into, entry.place)?;
+    put_all(into, entry.locals.as_slice())?;
+    put_many(into, &entry.stack)
+}
+
+#[tactic(auto, unfolding(crate::specs::Grammar::entries))]
+fn put_all_entries(into: &mut Vec<u8>, entries: &[ImageEntry]) -> Result<(), Memory>
+    ensures { OnOk result ((locals count : ℕ) → Puts (grammar.entries locals count) entries.now into.old.items into.new.items) }
+{
+    for entry in entries {
+        put_entry(into, entry)?;
+    }
+    Ok(())
+}
+
+fn put_entries(into: &mut Vec<u8>, entries: &Items<ImageEntry>) -> Result<(), Memory>
+    ensures { OnOk result ((locals : ℕ) → Puts (grammar.counted_entries locals) entries.now into.old.items into.new.items) }
+{
+    put_count(into, entries.len())?;
+    put_all_entries(into, entries.as_slice())
+}
+
+fn put_code(into: &mut Vec<u8>, code: &Items<u8>) -> Result<(), Memory>
+    ensures { OnOk result (Puts (leaf.counted_run grammar.u2) code.now into.old.items into.new.items) }
+{
+    put_count(into, code.len())?;
+    put_run(into, code)
 }

@@ -1,15 +1,17 @@
-//! Reading texts, and an image as a whole.
-ghost use Rattle.std.specs.Prelude.{◌≡◌};
+//! Reading and writing texts, and an image as a whole.
+ghost use Rattle.std.specs.Prelude.{◌≡◌, OnOk};
 ghost use Rattle.scode_image.specs.Grammar as grammar;
 ghost use Rattle.scode_image.specs.Leaves as leaf;
-ghost use Rattle.scode_image.specs.Gives.{Gives};
+ghost use Rattle.scode_image.specs.Gives.{Gives, Puts};
 
-use crate::classes::statics;
+use crate::classes::{put_statics, statics};
 use crate::fields::{end, head, u1, version};
 use crate::halt::Halt;
 use crate::image::Image;
-use crate::items::{Item, few, many};
+use crate::items::{Item, few, many, put_few, put_many};
+use crate::put::{put_end, put_head, put_small_count, put_version};
 use sed_typed::Bytes255;
+use sed_value::Memory;
 use sed_wire::Reader;
 use std::alloc::Global;
 
@@ -20,6 +22,12 @@ impl Item for Bytes255 {
     fn read(_: Global, reader: &mut Reader) -> Result<Bytes255, Halt> {
         let count = u1(reader)?;
         literal(reader, count)
+    }
+
+    fn put(&self, into: &mut Vec<u8>) -> Result<(), Memory> {
+        put_small_count(into, self.as_bytes().len())?;
+        into.extend_from_slice(self.as_bytes())?;
+        Ok(())
     }
 }
 
@@ -55,4 +63,18 @@ pub(crate) fn image(alloc: Global, reader: &mut Reader) -> Result<Image, Halt>
         texts,
         methods,
     })
+}
+
+// A whole image.
+pub(crate) fn put_image(into: &mut Vec<u8>, image: &Image) -> Result<(), Memory>
+    ensures { OnOk result (Puts grammar.image image.now into.old.items into.new.items) }
+{
+    put_head(into)?;
+    put_version(into)?;
+    put_few(into, &image.kits)?;
+    put_many(into, &image.classes)?;
+    put_statics(into, &image.static_fields, &image.static_bytes)?;
+    put_many(into, &image.texts)?;
+    put_many(into, &image.methods)?;
+    put_end(into)
 }

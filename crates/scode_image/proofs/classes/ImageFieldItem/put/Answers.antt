@@ -1,0 +1,6 @@
+use Rattle.scode_image.proofs.Putting.{on_ok}
+use Rattle.scode_image.proofs.PutParts.{field_puts}
+use Rattle.scode_image.proofs.classes.ImageFieldItem.put.Goals as goal
+
+pub returns : goal.returns
+returns c = on_ok c.put_u2-2.result _ _ (λ last. field_puts c.args.self.now _ _ _ _ c.in_ok-put_u2.ensures c.in_ok-put_u1.ensures last) c.put_u2-2.ensures

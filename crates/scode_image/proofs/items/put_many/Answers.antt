@@ -1,0 +1,8 @@
+use Rattle.scode_image.specs.Grammar.{u2}
+use Rattle.scode_image.proofs.Putting.{on_ok}
+use Rattle.scode_image.proofs.PutParts.{counted_puts}
+use Rattle.scode_image.proofs.items.put_many.Goals as goal
+
+pub returns : goal.returns
+returns g c =
+    on_ok c.put_all.result _ _ (λ last. counted_puts u2 g.T.Item.form c.args.items.now _ _ _ _ _ c.len.ensures c.as_slice.ensures c.in_ok-put_count.ensures last) c.put_all.ensures
