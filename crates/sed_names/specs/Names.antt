@@ -10,8 +10,10 @@ pub record Names : Type 0 where
   pub below : ℕ → ℕ → Bool
   -- the class on which a class is based
   pub base : ℕ → Option TypeNo
-  -- the class of a name, sought in a kit alone if one is named, and else in all that the text may name
-  pub class : Option (List ℕ) → List ℕ → Option TypeNo
+  -- the class of a name, sought where the text may seek one
+  pub class : List ℕ → Option TypeNo
+  -- the class of a name in the kit of a name alone
+  pub class_in : List ℕ → List ℕ → Option TypeNo
   -- the member of a name that a class declares or inherits
   pub member : ℕ → List ℕ → Option Member
   -- the nearest method of a name at or above a class

@@ -1,6 +1,5 @@
 //! The trait of what gives names their meanings.
 ghost use Rattle.std.specs.Prelude.{◌≡◌, option_copied};
-ghost use Rattle.std.specs.Option.{option_map};
 ghost use Rattle.sed_names.specs.Names.{Names};
 
 use crate::member::Member;
@@ -20,9 +19,13 @@ pub trait Lookup {
     fn base(&self, class: TypeNo) -> Option<TypeNo>
         ensures { result ≡ (names self.now).base class.0 };
 
-    /// The class of a name: of this kit alone, if one is named.
-    fn class(&self, kit: Option<&[u8]>, name: &[u8]) -> Option<TypeNo>
-        ensures { result ≡ (names self.now).class (option_map (λ k. k.now) kit) name.now };
+    /// The class of a name.
+    fn class(&self, name: &[u8]) -> Option<TypeNo>
+        ensures { result ≡ (names self.now).class name.now };
+
+    /// The class of a name in this kit alone.
+    fn class_in(&self, kit: &[u8], name: &[u8]) -> Option<TypeNo>
+        ensures { result ≡ (names self.now).class_in kit.now name.now };
 
     /// The member of a name that a class declares or inherits.
     fn member(&self, class: TypeNo, name: &[u8]) -> Option<Member>
