@@ -132,7 +132,7 @@ count_all [] all = refl
 count_all (None ∷ xs) all = absurd (let no = all 0 (omega arith) in cc)
 count_all (Some x ∷ xs) all = let rest = count_all xs (λ k lt. all (suc k) (omega arith)) in grind (arith, common_steps)
 
-in_range : (xs : List (Option ℕ)) (id key : ℕ) → get_or xs id None ≡ Some key → id < length xs
+pub in_range : (xs : List (Option ℕ)) (id key : ℕ) → get_or xs id None ≡ Some key → id < length xs
 in_range xs id key some = elim (cases_lt id (length xs)) [ inl lt ↦ lt | inr le ↦ absurd (let no = sym (get_or-eq_default xs None le) ∙ some in cc) ]
 
 some_inj : {A : Type 0} (x y : A) → ◌≡◌ {A = Option A} (Some x) (Some y) → x ≡ y
@@ -296,13 +296,6 @@ module _ {T : Type 0} where
   pub on_some : (r : Option T) (P : Type 0) → OnSome r P → IsSome r → P
   on_some None P h there = absurd (let t = there in cc)
   on_some (Some x) P h there = h
-
-  -- a value taken and another one put under the same key
-  pub updates_twice : (slab mid left : Slab T) (key also : ℕ) (x : T) → Updates slab mid key None → Updates mid left also (Some x) → also ≡ key → Updates slab left key (Some x)
-  updates_twice slab mid left key also x first second same = record {
-    changed = ap (get left) (sym same) ∙ second.changed;
-    others = λ other ne. second.others other (λ e. ne (e ∙ same)) ∙ first.others other ne;
-  }
 
 -- ---- how many, and the first that is free
 

@@ -1,5 +1,16 @@
 pub mod IndexLemmas
 pub mod MapLemmas
+pub mod SumLemmas
+pub mod TakenLemmas
+pub mod MarkLemmas
+pub mod ShapeLemmas
+pub mod ShapeSteps
+pub mod NodeTrees
 pub mod HeldLemmas
 pub mod TreeLemmas
 pub mod RunLemmas
+pub mod ReadLemmas
+pub mod IdsLemmas
+pub mod MatchLemmas
+pub mod SchemaLemmas
+pub mod EditLemmas

@@ -66,3 +66,36 @@ module _ {V W : Type 0} (f : V → W) where
   len-map_values m =
       finite.len-entries (map_values f m) ∙ ap length (finite.entries-from_sorted nat_cmp (on_values f (finite.entries m)) (are_sorted m))
       ∙ length-on_values (finite.entries m) ∙ sym (finite.len-entries m)
+
+module _ {V : Type 0} where
+  -- what is taken out and put back changed is changed in its place
+  pub put_back : (m : FinMap nat_cmp V) (k : ℕ) (x : V) → finite.insert (finite.remove m k) k x ≡ finite.insert m k x
+  put_back m k x = finite.same_map nat_cmp_total finite.nat_cmp-IsAntisymmetric _ _ (λ q. elim (cases_eq q k) [
+    | inl is ↦
+        ap (finite.get (finite.insert (finite.remove m k) k x)) is ∙ get_put (finite.remove m k) k x
+        ∙ sym (get_put m k x) ∙ ap (finite.get (finite.insert m k x)) (sym is)
+    | inr ne ↦
+        get_beside (finite.remove m k) k x q ne ∙ (finite.get-remove nat_cmp_total m k q ∙ rw (tied_apart q k ne) refl)
+        ∙ sym (get_beside m k x q ne)
+  ])
+
+  pub taken_out : (m : FinMap nat_cmp V) (k : ℕ) → finite.get (finite.remove m k) k ≡ None
+  taken_out m k = finite.get-remove nat_cmp_total m k k ∙ rw (tied_same k) refl
+
+  pub kept_beside : (m : FinMap nat_cmp V) (k q : ℕ) → q ≢ k → finite.get (finite.remove m k) q ≡ finite.get m q
+  kept_beside m k q ne = finite.get-remove nat_cmp_total m k q ∙ rw (tied_apart q k ne) refl
+
+  pub put_whole : (m : FinMap nat_cmp V) (k : ℕ) (x : V) → finite.get m k ≡ Some x → finite.insert (finite.remove m k) k x ≡ m
+  put_whole m k x some = put_back m k x ∙ put_same m k x some
+
+  pub len_less : (m : FinMap nat_cmp V) (k : ℕ) (x : V) → finite.get m k ≡ Some x → finite.len (finite.remove m k) + 1 ≡ finite.len m
+  len_less m k x some = sym (len_more (finite.remove m k) k x (taken_out m k)) ∙ ap finite.len (put_whole m k x some)
+
+  -- what is put twice stands as it was put last
+  pub put_twice : (m : FinMap nat_cmp V) (k : ℕ) (x y : V) → finite.insert (finite.insert m k x) k y ≡ finite.insert m k y
+  put_twice m k x y = finite.same_map nat_cmp_total finite.nat_cmp-IsAntisymmetric _ _ (λ q. elim (cases_eq q k) [
+    | inl is ↦
+        ap (finite.get (finite.insert (finite.insert m k x) k y)) is ∙ get_put (finite.insert m k x) k y
+        ∙ sym (ap (finite.get (finite.insert m k y)) is ∙ get_put m k y)
+    | inr ne ↦ get_beside (finite.insert m k x) k y q ne ∙ get_beside m k x q ne ∙ sym (get_beside m k y q ne)
+  ])

@@ -11,7 +11,6 @@ use Rattle.sed_typed.specs.declared.schema.ActionArg.TheVariants.{Void}
 use Rattle.sed_engine.specs.declared.call.Root.TheVariants.{Execute, Callback}
 use Rattle.sed_engine.specs.declared.call.Callback.{Callback as Callback-type}
 use Rattle.sed_engine.specs.declared.call.Callback.TheVariants.{Start, Stop, Changed}
-use Rattle.comp_tree.specs.Edits.{after_clear, without_fault}
 use Rattle.comp_tree.specs.Refusals.{first_refusal, refusals_of_clear}
 use Rattle.sed_engine.specs.declared.call.CallEnd.{CallEnd}
 use Rattle.sed_engine.specs.declared.call.Root.{Root}
@@ -21,17 +20,18 @@ use Rattle.sed_engine.specs.Root.{RootEnd}
 use Rattle.comp_tree.specs.declared.node.Node.{Node}
 use Rattle.comp_tree.specs.Application.{ById, Component, Components, object_of}
 use Rattle.comp_tree.specs.Calls.{Ran, callback_argument, ended, fault_by, not_run, run_at, with_end}
-use Rattle.comp_tree.specs.Faults.{with_fault}
-use Rattle.comp_tree.specs.Held.{Held, Nodes, IsPlaced, by_id_of, component_of, components_of, contents_at}
+use Rattle.comp_tree.specs.Changed.{with_fault}
+use Rattle.comp_tree.specs.Held.{Held, Nodes, IsPlaced, IsTreeOf, by_id_of, component_of, components_of, contents_at}
 use Rattle.comp_tree.proofs.HeldLemmas.{apart_from, by_id-put, component_with, placed_change}
 use Rattle.comp_tree.proofs.MapLemmas.{put_same}
+use Rattle.comp_tree.proofs.NodeTrees.{tree_alike}
 use Rattle.std.proofs.Common.{arith}
 use Rattle.std.proofs.lemmas.Bool.Decides.{nat_tests}
 use Rattle.comp_tree.proofs.TreeLemmas.{component_is, kept_here, no_component}
 
 module _ (m : Meaning) (live : Places) (nodes : Nodes) (was : IsPlaced m live nodes) (id : ℕ) (n : Node) (found : map.get nodes id ≡ Some n) where
   -- another object of the class at the node's place, and another node of its class and place
-  module _ (left : Places) (after : Nodes) (k : Node) (o : Object) (class : o.class ≡ k.kind.0) (place : k.place ≡ n.place) (live_is : left ≡ map.insert live n.place.0 o) (nodes_is : after ≡ map.insert nodes id k) where
+  module _ (left : Places) (after : Nodes) (k : Node) (o : Object) (class : o.class ≡ k.kind.0) (kind : k.kind ≡ n.kind) (place : k.place ≡ n.place) (live_is : left ≡ map.insert live n.place.0 o) (nodes_is : after ≡ map.insert nodes id k) where
     at_place : left ≡ map.insert live k.place.0 o
     at_place = live_is ∙ ap (λ p. map.insert live p.0 o) (sym place)
 
@@ -41,7 +41,7 @@ module _ (m : Meaning) (live : Places) (nodes : Nodes) (was : IsPlaced m live no
     pub placed_after : IsPlaced m left after
     placed_after =
         subst (λ (l : Places). IsPlaced m l after) (sym at_place) (subst (IsPlaced m (map.insert live k.place.0 o)) (sym nodes_is)
-        (placed_change m live nodes was id k o class beside n (object_of (component_of live n)) found (ap (λ p. map.get live p.0) place ∙ kept_here m live nodes was id n found)))
+        (placed_change m live nodes was id k o class beside n (object_of (component_of live n)) found (ap (λ p. map.get live p.0) place ∙ kept_here m live nodes was id n found) (ap (λ t. t.0) (sym kind)) (ap (λ t. t.0) (sym kind))))
 
     pub by_id_after : by_id_of left after ≡ map.insert (by_id_of live nodes) id (component_with k o.contents)
     by_id_after = ap (λ l. by_id_of l after) at_place ∙ ap (by_id_of (map.insert live k.place.0 o)) nodes_is ∙ by_id-put live nodes id k o beside
@@ -49,12 +49,12 @@ module _ (m : Meaning) (live : Places) (nodes : Nodes) (was : IsPlaced m live no
   -- another node of its class and place, and the engine as it was
   pub placed_node : (after : Nodes) (k : Node) → k.kind ≡ n.kind → k.place ≡ n.place → after ≡ map.insert nodes id k → IsPlaced m live after
   placed_node after k kind place nodes_is =
-      placed_after live after k (object_of (component_of live n)) (ap (λ t. t.0) (sym kind)) place
+      placed_after live after k (object_of (component_of live n)) (ap (λ t. t.0) (sym kind)) kind place
       (sym (put_same live n.place.0 (object_of (component_of live n)) (kept_here m live nodes was id n found))) nodes_is
 
   pub by_id_node : (after : Nodes) (k : Node) → k.kind ≡ n.kind → k.place ≡ n.place → after ≡ map.insert nodes id k → by_id_of live after ≡ map.insert (by_id_of live nodes) id (component_with k (contents_at live n.place.0))
   by_id_node after k kind place nodes_is =
-      by_id_after live after k (object_of (component_of live n)) (ap (λ t. t.0) (sym kind)) place
+      by_id_after live after k (object_of (component_of live n)) (ap (λ t. t.0) (sym kind)) kind place
       (sym (put_same live n.place.0 (object_of (component_of live n)) (kept_here m live nodes was id n found))) nodes_is
 
 -- ---- root calls
@@ -125,12 +125,15 @@ module _ {E : Type 0} (g : Ghosts E) (h : Held E) (id : ℕ) (which : Root) (arg
       pub placed_run : IsPlaced (g.meaning engine) (g.live engine) after
       placed_run = subst (λ m. IsPlaced m (g.live engine) after) (sym same)
           (placed_after (g.meaning h.engine) (g.live h.engine) h.nodes was id n found (g.live engine) after (with_fault fault n)
-          (called (object_of (component_of (g.live h.engine) n)) (root_of (g.meaning h.engine) (object_of (component_of (g.live h.engine) n)) (g.statics h.engine) which argument turns moment)) refl refl live_after nodes_after)
+          (called (object_of (component_of (g.live h.engine) n)) (root_of (g.meaning h.engine) (object_of (component_of (g.live h.engine) n)) (g.statics h.engine) which argument turns moment)) refl refl refl live_after nodes_after)
+
+      pub tree_run : IsTreeOf h.nodes → IsTreeOf after
+      tree_run tree = subst IsTreeOf (sym nodes_after) (tree_alike h.nodes id n (with_fault fault n) found refl refl tree)
 
       by_id_run : by_id_of (g.live engine) after ≡ map.insert (by_id_of (g.live h.engine) h.nodes) id (with_end (component_of (g.live h.engine) n) (root_of (g.meaning h.engine) (object_of (component_of (g.live h.engine) n)) (g.statics h.engine) which argument turns moment))
       by_id_run =
           by_id_after (g.meaning h.engine) (g.live h.engine) h.nodes was id n found (g.live engine) after (with_fault fault n)
-          (called (object_of (component_of (g.live h.engine) n)) (root_of (g.meaning h.engine) (object_of (component_of (g.live h.engine) n)) (g.statics h.engine) which argument turns moment)) refl refl live_after nodes_after
+          (called (object_of (component_of (g.live h.engine) n)) (root_of (g.meaning h.engine) (object_of (component_of (g.live h.engine) n)) (g.statics h.engine) which argument turns moment)) refl refl refl live_after nodes_after
           ∙ ap (λ f. map.insert (by_id_of (g.live h.engine) h.nodes) id (component_with (with_fault f n) (root_of (g.meaning h.engine) (object_of (component_of (g.live h.engine) n)) (g.statics h.engine) which argument turns moment).contents)) (fault_is ∙ ap fault_by end_after)
 
       pub run_left : components_of g (record { engine = engine; nodes = after }) ≡ (run_at (g.meaning h.engine) (components_of g h) id which argument turns moment).left
@@ -147,20 +150,6 @@ may_here m live nodes was id n found P may =
     subst (λ (r : Option Object). IsSomeAnd r (λ o. P o.class)) (sym (kept_here m live nodes was id n found)) there
 
 -- ---- clear
-
-module _ {E : Type 0} (g : Ghosts E) (h : Held E) (was : IsPlaced (g.meaning h.engine) (g.live h.engine) h.nodes) (id : ℕ) (n : Node) (found : map.get h.nodes id ≡ Some n) (after : Nodes) (nodes_are : IfSome (map.get h.nodes id) (λ k. after ≡ map.insert h.nodes id (with_fault 0 k))) where
-  nodes_cleared : after ≡ map.insert h.nodes id (with_fault 0 n)
-  nodes_cleared = of_some _ n (λ k. after ≡ map.insert h.nodes id (with_fault 0 k)) found nodes_are
-
-  pub placed_clear : IsPlaced (g.meaning h.engine) (g.live h.engine) after
-  placed_clear = placed_node (g.meaning h.engine) (g.live h.engine) h.nodes was id n found after (with_fault 0 n) refl refl nodes_cleared
-
-  pub cleared : components_of g (record { engine = h.engine; nodes = after }) ≡ after_clear (components_of g h) id
-  cleared =
-      let all : ById = by_id_of (g.live h.engine) h.nodes in
-      let same = by_id_node (g.meaning h.engine) (g.live h.engine) h.nodes was id n found after (with_fault 0 n) refl refl nodes_cleared
-      ∙ sym (ap (λ r. option_map_or (λ (c : Component). map.insert (by_id_of (g.live h.engine) h.nodes) id (without_fault c)) r (by_id_of (g.live h.engine) h.nodes)) (component_is (g.meaning h.engine) (g.live h.engine) h.nodes id n found)) in
-      λ i. record { by_id = same i; statics = g.statics h.engine; limit = g.limit h.engine }
 
 clear_refusal : Option Component → Option Refusal
 clear_refusal r = first_refusal ((not (is_some r), NoComponent) ∷ [])

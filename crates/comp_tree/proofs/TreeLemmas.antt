@@ -19,7 +19,7 @@ use Rattle.sed_engine.specs.declared.engine.Engine.{Ghosts}
 use Rattle.sed_engine.specs.Code.{Meaning, Object, Places, data_of, is_property, property_type, slot_form, slot_value}
 use Rattle.comp_tree.specs.declared.entry.Entry.{Entry}
 use Rattle.comp_tree.specs.declared.node.Node.{Node}
-use Rattle.comp_tree.specs.Application.{ById, Component, children_of, object_of, value_at}
+use Rattle.comp_tree.specs.Application.{ById, Component, children_of, data_size_of, object_of, value_at}
 use Rattle.comp_tree.specs.Edits.{app_class, app_component}
 use Rattle.comp_tree.specs.Held.{Held, Nodes, IsPlaced, IsPropertyOf, by_id_of, component_of, components_of, contents_at}
 use Rattle.comp_tree.specs.Refusals.{first_refusal, refusals_of_read}
@@ -146,17 +146,23 @@ no_data m live none =
     let entries : map.entries live ≡ [] = no_entries (map.entries live) (sym (map.len-entries live) ∙ ap map.len none ∙ map.len-empty nat_cmp Object) in
     ap (λ (es : List (ℕ × Object)). sum_by (λ (o : Object). m.data_size o.class) (map_list (λ e. e.1) es)) entries
 
+no_size : (m : Meaning) (all : ById) → all ≡ map.empty → data_size_of m all ≡ 0
+no_size m all none =
+    let entries : map.entries all ≡ [] = no_entries (map.entries all) (sym (map.len-entries all) ∙ ap map.len none ∙ map.len-empty nat_cmp Component) in
+    ap (λ (es : List (ℕ × Component)). sum_by (λ (c : Component). m.data_size c.class) (map_list (λ e. e.1) es)) entries
+
 module _ (m : Meaning) (live : Places) (nodes : Nodes) (none : live ≡ map.empty) (no : nodes ≡ map.empty) where
+  pub by_id_none : by_id_of live nodes ≡ map.empty
+  by_id_none = map.same_map nat_cmp_total map.nat_cmp-IsAntisymmetric _ _ (λ q.
+      get-by_id live nodes q ∙ ap (option_map (component_of live)) (ap (λ k. map.get k q) no ∙ map.get-empty nat_cmp q) ∙ sym (map.get-empty nat_cmp q))
+
   pub placed_none : IsPlaced m live nodes
   placed_none = record {
     placed = λ q n found. absurd (no_node nodes no q n found);
     apart = λ q r n k found other same. absurd (no_node nodes no q n found);
     count = ap map.len none ∙ map.len-empty nat_cmp Object ∙ sym (ap map.len no ∙ map.len-empty nat_cmp Node);
+    sizes = no_data m live none ∙ sym (no_size m (by_id_of live nodes) by_id_none);
   }
-
-  pub by_id_none : by_id_of live nodes ≡ map.empty
-  by_id_none = map.same_map nat_cmp_total map.nat_cmp-IsAntisymmetric _ _ (λ q.
-      get-by_id live nodes q ∙ ap (option_map (component_of live)) (ap (λ k. map.get k q) no ∙ map.get-empty nat_cmp q) ∙ sym (map.get-empty nat_cmp q))
 
   pub place_free : (place : ℕ) → map.get live place ≡ None
   place_free place = ap (λ l. map.get l place) none ∙ map.get-empty nat_cmp place

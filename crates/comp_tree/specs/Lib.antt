@@ -12,6 +12,9 @@ pub mod Cycle
 pub mod Edit
 pub mod Whole
 pub mod Indexed
-pub mod Faults
+pub mod Taken
+pub mod Shape
+pub mod Changed
 pub mod Held
 pub mod Told
+pub mod Read

@@ -54,7 +54,8 @@ impl Children {
 
     /// All of them.
     pub fn as_slice(&self) -> &[u16]
-        ensures { result.now ≡ self.now }
+        ensures same { result.now ≡ self.now }
+        ensures most { length self.now ≤ most_children }
     {
         &self.ids[..self.len]
     }

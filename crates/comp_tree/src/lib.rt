@@ -13,7 +13,11 @@ mod children;
 pub mod entry;
 mod node;
 mod nodes;
+mod order;
+mod siblings;
+mod taken;
 pub mod tree;
+mod values;
 
 pub use children::MOST_CHILDREN;
 pub use entry::Entry;

@@ -4,9 +4,10 @@ ghost use Rattle.std.specs.FinMap as map;
 ghost use Rattle.std.specs.Option.{option_copied};
 ghost use Rattle.slab.specs.Slab.{get, slab_len, ContainsKey, Updates};
 ghost use Rattle.comp_tree.specs.Application.{most_components};
-ghost use Rattle.comp_tree.specs.Faults.{with_fault};
+ghost use Rattle.comp_tree.specs.Changed.{with_fault};
 
 use crate::node::Node;
+use crate::taken::Taken;
 use sed_value::Id;
 use slab::Slab;
 use std::alloc::{AllocError, Global};
@@ -23,6 +24,7 @@ pub struct Nodes {
     // The key in the slab of the node with each id.
     index: Vec<Option<usize>>,
     slab: Slab<Node>,
+    taken: Taken,
 }
 
 impl Model for Nodes {
@@ -36,11 +38,12 @@ impl Model for Nodes {
 
     ghost coded = { map.code coded_ℕ node.the_row.coded };
 
-    ghost use Rattle.comp_tree.specs.Indexed.{by_number, kept, IsIndexed};
+    ghost use Rattle.comp_tree.specs.Indexed.{by_number, kept};
+    ghost use Rattle.comp_tree.specs.Taken.{IsMarked};
 
     ghost view = { λ s. by_number (kept s.index.items s.slab) };
 
-    ghost invariant = { λ s. IsIndexed 4096 s.index.items s.slab };
+    ghost invariant = { λ s. IsMarked 4096 s.index.items s.slab s.taken };
 }
 
 impl Nodes {
@@ -50,7 +53,11 @@ impl Nodes {
     {
         let index = no_keys(alloc)?;
         let slab = Slab::with_capacity(alloc, MOST_COMPONENTS)?;
-        Ok(Nodes { index, slab })
+        Ok(Nodes {
+            index,
+            slab,
+            taken: Taken::new(),
+        })
     }
 
     /// The node with this id.
@@ -77,8 +84,16 @@ impl Nodes {
         ensures least { (id : ℕ) → id < result.0 → IsSome (map.get self.now id) }
         ensures bound { result.0 < most_components }
     {
-        let id = first_free(&self.index);
-        Id(id as u16)
+        Id(self.taken.first_free())
+    }
+
+    /// The greatest id that a node has.
+    pub fn greatest(&self) -> Id
+        requires { IsSome (map.get self.now 0) }
+        ensures live { IsSome (map.get self.now result.0) }
+        ensures greatest { (other : ℕ) → IsSome (map.get self.now other) → other ≤ result.0 }
+    {
+        Id(last_kept(&self.index) as u16)
     }
 
     /// Puts a node under an id that none has.
@@ -89,17 +104,7 @@ impl Nodes {
     {
         let key = self.slab.insert_reserved(node);
         self.index[usize::from(id.0)] = Some(key);
-    }
-
-    /// Puts another node in the place of the one with this id.
-    pub fn replace(&mut self, id: Id, node: Node)
-        requires { IsSome (map.get self.old id.0) }
-        ensures { self.new ≡ map.insert self.old id.0 node }
-    {
-        if let Some(key) = key_at(&self.index, id) {
-            let _old = self.slab.try_remove(key);
-            let _same = self.slab.insert_reserved(node);
-        }
+        self.taken.take(id.0);
     }
 
     /// Gives the node with this id another fault.
@@ -117,10 +122,12 @@ impl Nodes {
         requires { IsSome (map.get self.old id.0) }
         ensures value { result ≡ map.get self.old id.0 }
         ensures removed { self.new ≡ map.remove self.old id.0 }
+        ensures bound { id.0 < most_components }
     {
         match key_at(&self.index, id) {
             Some(key) => {
                 self.index[usize::from(id.0)] = None;
+                self.taken.free(id.0);
                 self.slab.try_remove(key)
             }
             None => None,
@@ -158,16 +165,19 @@ fn key_at(index: &[Option<usize>], id: Id) -> Option<usize>
     }
 }
 
-// The first id without a key, or the length.
-fn first_free(index: &[Option<usize>]) -> usize
-    ensures within { result ≤ length index.now }
-    ensures free { slice_index_or index.now result None ≡ None }
-    ensures below { (k : ℕ) → k < result → IsSome (slice_index_or index.now k None) }
+// The last id with a key, or 0.
+fn last_kept(index: &[Option<usize>]) -> usize
+    requires { length index.now ≡ 4096 }
+    ensures within { result < 4096 }
+    ensures there { 0 < result → IsSome (slice_index_or index.now result None) }
+    ensures above { (id : ℕ) → result < id → slice_index_or index.now id None ≡ None }
 {
-    for (id, key) in index.iter().enumerate() {
-        if key.is_none() {
+    let mut id = index.len();
+    while id > 1 {
+        id -= 1;
+        if index[id].is_some() {
             return id;
         }
     }
-    index.len()
+    0
 }

@@ -9,8 +9,9 @@ ghost use Rattle.comp_tree.specs.Application.{children_of, value_at};
 ghost use Rattle.comp_tree.specs.Edits.{app_class, first_components};
 ghost use Rattle.comp_tree.specs.Held.{IsPropertyOf};
 ghost use Rattle.comp_tree.specs.Refusals.{first_refusal, refusals_of_read};
-ghost use Rattle.comp_tree.specs.Told.{IsEntry};
+ghost use Rattle.comp_tree.specs.Told.{IsEntry, IsGreatest};
 
+mod editing;
 mod running;
 
 use crate::children::Children;
@@ -35,7 +36,7 @@ pub struct Tree<E: Engine> {
 
 impl<E: Engine> Model for Tree<E> {
     ghost use Rattle.comp_tree.specs.contracts.node.Node as node;
-    ghost use Rattle.comp_tree.specs.Held.{Held, held_code, IsPlaced};
+    ghost use Rattle.comp_tree.specs.Held.{Held, held_code, IsHeld};
 
     ghost Value = { Held E };
 
@@ -43,7 +44,7 @@ impl<E: Engine> Model for Tree<E> {
 
     ghost view = { λ t. record { engine = t.engine; nodes = t.nodes } };
 
-    ghost invariant = { λ t. IsPlaced (E.meaning t.engine) (E.live t.engine) t.nodes };
+    ghost invariant = { λ t. IsHeld (E.meaning t.engine) (E.live t.engine) t.nodes };
 }
 
 impl<E: Engine> Tree<E> {
@@ -91,6 +92,13 @@ impl<E: Engine> Tree<E> {
             Some(node) => Some(entry_of(node)),
             None => None,
         }
+    }
+
+    /// The greatest id that is live.
+    pub fn greatest(&self) -> Id
+        ensures { IsGreatest (components_of E.Engine self.now).by_id result.0 }
+    {
+        self.nodes.greatest()
     }
 
     /// A component's child by its place, counted from 0: none exactly where the id is not live or

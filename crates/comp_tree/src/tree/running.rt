@@ -61,7 +61,14 @@ impl<E: Engine> Tree<E> {
     }
 
     // A root call on a component, where its fault is 0.
-    fn run(&mut self, id: Id, which: Root, arg: &SlotBuf, turns: u32, ticks: i64) -> CallEnd
+    pub(super) fn run(
+        &mut self,
+        id: Id,
+        which: Root,
+        arg: &SlotBuf,
+        turns: u32,
+        ticks: i64,
+    ) -> CallEnd
         requires may { IsSomeAnd (map.get (components_of E.Engine self.old).by_id id.0) (λ c. IsTrue (may_call (E.meaning self.old.engine) c.class which arg.now)) }
         requires some_turns { 1 ≤ turns }
         requires most_turns { turns ≤ 1000000 }

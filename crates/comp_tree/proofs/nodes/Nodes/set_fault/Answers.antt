@@ -3,7 +3,7 @@ use Rattle.std.proofs.Math.ListN.{get_or}
 use Rattle.std.specs.FinMap as map
 use Rattle.std.specs.Prelude.{IfSome}
 use Rattle.comp_tree.specs.declared.node.Node.{Node}
-use Rattle.comp_tree.specs.Faults.{with_fault}
+use Rattle.comp_tree.specs.Changed.{with_fault}
 use Rattle.comp_tree.specs.Indexed.{kept, kept_at, by_number}
 use Rattle.comp_tree.proofs.IndexLemmas.{node_at, faulted_is}
 use Rattle.comp_tree.proofs.nodes.Nodes.set_fault.Goals as goal
@@ -12,7 +12,7 @@ pub returns-in-Some : goal.returns-in-Some
 returns-in-Some c =
     let at = ap (λ xs. get_or xs c.args.id.0 None) (sym c.deref.ensures.value) ∙ sym c.in-Some.ensures in
     subst (λ m. IfSome (map.get m c.args.id.0) (λ (n : Node). by_number (kept c.self.inside.index.items c.change_fault.new.slab) ≡ map.insert m c.args.id.0 (with_fault c.args.fault n))) c.self.view_is
-    (faulted_is 4096 c.self.inside.index.items c.self.inside.slab c.self.invariant c.change_fault.new.slab c.args.id.0 c.in-Some.key (with_fault c.args.fault) at
+    (faulted_is 4096 c.self.inside.index.items c.self.inside.slab c.self.invariant.indexed c.change_fault.new.slab c.args.id.0 c.in-Some.key (with_fault c.args.fault) at
     c.change_fault.ensures.changed c.change_fault.ensures.len c.change_fault.ensures.capacity)
 
 pub returns-in_default : goal.returns-in_default

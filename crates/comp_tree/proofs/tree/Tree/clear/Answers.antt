@@ -1,8 +1,10 @@
-use Rattle.std.proofs.Common.{sym, ap, ◌∙◌}
+use Rattle.std.proofs.Common.{refl, sym, ap, ◌∙◌}
+use Rattle.comp_tree.specs.Changed.{with_fault}
+use Rattle.comp_tree.specs.Edits.{after_clear, without_fault}
 use Rattle.comp_tree.specs.Held.{Held, by_id_of, components_of}
-use Rattle.comp_tree.specs.Edits.{after_clear}
 use Rattle.comp_tree.specs.Refusals.{first_refusal, refusals_of_clear}
-use Rattle.comp_tree.proofs.RunLemmas.{placed_clear, cleared, clear_refused, clear_allowed}
+use Rattle.comp_tree.proofs.EditLemmas.{changed_is, held_changed}
+use Rattle.comp_tree.proofs.RunLemmas.{clear_refused, clear_allowed}
 use Rattle.comp_tree.proofs.tree.Tree.clear.Goals as goal
 
 pub returns-in_default-clause-refused : goal.returns-in_default-clause-refused
@@ -14,12 +16,12 @@ returns-in_default-clause-refused g c =
 pub invariant_of-self : goal.invariant_of-self
 invariant_of-self g c =
     let h : Held _ = record { engine = c.self.inside.engine; nodes = c.self.inside.nodes } in
-    placed_clear g.E.Engine h c.self.invariant c.args.id.0 _ (sym c.in-Some.ensures) c.set_fault.new.self c.set_fault.ensures
+    held_changed g.E.Engine h c.self.invariant.placed c.args.id.0 c.in-Some._node.now (sym c.in-Some.ensures) (with_fault 0) refl refl c.set_fault.new.self c.set_fault.ensures refl refl c.self.invariant.tree
 
 pub returns-clause-done : goal.returns-clause-done
 returns-clause-done g c =
     let h : Held _ = record { engine = c.self.inside.engine; nodes = c.self.inside.nodes } in
-    cleared g.E.Engine h c.self.invariant c.args.id.0 _ (sym c.in-Some.ensures) c.set_fault.new.self c.set_fault.ensures
+    changed_is g.E.Engine h c.self.invariant.placed c.args.id.0 c.in-Some._node.now (sym c.in-Some.ensures) (with_fault 0) refl refl c.set_fault.new.self c.set_fault.ensures without_fault refl
     ∙ ap (λ (x : Held _). after_clear (components_of g.E.Engine x) c.args.id.0) c.self.view_is
 
 pub returns-clause-refused : goal.returns-clause-refused

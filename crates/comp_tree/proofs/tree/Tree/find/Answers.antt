@@ -11,7 +11,7 @@ returns-in-Some g c =
     let i = c.self.inside in
     let e = c.entry_of.ensures in
     subst (λ (h : Held _). IsSomeAnd (map.get (by_id_of (g.E.Engine.live h.engine) h.nodes) c.args.id.0) (IsEntry (g.E.Engine.live h.engine) c.entry_of.result)) c.self.view_is
-    (entry_is (g.E.Engine.meaning i.engine) (g.E.Engine.live i.engine) i.nodes c.self.invariant c.args.id.0 c.in-Some.node.now (sym c.in-Some.ensures) c.entry_of.result
+    (entry_is (g.E.Engine.meaning i.engine) (g.E.Engine.live i.engine) i.nodes c.self.invariant.placed c.args.id.0 c.in-Some.node.now (sym c.in-Some.ensures) c.entry_of.result
     e.kind e.name e.parent e.children e.fault e.place)
 
 pub returns-in-None : goal.returns-in-None

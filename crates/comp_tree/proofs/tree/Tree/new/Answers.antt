@@ -7,7 +7,8 @@ use Rattle.sed_typed.specs.SysTypes.{app_type}
 use Rattle.sed_engine.specs.declared.call.AddRefusal.{AddRefusal}
 use Rattle.sed_engine.specs.declared.call.AddRefusal.TheVariants.{DataFull}
 use Rattle.sed_engine.specs.Code.{Object, new_object}
-use Rattle.comp_tree.specs.Held.{IsPlaced}
+use Rattle.comp_tree.specs.Held.{IsPlaced, IsTreeOf}
+use Rattle.comp_tree.proofs.NodeTrees.{tree_first}
 use Rattle.comp_tree.proofs.TreeLemmas.{app_class_is, no_data, placed_first, app_first}
 use Rattle.comp_tree.proofs.tree.Tree.new.Goals as goal
 
@@ -35,9 +36,12 @@ invariant_of-result g c =
     let l = g.E.Engine.live c.args.engine in
     let n = c.app_node.result in
     let o = new_object m c.app_type-kind.result.0 in
-    subst (λ k. IsPlaced k (g.E.Engine.live c.add.new.self) c.insert.new.self) (sym c.in-Ok-add.ensures.meaning)
-    (placed_first m l (g.E.Engine.live c.add.new.self) c.in-Ok.nodes c.insert.new.self c.requires c.in-Ok.ensures n o (ap (λ t. t.0) (sym c.app_node.ensures.kind))
-    (c.in-Ok-add.ensures.added ∙ ap (λ p. map.insert l p.0 o) (sym c.app_node.ensures.place)) c.insert.ensures)
+    record {
+      placed = subst (λ k. IsPlaced k (g.E.Engine.live c.add.new.self) c.insert.new.self) (sym c.in-Ok-add.ensures.meaning)
+          (placed_first m l (g.E.Engine.live c.add.new.self) c.in-Ok.nodes c.insert.new.self c.requires c.in-Ok.ensures n o (ap (λ t. t.0) (sym c.app_node.ensures.kind))
+          (c.in-Ok-add.ensures.added ∙ ap (λ p. map.insert l p.0 o) (sym c.app_node.ensures.place)) c.insert.ensures);
+      tree = subst IsTreeOf (sym c.insert.ensures) (tree_first c.in-Ok.nodes n c.in-Ok.ensures c.app_node.ensures.parent c.app_node.ensures.children);
+    }
 
 pub returns-clause-made : goal.returns-clause-made
 returns-clause-made g c =

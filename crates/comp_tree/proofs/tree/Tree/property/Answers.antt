@@ -25,8 +25,8 @@ returns-in-Some-Prop g c =
     let form = ap (λ s. option_map (λ (x : SlotInfo). x.form) (slice_get (slots s.classes n.kind.0) c.args.slot)) (sym c.schema.ensures.same) ∙ sym c.in-Some-Prop.ensures ∙ ap Some c.in-Some-Prop.field-0-is in
     subst (λ (h : Held _). IsPropertyOf g.E.Engine h c.args.id.0 c.args.slot n.place.0) c.self.view_is (record {
       allowed = allowed_property m l i.nodes c.args.id.0 n (sym c.in-Some.ensures) c.args.slot t form;
-      property = property_is m l i.nodes c.self.invariant c.args.id.0 n (sym c.in-Some.ensures) c.args.slot t form;
-      component = component_there m l i.nodes c.self.invariant c.args.id.0 n (sym c.in-Some.ensures);
+      property = property_is m l i.nodes c.self.invariant.placed c.args.id.0 n (sym c.in-Some.ensures) c.args.slot t form;
+      component = component_there m l i.nodes c.self.invariant.placed c.args.id.0 n (sym c.in-Some.ensures);
     })
 
 pub returns-in-Some-Action : goal.returns-in-Some-Action

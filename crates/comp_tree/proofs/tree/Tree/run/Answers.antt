@@ -6,7 +6,7 @@ use Rattle.comp_tree.specs.Held.{Held, by_id_of, components_of}
 use Rattle.sed_engine.specs.Code.{may_call}
 use Rattle.sed_engine.specs.declared.call.CallEnd.TheVariants.{Done}
 use Rattle.comp_tree.specs.Calls.{Ran, run_at}
-use Rattle.comp_tree.proofs.RunLemmas.{run_without, run_faulted, placed_run, run_left, run_end, may_here}
+use Rattle.comp_tree.proofs.RunLemmas.{run_without, run_faulted, placed_run, tree_run, run_left, run_end, may_here}
 use Rattle.comp_tree.proofs.tree.Tree.run.Goals as goal
 
 pub returns-in_default-clause-left : goal.returns-in_default-clause-left
@@ -36,21 +36,25 @@ returns-then-node-ne0-clause-end g c =
 pub call-end-requires-clause-live : goal.call-end-requires-clause-live
 call-end-requires-clause-live g c =
     let i = c.self.inside in
-    may_here (g.E.Engine.meaning i.engine) (g.E.Engine.live i.engine) i.nodes c.self.invariant c.args.id.0 c.in-Some.node.now (sym c.in-Some.ensures)
+    may_here (g.E.Engine.meaning i.engine) (g.E.Engine.live i.engine) i.nodes c.self.invariant.placed c.args.id.0 c.in-Some.node.now (sym c.in-Some.ensures)
     (λ class. IsTrue (may_call (g.E.Engine.meaning i.engine) class c.args.which c.args.arg.now))
     (subst (λ (x : Held _). IsSomeAnd (map.get (by_id_of (g.E.Engine.live x.engine) x.nodes) c.args.id.0) (λ k. IsTrue (may_call (g.E.Engine.meaning x.engine) k.class c.args.which c.args.arg.now))) (sym c.self.view_is) c.requires.may)
 
 pub invariant_of-self : goal.invariant_of-self
 invariant_of-self g c =
     let h : Held _ = record { engine = c.self.inside.engine; nodes = c.self.inside.nodes } in
-    placed_run g.E.Engine h c.args.id.0 c.args.which c.args.arg.now c.args.turns (to_z w64 (of_z w64 c.args.ticks)) c.in-Some.node.now (sym c.in-Some.ensures) c.self.invariant c.if-node-ne0.false c.call-end.new.self c.set_fault.new.self c.call-end.result c.fault_number.result
-    c.call-end.ensures.left c.call-end.ensures.statics c.call-end.ensures.end c.call-end.ensures.limit c.call-end.ensures.meaning c.fault_number.ensures c.set_fault.ensures
+    record {
+      placed = placed_run g.E.Engine h c.args.id.0 c.args.which c.args.arg.now c.args.turns (to_z w64 (of_z w64 c.args.ticks)) c.in-Some.node.now (sym c.in-Some.ensures) c.self.invariant.placed c.if-node-ne0.false c.call-end.new.self c.set_fault.new.self c.call-end.result c.fault_number.result
+          c.call-end.ensures.left c.call-end.ensures.statics c.call-end.ensures.end c.call-end.ensures.limit c.call-end.ensures.meaning c.fault_number.ensures c.set_fault.ensures;
+      tree = tree_run g.E.Engine h c.args.id.0 c.args.which c.args.arg.now c.args.turns (to_z w64 (of_z w64 c.args.ticks)) c.in-Some.node.now (sym c.in-Some.ensures) c.self.invariant.placed c.if-node-ne0.false c.call-end.new.self c.set_fault.new.self c.call-end.result c.fault_number.result
+          c.call-end.ensures.left c.call-end.ensures.statics c.call-end.ensures.end c.call-end.ensures.limit c.call-end.ensures.meaning c.fault_number.ensures c.set_fault.ensures c.self.invariant.tree;
+    }
 
 pub returns-clause-left : goal.returns-clause-left
 returns-clause-left g c =
     let h : Held _ = record { engine = c.self.inside.engine; nodes = c.self.inside.nodes } in
     let same : to_z w64 (of_z w64 c.args.ticks) ≡ c.args.ticks = to_z-of_z w64 c.args.ticks c.ranges.ticks in
-    run_left g.E.Engine h c.args.id.0 c.args.which c.args.arg.now c.args.turns (to_z w64 (of_z w64 c.args.ticks)) c.in-Some.node.now (sym c.in-Some.ensures) c.self.invariant c.if-node-ne0.false c.call-end.new.self c.set_fault.new.self c.call-end.result c.fault_number.result
+    run_left g.E.Engine h c.args.id.0 c.args.which c.args.arg.now c.args.turns (to_z w64 (of_z w64 c.args.ticks)) c.in-Some.node.now (sym c.in-Some.ensures) c.self.invariant.placed c.if-node-ne0.false c.call-end.new.self c.set_fault.new.self c.call-end.result c.fault_number.result
     c.call-end.ensures.left c.call-end.ensures.statics c.call-end.ensures.end c.call-end.ensures.limit c.call-end.ensures.meaning c.fault_number.ensures c.set_fault.ensures
     ∙ ap (λ (k : ℤ). (run_at (g.E.Engine.meaning h.engine) (components_of g.E.Engine h) c.args.id.0 c.args.which c.args.arg.now c.args.turns k).left) same
     ∙ ap (λ (x : Held _). (run_at (g.E.Engine.meaning x.engine) (components_of g.E.Engine x) c.args.id.0 c.args.which c.args.arg.now c.args.turns c.args.ticks).left) c.self.view_is
@@ -59,7 +63,7 @@ pub returns-clause-end : goal.returns-clause-end
 returns-clause-end g c =
     let h : Held _ = record { engine = c.self.inside.engine; nodes = c.self.inside.nodes } in
     let same : to_z w64 (of_z w64 c.args.ticks) ≡ c.args.ticks = to_z-of_z w64 c.args.ticks c.ranges.ticks in
-    run_end g.E.Engine h c.args.id.0 c.args.which c.args.arg.now c.args.turns (to_z w64 (of_z w64 c.args.ticks)) c.in-Some.node.now (sym c.in-Some.ensures) c.self.invariant c.if-node-ne0.false c.call-end.new.self c.set_fault.new.self c.call-end.result c.fault_number.result
+    run_end g.E.Engine h c.args.id.0 c.args.which c.args.arg.now c.args.turns (to_z w64 (of_z w64 c.args.ticks)) c.in-Some.node.now (sym c.in-Some.ensures) c.self.invariant.placed c.if-node-ne0.false c.call-end.new.self c.set_fault.new.self c.call-end.result c.fault_number.result
     c.call-end.ensures.left c.call-end.ensures.statics c.call-end.ensures.end c.call-end.ensures.limit c.call-end.ensures.meaning c.fault_number.ensures c.set_fault.ensures
     ∙ ap (λ (k : ℤ). (run_at (g.E.Engine.meaning h.engine) (components_of g.E.Engine h) c.args.id.0 c.args.which c.args.arg.now c.args.turns k).end) same
     ∙ ap (λ (x : Held _). (run_at (g.E.Engine.meaning x.engine) (components_of g.E.Engine x) c.args.id.0 c.args.which c.args.arg.now c.args.turns c.args.ticks).end) c.self.view_is

@@ -1,0 +1,57 @@
+-- Sums over the values of a finite map, after a change.
+use Rattle.std.proofs.Common.{◌≡◌, ℕ, ◌+◌, List, [], ◌∷◌, Bool, true, false, cond, map, refl, sym, ◌∙◌, ap, arith}
+use Rattle.std.specs.Prelude.{Option, Some, None, is_some, sum_by}
+use Rattle.std.specs.FinMap as finite
+use Rattle.std.specs.FinMap.{FinMap, find, put}
+use Rattle.std.specs.FinMap.Entries.{by_order}
+use Rattle.std.specs.declared.cmp.Ordering.{Ordering}
+use Rattle.std.specs.declared.cmp.Ordering.TheVariants.{Less, Equal, Greater}
+use Rattle.std.specs.Ordering.{nat_cmp, eq_by_cmp, is_eq}
+use Rattle.std.specs.Cmp.{nat_cmp_total}
+use Rattle.std.proofs.lemmas.List.Sums.{sum_by-cons}
+use Rattle.comp_tree.proofs.MapLemmas.{put_back, put_same, taken_out}
+
+module _ {V : Type 0} (f : V → ℕ) where
+  -- the sum over values
+  abbrev pub total : FinMap nat_cmp V → ℕ
+  total m = sum_by f (finite.values m)
+
+  sum_of : List (ℕ × V) → ℕ
+  sum_of es = sum_by f (map (λ (e : ℕ × V). e.1) es)
+
+  sum_next : (e : ℕ × V) (es : List (ℕ × V)) → sum_of (e ∷ es) ≡ f e.1 + sum_of es
+  unfolding sum_of
+  sum_next e es = sum_by-cons f e.1 (map (λ (e : ℕ × V). e.1) es)
+
+  sum_placed : (k : ℕ) (x : V) (e : ℕ × V) (es : List (ℕ × V)) (r : Ordering) → cond (is_eq r) (Some e.1) (find nat_cmp k es) ≡ None
+      → (find nat_cmp k es ≡ None → sum_of (put nat_cmp k x es) ≡ sum_of es + f x)
+      → sum_of (by_order r ((k, x) ∷ e ∷ es) ((e.0, x) ∷ es) (e ∷ put nat_cmp k x es)) ≡ sum_of (e ∷ es) + f x
+  sum_placed k x e es Less none rest = sum_next (k, x) (e ∷ es) ∙ omega arith
+  sum_placed k x e es Equal none rest = absurd (let no = ap is_some none in cc)
+  sum_placed k x e es Greater none rest =
+      let later = rest none in
+      let whole = sum_next e es in
+      sum_next e (put nat_cmp k x es) ∙ omega arith
+
+  sum_put : (k : ℕ) (x : V) (es : List (ℕ × V)) → find nat_cmp k es ≡ None → sum_of (put nat_cmp k x es) ≡ sum_of es + f x
+  sum_put k x [] none = sum_next (k, x) [] ∙ omega arith
+  sum_put k x (e ∷ es) none = sum_placed k x e es (nat_cmp k e.0) none (sum_put k x es)
+
+  -- with one more
+  pub total_more : (m : FinMap nat_cmp V) (k : ℕ) (x : V) → finite.get m k ≡ None → total (finite.insert m k x) ≡ total m + f x
+  unfolding sum_of
+  total_more m k x none = ap sum_of (finite.entries-insert nat_cmp_total m k x) ∙ sum_put k x (finite.entries m) (sym (finite.get-entries m k) ∙ none)
+
+  -- with another in the place of one
+  pub total_over : (m : FinMap nat_cmp V) (k : ℕ) (x y : V) → finite.get m k ≡ Some x → f x ≡ f y → total (finite.insert m k y) ≡ total m
+  total_over m k x y some same =
+      let was : total (finite.insert (finite.remove m k) k x) ≡ total m = ap total (put_back m k x ∙ put_same m k x some) in
+      let with_x = total_more (finite.remove m k) k x (taken_out m k) in
+      let with_y = total_more (finite.remove m k) k y (taken_out m k) in
+      let is : total (finite.insert (finite.remove m k) k y) ≡ total (finite.insert m k y) = ap total (put_back m k y) in
+      omega arith
+
+  -- with one less
+  pub total_less : (m : FinMap nat_cmp V) (k : ℕ) (x : V) → finite.get m k ≡ Some x → total (finite.remove m k) + f x ≡ total m
+  total_less m k x some =
+      sym (total_more (finite.remove m k) k x (taken_out m k)) ∙ ap total (put_back m k x ∙ put_same m k x some)

@@ -1,0 +1,13 @@
+use Rattle.std.proofs.Common.{sym, ap, ◌∙◌}
+use Rattle.std.specs.FinMap as map
+use Rattle.comp_tree.specs.Changed.{with_children}
+use Rattle.comp_tree.proofs.NodeTrees.{back_is}
+use Rattle.comp_tree.proofs.MapLemmas.{taken_out}
+use Rattle.comp_tree.proofs.order.reorder_node.Goals as goal
+
+pub insert-requires-clause-free : goal.insert-requires-clause-free
+insert-requires-clause-free c = ap (λ m. map.get m c.args.id.0) c.remove.ensures.removed ∙ taken_out c.args.nodes.now c.args.id.0
+
+pub returns-in-Some : goal.returns-in-Some
+returns-in-Some c =
+    back_is c.args.nodes.now c.remove.new.self c.insert.new.self c.args.id.0 c.in-Some.node (with_children c.args.children) c.remove.ensures.removed (sym c.in-Some.ensures.value) c.insert.ensures

@@ -1,0 +1,32 @@
+use Rattle.std.proofs.Common.{◌≡◌, ◌∷◌, [], Some, sym, ap, subst, ◌∙◌}
+use Rattle.std.specs.Prelude.{IsSomeAnd, IsTrue}
+use Rattle.std.specs.FinMap as map
+use Rattle.sed_engine.specs.Code.{may_store}
+use Rattle.comp_tree.specs.Held.{Held, by_id_of, components_of}
+use Rattle.comp_tree.specs.Refusals.{first_refusal, refusals_of_write, write_types}
+use Rattle.comp_tree.specs.Edits.{first_of}
+use Rattle.comp_tree.specs.Values.{taken}
+use Rattle.comp_tree.proofs.EditLemmas.{write_allowed, write_may, write_refused, write_takes, write_unread}
+use Rattle.comp_tree.proofs.MatchLemmas.{match_more}
+use Rattle.comp_tree.proofs.ReadLemmas.{goes_there}
+use Rattle.comp_tree.proofs.tree.Tree.value_to_write.Goals as goal
+
+pub returns-in-Err-clause-refused : goal.returns-in-Err-clause-refused
+returns-in-Err-clause-refused g c =
+    write_unread (g.E.Engine.meaning c.args.self.now.engine) (components_of g.E.Engine c.args.self.now).by_id c.args.id.0 c.args.slot c.args.bytes.now c.in-Err.refusal c.in-Err.ensures.refused
+
+pub returns-clause-taken : goal.returns-clause-taken
+returns-clause-taken g c =
+    match_more c.one_value.result c.one_value.ensures.taken
+    (λ v is. ap first_of (write_takes (g.E.Engine.meaning c.args.self.now.engine) (components_of g.E.Engine c.args.self.now).by_id c.args.id.0 c.args.slot c.args.bytes.now c.in-Ok.kind c.in-Ok.ensures.found (v ∷ []) is)) (λ e is. tt)
+
+pub returns-clause-may : goal.returns-clause-may
+returns-clause-may g c =
+    match_more c.one_value.result c.one_value.ensures.of_type
+    (λ v of. write_may (g.E.Engine.meaning c.args.self.now.engine) (components_of g.E.Engine c.args.self.now).by_id c.args.id.0 c.args.slot c.args.bytes.now c.in-Ok.kind v _ c.in-Ok.ensures.found (goes_there c.in-Ok.kind v of)) (λ e is. tt)
+
+pub returns-clause-refused : goal.returns-clause-refused
+returns-clause-refused g c =
+    match_more c.one_value.result c.one_value.ensures.taken
+    (λ v is. write_allowed (g.E.Engine.meaning c.args.self.now.engine) (components_of g.E.Engine c.args.self.now).by_id c.args.id.0 c.args.slot c.args.bytes.now c.in-Ok.kind c.in-Ok.ensures.found (v ∷ []) c.in-Ok.ensures.refused is)
+    (λ e is. write_refused (g.E.Engine.meaning c.args.self.now.engine) (components_of g.E.Engine c.args.self.now).by_id c.args.id.0 c.args.slot c.args.bytes.now c.in-Ok.kind c.in-Ok.ensures.found e c.in-Ok.ensures.refused is)
