@@ -109,18 +109,19 @@ pub entry_at-sound : (bytes : List ℕ) (entry : Entry) (rest : List ℕ) → en
     → Reads SpellsEntry entry bytes rest
 unfolding entry_at
 entry_at-sound [] entry rest e = absurd cc
-entry_at-sound (letter ∷ bytes) entry rest e = elim (split (letter == 100) (datagram_at bytes) _ (Some (entry, rest)) e) [
-  | inl is ↦
-      let letter_is : letter ≡ 100 = eqb-true letter 100 is.0 in
-      subst (λ (n : ℕ). Reads SpellsEntry entry (n ∷ bytes) rest) (sym letter_is)
-      (datagram-sound bytes entry rest is.1)
-  | inr other ↦ elim (split (letter == 116) (tick_at bytes) None (Some (entry, rest)) other.1) [
-    | inl is ↦
-        let letter_is : letter ≡ 116 = eqb-true letter 116 is.0 in
-        subst (λ (n : ℕ). Reads SpellsEntry entry (n ∷ bytes) rest) (sym letter_is) (tick-sound bytes entry rest is.1)
-    | inr none ↦ absurd (let n : None ≡ Some (entry, rest) = none.1 in cc)
-  ]
-]
+entry_at-sound (letter ∷ bytes) entry rest e =
+    elim (split (letter == 100) (datagram_at bytes) _ (Some (entry, rest)) e) [
+      | inl is ↦
+          let letter_is : letter ≡ 100 = eqb-true letter 100 is.0 in
+          subst (λ (n : ℕ). Reads SpellsEntry entry (n ∷ bytes) rest) (sym letter_is)
+          (datagram-sound bytes entry rest is.1)
+      | inr other ↦ elim (split (letter == 116) (tick_at bytes) None (Some (entry, rest)) other.1) [
+        | inl is ↦
+            let letter_is : letter ≡ 116 = eqb-true letter 116 is.0 in
+            subst (λ (n : ℕ). Reads SpellsEntry entry (n ∷ bytes) rest) (sym letter_is) (tick-sound bytes entry rest is.1)
+        | inr none ↦ absurd (let n : None ≡ Some (entry, rest) = none.1 in cc)
+      ]
+    ]
 
 -- where nothing is found no entry begins
 pub entry_at-none : (bytes : List ℕ) → entry_at bytes ≡ None → BeginsNoEntry bytes

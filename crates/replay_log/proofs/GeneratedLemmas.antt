@@ -1,5 +1,5 @@
 -- What the loops of a generated record have done so far.
-use Rattle.std.proofs.Common.{◌≡◌, ◌≢◌, ◌==◌, eq-eqb, ℕ, suc, ◌+◌, ◌*◌, ◌%◌, ◌/◌, true, false, List, [], ◌∷◌, ◌++◌, length, map, slice_index_or, refl, sym, subst, ◌∙◌, ap, arith, add-one}
+use Rattle.std.proofs.Common.{◌≡◌, ◌≢◌, ◌==◌, eq-eqb, ℕ, suc, ◌+◌, ◌*◌, ◌%◌, true, false, List, [], ◌∷◌, ◌++◌, length, map, slice_index_or, refl, sym, subst, ◌∙◌, ap, arith, add-one}
 use Rattle.std.proofs.lemmas.Bool.Decides.{nat_tests}
 use Rattle.std.proofs.lemmas.List.{append-nil}
 use Rattle.replay_log.specs.declared.gen_spec.GenSpec.{GenSpec}
@@ -11,7 +11,7 @@ use Rattle.sox_msg.specs.Command.{invoke}
 use Rattle.replay_log.specs.declared.making.Next.{Next}
 use Rattle.replay_log.specs.declared.session.Session.{Session}
 use Rattle.replay_log.specs.declared.session.Session.TheVariants.{A, B}
-use Rattle.replay_log.specs.Generated.{IsGenerated, acts, added, component_acts, draws_below, drawn_type, edit, folder_type, for_each, greetings, is_folder, link_acts, link_count, linked, named, place, place_in, places, places_of, tick_acts}
+use Rattle.replay_log.specs.Generated.{IsGenerated, acts, component_acts, drawn_type, draws_below, edit, first_draw, folder_add, folder_type, for_each, greetings, is_folder, link_acts, link_count, link_with, linked, other_add, place, place_in, places, places_of, second_draw, tick_acts, tick_with}
 use Rattle.replay_log.specs.Making.{AddsAll, AddsOne, Does, EditsAll, EditsOnce, LinksAll, PutsSteps}
 use Rattle.replay_log.specs.Session.{in_turn}
 use Rattle.replay_log.specs.Step.{Act, asks, waits, greeting, steps_of}
@@ -60,7 +60,7 @@ other-test i other = test (i % 100) other
 
 pub adds-folder : (spec : GenSpec) (i : ℕ) (a b : Making) (places : List Place) → is_folder i ≡ true
     → a.last ≡ draw spec.seed (draws_below i)
-    → Does (asks (in_turn i) (added folder_type 0 (named 102 (i / 100))) ∷ []) a b → b.last ≡ a.last
+    → Does (asks (in_turn i) (folder_add i) ∷ []) a b → b.last ≡ a.last
     → AddsOne spec i a b places places
 adds-folder spec i a b places folder drawn does last = record {
   does = rw folder does;
@@ -69,7 +69,8 @@ adds-folder spec i a b places folder drawn does last = record {
 }
 
 -- a draw changes nothing but the number drawn last
-does-from : (acts : List Act) (a b c : Making) (drawn : ℕ) → b ≡ record a { last = drawn } → Does acts b c → Does acts a c
+does-from : (acts : List Act) (a b c : Making) (drawn : ℕ) → b ≡ record a { last = drawn } → Does acts b c
+    → Does acts a c
 does-from acts a b c drawn is does =
     let P : Making → Type 0 = λ m. Does acts m c in
     let from_drawn : Does acts (record a { last = drawn }) c = subst P is does in
@@ -79,7 +80,7 @@ pub adds-drawn : (spec : GenSpec) (i : ℕ) (kind : GenType) (a b c : Making) (o
     → a.last ≡ draw spec.seed (draws_below i)
     → kind ≡ slice_index_or spec.types (next_draw a.last % length spec.types) folder_type
     → b ≡ record a { last = next_draw a.last }
-    → Does (asks (in_turn i) (added kind (i / 100 * 100 + 1) (named 99 i)) ∷ []) b c → c.last ≡ b.last
+    → Does (asks (in_turn i) (other_add kind i) ∷ []) b c → c.last ≡ b.last
     → new ≡ old ++ map (place (i + 1)) kind.ints → AddsOne spec i a c old new
 adds-drawn spec i kind a b c old new other drawn is from does last found =
     let next : next_draw a.last ≡ draw spec.seed (suc (draws_below i)) =
@@ -89,8 +90,8 @@ adds-drawn spec i kind a b c old new other drawn is from does last found =
     let b_last : b.last ≡ next_draw a.last = ap (λ (m : Making). m.last) from in
     record {
       does = rw other
-          (subst (λ (k : GenType). Does (asks (in_turn i) (added k (i / 100 * 100 + 1) (named 99 i)) ∷ []) a c) kind_is
-          (does-from (asks (in_turn i) (added kind (i / 100 * 100 + 1) (named 99 i)) ∷ []) a b c (next_draw a.last) from does));
+          (subst (λ (k : GenType). Does (asks (in_turn i) (other_add k i) ∷ []) a c) kind_is
+          (does-from (asks (in_turn i) (other_add kind i) ∷ []) a b c (next_draw a.last) from does));
       drawn = last ∙ b_last ∙ next ∙ ap (draw spec.seed) (sym (draws-other i other));
       found = rw other (found ∙ ap (λ (k : GenType). old ++ map (place (i + 1)) k.ints) kind_is);
     }
@@ -105,15 +106,14 @@ links-none spec making drawn = record {
 }
 
 pub links-more : (spec : GenSpec) (all : List Place) (n : ℕ) (a b c : Making) → all ≡ places spec → LinksAll spec n a b
-    → Does (asks (in_turn n) (linked (place_in all (next_draw b.last % length all)) (place_in all n)) ∷ []) b c
-    → c.last ≡ next_draw b.last → LinksAll spec (n + 1) a c
+    → Does (asks (in_turn n) (link_with all (next_draw b.last) n) ∷ []) b c → c.last ≡ next_draw b.last
+    → LinksAll spec (n + 1) a c
 links-more spec all n a b c all_are first does last =
-    let base : ℕ = draws_below spec.components in
     let next : next_draw b.last ≡ draw spec.seed (draws_below spec.components + suc n) =
     drawn-next spec.seed (draws_below spec.components + n) b.last first.drawn ∙ ap (draw spec.seed) (omega arith) in
     let one : Does (link_acts spec n) b c =
-    subst (λ (x : ℕ). Does (asks (in_turn n) (linked (place_in (places spec) (x % length (places spec))) (place_in (places spec) n)) ∷ []) b c) next
-    (subst (λ (ps : List Place). Does (asks (in_turn n) (linked (place_in ps (next_draw b.last % length ps)) (place_in ps n)) ∷ []) b c) all_are does) in
+    subst (λ (x : ℕ). Does (asks (in_turn n) (link_with (places spec) x n) ∷ []) b c) next
+    (subst (λ (ps : List Place). Does (asks (in_turn n) (link_with ps (next_draw b.last) n) ∷ []) b c) all_are does) in
     subst (λ (k : ℕ). LinksAll spec k a c) (sym (add-one n))
     (record {
       does = does-then (for_each n (link_acts spec)) (link_acts spec n) a b c first.does one;
@@ -132,17 +132,16 @@ edits-none spec making drawn = record {
 pub edits-more : (spec : GenSpec) (n : ℕ) (a b c : Making) → EditsAll spec n a b
     → EditsOnce spec.components (n + 1) b c → EditsAll spec (n + 1) a c
 edits-more spec n a b c first second =
-    let first_is : next_draw b.last ≡ draw spec.seed (draws_below spec.components + link_count spec + suc (2 * n)) =
+    let first_is : next_draw b.last ≡ first_draw spec n =
     drawn-next spec.seed (draws_below spec.components + link_count spec + 2 * n) b.last first.drawn
     ∙ ap (draw spec.seed) (omega arith) in
-    let second_is : next_draw (next_draw b.last)
-    ≡ draw spec.seed (draws_below spec.components + link_count spec + suc (suc (2 * n))) =
+    let second_is : next_draw (next_draw b.last) ≡ second_draw spec n =
     drawn-next spec.seed (draws_below spec.components + link_count spec + suc (2 * n)) (next_draw b.last) first_is
     ∙ ap (draw spec.seed) (omega arith) in
-    let with_first : Does (waits ((n + 1) * 100000000) ∷ asks (in_turn (n + 1)) (edit (1 + draw spec.seed (draws_below spec.components + link_count spec + suc (2 * n)) % spec.components) (n + 1) (next_draw (next_draw b.last))) ∷ []) b c =
-    subst (λ (x : ℕ). Does (waits ((n + 1) * 100000000) ∷ asks (in_turn (n + 1)) (edit (1 + x % spec.components) (n + 1) (next_draw (next_draw b.last))) ∷ []) b c) first_is second.does in
     let one : Does (tick_acts spec n) b c =
-    subst (λ (y : ℕ). Does (waits ((n + 1) * 100000000) ∷ asks (in_turn (n + 1)) (edit (1 + draw spec.seed (draws_below spec.components + link_count spec + suc (2 * n)) % spec.components) (n + 1) y) ∷ []) b c) second_is with_first in
+    subst (λ (y : ℕ). Does (tick_with spec.components (n + 1) (first_draw spec n) y) b c) second_is
+    (subst (λ (x : ℕ). Does (tick_with spec.components (n + 1) x (next_draw (next_draw b.last))) b c) first_is
+    second.does) in
     record {
       does = subst (λ (k : ℕ). Does (for_each k (tick_acts spec)) a c) (sym (add-one n))
           (does-then (for_each n (tick_acts spec)) (tick_acts spec n) a b c first.does one);
@@ -150,10 +149,10 @@ edits-more spec n a b c first second =
     }
 
 -- a tick, two draws and an edit
-pub edits-once : (components number p q moment : ℕ) (w : Session) (a b c d e : Making)
-    → moment ≡ number * 100000000 → w ≡ in_turn number → Does (waits moment ∷ []) a b → b.last ≡ a.last → p ≡ next_draw b.last → c ≡ record b { last = p } → q ≡ next_draw c.last
-    → d ≡ record c { last = q } → Does (asks w (edit (1 + p % components) number q) ∷ []) d e
-    → e.last ≡ d.last → EditsOnce components number a e
+pub edits-once : (components number p q moment : ℕ) (w : Session) (a b c d e : Making) → moment ≡ number * 100000000
+    → w ≡ in_turn number → Does (waits moment ∷ []) a b → b.last ≡ a.last → p ≡ next_draw b.last
+    → c ≡ record b { last = p } → q ≡ next_draw c.last → d ≡ record c { last = q }
+    → Does (asks w (edit (1 + p % components) number q) ∷ []) d e → e.last ≡ d.last → EditsOnce components number a e
 edits-once components number p q moment w a b c d e moment_is w_is waited b_last p_is c_is q_is d_is edited e_last =
     let first : Does (waits (number * 100000000) ∷ []) a b =
     subst (λ (m : ℕ). Does (waits m ∷ []) a b) moment_is waited in
@@ -165,13 +164,11 @@ edits-once components number p q moment w a b c d e moment_is w_is waited b_last
     let d_last : d.last ≡ q = ap (λ (m : Making). m.last) d_is in
     let asked : List Act = asks (in_turn number) (edit (1 + p % components) number q) ∷ [] in
     let from_b : Does asked b e = does-from asked b c e p c_is (does-from asked c d e q d_is second) in
-    let both : Does (waits (number * 100000000) ∷ asked) a e =
+    let both : Does (tick_with components number p q) a e =
     does-then (waits (number * 100000000) ∷ []) asked a b e first from_b in
     record {
-      does = subst (λ (x : ℕ). Does (waits (number * 100000000)
-          ∷ asks (in_turn number) (edit (1 + x % components) number (next_draw (next_draw a.last))) ∷ []) a e) p_drawn
-          (subst (λ (y : ℕ). Does (waits (number * 100000000)
-          ∷ asks (in_turn number) (edit (1 + p % components) number y) ∷ []) a e) q_drawn both);
+      does = subst (λ (x : ℕ). Does (tick_with components number x (next_draw (next_draw a.last))) a e) p_drawn
+          (subst (λ (y : ℕ). Does (tick_with components number p y) a e) q_drawn both);
       last = e_last ∙ d_last ∙ q_drawn;
     }
 
@@ -179,7 +176,7 @@ edits-once components number p q moment w a b c d e moment_is w_is waited b_last
 pub link-added : (all : List Place) (who w : Session) (j x : ℕ) (source target : Place) (a b c : Making)
     → source ≡ place_in all (x % length all) → target ≡ place_in all j → x ≡ next_draw a.last
     → b ≡ record a { last = x } → w ≡ who → Does (asks w (linked source target) ∷ []) b c
-    → Does (asks who (linked (place_in all (next_draw a.last % length all)) (place_in all j)) ∷ []) a c
+    → Does (asks who (link_with all (next_draw a.last) j) ∷ []) a c
 link-added all who w j x source target a b c source_is target_is x_is b_is w_is does =
     let from_a : Does (asks w (linked source target) ∷ []) a c =
     does-from (asks w (linked source target) ∷ []) a b c x b_is does in

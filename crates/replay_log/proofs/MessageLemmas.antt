@@ -165,5 +165,6 @@ pub puts-two : (who : Session) (m n p q : Message) (a b c : List ℕ) → m ≡ 
     → PutsSteps (sends who n ∷ []) b c → PutsSteps (sends who p ∷ sends who q ∷ []) a c
 puts-two who m n p q a b c of_m of_n first second =
     let one : PutsSteps (sends who p ∷ []) a b = subst (λ (x : Message). PutsSteps (sends who x ∷ []) a b) of_m first in
-    let two : PutsSteps (sends who q ∷ []) b c = subst (λ (x : Message). PutsSteps (sends who x ∷ []) b c) of_n second in
+    let two : PutsSteps (sends who q ∷ []) b c =
+    subst (λ (x : Message). PutsSteps (sends who x ∷ []) b c) of_n second in
     puts-then (sends who p ∷ []) (sends who q ∷ []) a b c one two

@@ -101,7 +101,8 @@ moment_at-sound bytes moment rest e =
     let moment_is : cast_signed w64 read.0.0 ≡ moment = ap (λ (p : ℤ × List ℕ). p.0) same in
     let rest_is : read.0.1 ≡ rest = ap (λ (p : ℤ × List ℕ). p.1) same in
     let below = number_of-below found.spelling found.spelled.are_bytes in
-    let bound : read.0.0 < 2 ^ 64 = fits_64 found.spelling read.0.0 found.spelled.as_many found.spelled.is_number below in
+    let bound : read.0.0 < 2 ^ 64 =
+    fits_64 found.spelling read.0.0 found.spelled.as_many found.spelled.is_number below in
     let back = of_z-to_z w64 read.0.0 bound in
     record {
       spelling = found.spelling;

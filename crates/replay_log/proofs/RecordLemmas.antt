@@ -169,7 +169,8 @@ one_text (entry ∷ behind) a b of_a of_b =
         of_a.whole ∙ ap (λ (t : List ℕ). 100 ∷ (sender.ip ++ (t ++ (of_a.count ++ bytes)))) port
         ∙ ap (λ (t : List ℕ). 100 ∷ (sender.ip ++ (of_b.port ++ (t ++ bytes)))) count ∙ sym of_b.whole
     one_entry (tick moment) a b of_a of_b =
-        of_a.whole ∙ ap (λ (t : List ℕ). 116 ∷ t) (one_signed w64 moment of_a.number of_b.number of_a.spelled of_b.spelled)
+        of_a.whole
+        ∙ ap (λ (t : List ℕ). 116 ∷ t) (one_signed w64 moment of_a.number of_b.number of_a.spelled of_b.spelled)
         ∙ sym of_b.whole
 
 pub record SameSplit (bytes a b : List ℕ) (of_a : IsSplit bytes a) (of_b : IsSplit bytes b) : Type 0 where

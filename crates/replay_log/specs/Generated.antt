@@ -45,12 +45,17 @@ drawn_type spec i =
 abbrev pub added : GenType → ℕ → List ℕ → Asked
 added kind parent name = add parent kind.kit kind.number name kind.config
 
--- The add of the i-th component, whose id is i + 1: a folder `f0`, `f1` .. under the App, or a component `c1`, `c2` ..
--- under the last folder.
+-- folders are `f0`, `f1` .. under the App
+abbrev pub folder_add : ℕ → Asked
+folder_add i = added folder_type 0 (named 102 (i / 100))
+
+-- other components are `c1`, `c2` .. under the last folder
+abbrev pub other_add : GenType → ℕ → Asked
+other_add kind i = added kind (i / 100 * 100 + 1) (named 99 i)
+
+-- the add of the i-th component, whose id is i + 1
 abbrev pub add_of : GenSpec → ℕ → Asked
-add_of spec i =
-    if is_folder i then added folder_type 0 (named 102 (i / 100))
-    else added (drawn_type spec i) (i / 100 * 100 + 1) (named 99 i)
+add_of spec i = if is_folder i then folder_add i else other_add (drawn_type spec i) i
 
 -- ---- links
 
@@ -74,11 +79,12 @@ place_in all n = slice_index_or all n (place 0 0)
 abbrev pub linked : Place → Place → Asked
 linked source target = link source.id source.slot target.id target.slot
 
--- the j-th link leads from a place that is drawn to the j-th place
+-- from a place that is drawn to the j-th
+abbrev pub link_with : List Place → ℕ → ℕ → Asked
+link_with all drawn j = linked (place_in all (drawn % length all)) (place_in all j)
+
 abbrev pub link_of : GenSpec → ℕ → Asked
-link_of spec j =
-    linked (place_in (places spec) (draw spec.seed (draws_below spec.components + suc j) % length (places spec)))
-    (place_in (places spec) j)
+link_of spec j = link_with (places spec) (draw spec.seed (draws_below spec.components + suc j)) j
 
 -- ---- ticks
 
@@ -97,11 +103,14 @@ second_draw spec n = draw spec.seed (draws_below spec.components + link_count sp
 abbrev pub edit : ℕ → ℕ → ℕ → Asked
 edit id number value = if number % 25 == 0 then rename id (named 114 number) else write id 0 (u4 value)
 
--- tick t comes 100 ms behind the one before, and then an edit
+-- a tick comes 100 ms behind the one before, and then an edit of what two draws gave
+abbrev pub tick_with : ℕ → ℕ → ℕ → ℕ → List Act
+tick_with components number p q =
+    waits (number * 100000000) ∷ asks (in_turn number) (edit (1 + p % components) number q) ∷ []
+
+-- ticks are counted from 1
 abbrev pub tick_acts : GenSpec → ℕ → List Act
-tick_acts spec n =
-    waits ((n + 1) * 100000000)
-    ∷ asks (in_turn (n + 1)) (edit (1 + first_draw spec n % spec.components) (n + 1) (second_draw spec n)) ∷ []
+tick_acts spec n = tick_with spec.components (n + 1) (first_draw spec n) (second_draw spec n)
 
 -- ---- the whole
 

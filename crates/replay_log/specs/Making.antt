@@ -1,14 +1,13 @@
 -- What a generated record has grown by.
-use Rattle.std.specs.Prelude.{◌≡◌, ℕ, suc, ◌+◌, ◌*◌, ◌%◌, List, [], ◌∷◌, ◌++◌}
+use Rattle.std.specs.Prelude.{◌≡◌, ℕ, suc, ◌+◌, ◌*◌, List, ◌++◌}
 use Rattle.replay_log.specs.declared.gen_spec.GenSpec.{GenSpec}
 use Rattle.replay_log.specs.declared.making.Making.{Making}
 use Rattle.replay_log.specs.declared.places.Place.{Place}
 use Rattle.replay_log.specs.Draw.{draw, next_draw}
 use Rattle.replay_log.specs.Entry.{Entry, SpellsEntry}
-use Rattle.replay_log.specs.Generated.{component_acts, draws_below, edit, for_each, link_acts, link_count, places_of, tick_acts}
+use Rattle.replay_log.specs.Generated.{component_acts, draws_below, for_each, link_acts, link_count, places_of, tick_acts, tick_with}
 use Rattle.replay_log.specs.Record.{SpellsEntries}
-use Rattle.replay_log.specs.Session.{in_turn}
-use Rattle.replay_log.specs.Step.{Act, asks, waits, AreLeft, Step, next_after, steps_of}
+use Rattle.replay_log.specs.Step.{Act, AreLeft, Step, next_after, steps_of}
 
 -- the text of an entry stands behind what stood there
 pub record PutsEntry (entry : Entry) (old new : List ℕ) : Type 0 where
@@ -50,9 +49,7 @@ pub record LinksAll (spec : GenSpec) (n : ℕ) (before after : Making) : Type 0 
 
 -- the tick of this number comes, and then an edit of what is drawn
 pub record EditsOnce (components number : ℕ) (before after : Making) : Type 0 where
-  pub does : Does (waits (number * 100000000)
-      ∷ asks (in_turn number) (edit (1 + next_draw before.last % components) number (next_draw (next_draw before.last)))
-      ∷ []) before after
+  pub does : Does (tick_with components number (next_draw before.last) (next_draw (next_draw before.last))) before after
   pub last : after.last ≡ next_draw (next_draw before.last)
 
 -- the first n ticks come

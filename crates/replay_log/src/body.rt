@@ -24,7 +24,8 @@ pub(crate) fn add_body(
     label: Label,
     config: &[u8],
 ) -> Result<Vec<u8>, Memory>
-    ensures is { IfOk result (λ body. body.items ≡ body_of (add parent kit number (named label.letter label.number) config.now)) }
+    ensures is { IfOk result (λ body. body.items
+        ≡ body_of (add parent kit number (named label.letter label.number) config.now)) }
     ensures short { IfOk result (λ body. length body.items ≤ 16 + length config.now) }
 {
     let mut body = Vec::new(alloc);

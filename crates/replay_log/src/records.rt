@@ -36,13 +36,15 @@ impl<'a> Model for Records<'a> {
 }
 
 impl<'a> Records<'a> {
-    /// The entries of the record that the bytes are. `NotARecord` comes exactly where they are none. It takes no memory.
+    /// The entries of the record that the bytes are. `NotARecord` comes exactly where they are none. It takes no
+    /// memory.
     pub fn open(bytes: &'a [u8]) -> Result<Records<'a>, NotARecord>
         ensures found { IfOk result (λ records. IsRecord bytes.now records) }
         ensures only { (entries : List Entry) → IsRecord bytes.now entries
             → IsOkAnd result (λ records. records ≡ entries) }
         ensures refused { IfErr result (λ fault. IsRefusedAt bytes.now fault.at) }
-        ensures refused_comes { (place : ℕ) → IsRefusedAt bytes.now place → IsErrAnd result (λ fault. fault.at ≡ place) }
+        ensures refused_comes { (place : ℕ) → IsRefusedAt bytes.now place
+            → IsErrAnd result (λ fault. fault.at ≡ place) }
     {
         record_or_place(bytes)
     }

@@ -1,12 +1,12 @@
 //! The components, the links and the ticks of a generated record.
-ghost use Rattle.std.specs.Prelude.{◌≡◌, ◌≤◌, ◌<◌, ◌+◌, ◌*◌, ◌%◌, ◌/◌, ◌++◌, ◌∷◌, ◌^◌, [], ℕ, length, map, slice_index_or, IsTrue, IfOk, OnOk};
+ghost use Rattle.std.specs.Prelude.{◌≡◌, ◌≤◌, ◌<◌, ◌+◌, ◌%◌, ◌++◌, ◌∷◌, ◌^◌, [], ℕ, length, map, slice_index_or, IsTrue, IfOk, OnOk};
 ghost use Rattle.sox_msg.specs.Command.{body_of, letter_of};
 ghost use Rattle.replay_log.specs.Draw.{draw, next_draw};
 ghost use Rattle.replay_log.specs.Generated as generated;
-ghost use Rattle.replay_log.specs.Generated.{MayGenerate, draws_below, folder_type, link_count, named};
+ghost use Rattle.replay_log.specs.Generated.{MayGenerate, draws_below, folder_type, link_count};
 ghost use Rattle.replay_log.specs.Making.{AddsAll, AddsOne, Does, EditsAll, EditsOnce, LinksAll};
 ghost use Rattle.replay_log.specs.Session.{in_turn};
-ghost use Rattle.replay_log.specs.Step.{asks, waits};
+ghost use Rattle.replay_log.specs.Step.{asks};
 
 use crate::body::{Label, add_body, link_body, rename_body, write_body};
 use crate::gen_spec::{GenSpec, GenType};
@@ -53,7 +53,7 @@ fn add_component(
 
 // A folder is added under the App.
 fn add_folder(making: &mut Making, i: u32) -> Result<(), Memory>
-    ensures does { OnOk result (Does (asks (in_turn i) (generated.added folder_type 0 (named 102 (i / 100))) ∷ []) making.old making.new) }
+    ensures does { OnOk result (Does (asks (in_turn i) (generated.folder_add i) ∷ []) making.old making.new) }
     ensures last { making.new.last ≡ making.old.last }
 {
     let label = Label {
@@ -67,7 +67,8 @@ fn add_folder(making: &mut Making, i: u32) -> Result<(), Memory>
 // The type that is drawn.
 fn draw_type<'a>(making: &mut Making, spec: &'a GenSpec) -> &'a GenType
     requires { MayGenerate spec.now }
-    ensures drawn { result.now ≡ slice_index_or spec.now.types (next_draw making.old.last % length spec.now.types) folder_type }
+    ensures drawn { result.now
+        ≡ slice_index_or spec.now.types (next_draw making.old.last % length spec.now.types) folder_type }
     ensures small { length result.now.config ≤ 400 }
     ensures others { making.new ≡ record making.old { last = next_draw making.old.last } }
 {
@@ -80,7 +81,7 @@ fn draw_type<'a>(making: &mut Making, spec: &'a GenSpec) -> &'a GenType
 fn add_drawn(making: &mut Making, kind: &GenType, i: u32) -> Result<(), Memory>
     requires few { i < 4000 }
     requires small { length kind.now.config ≤ 400 }
-    ensures does { OnOk result (Does (asks (in_turn i) (generated.added kind.now (i / 100 * 100 + 1) (named 99 i)) ∷ []) making.old making.new) }
+    ensures does { OnOk result (Does (asks (in_turn i) (generated.other_add kind.now i) ∷ []) making.old making.new) }
     ensures last { making.new.last ≡ making.old.last }
 {
     let folder = (i / 100 * 100 + 1) as u16;
@@ -128,9 +129,9 @@ pub(crate) fn add_links(making: &mut Making, spec: &GenSpec, places: &[Place]) -
 fn add_link(making: &mut Making, places: &[Place], j: usize) -> Result<(), Memory>
     requires below { j < length places.now }
     requires small { j < 2 ^ 32 }
-    ensures does { OnOk result (Does (asks (in_turn j) (generated.linked
-        (generated.place_in places.now (next_draw making.old.last % length places.now))
-        (generated.place_in places.now j)) ∷ []) making.old making.new) }
+    ensures does { OnOk result (Does
+        (asks (in_turn j) (generated.link_with places.now (next_draw making.old.last) j) ∷ [])
+        making.old making.new) }
     ensures last { OnOk result (making.new.last ≡ next_draw making.old.last) }
 {
     let from = place_in(places, making.draw() as usize % places.len());

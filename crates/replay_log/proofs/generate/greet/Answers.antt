@@ -10,7 +10,8 @@ put_message-requires-clause-may c = subst MaySend (sym c.hello.ensures) (may-hel
 pub put_message-requires-2-clause-may : goal.put_message-requires-2-clause-may
 put_message-requires-2-clause-may c =
     subst MaySend (sym c.authenticate.ensures)
-    (may-authenticate c.node_id.result c.args.user.now c.args.digest.now (user-text c.args.user.now c.requires) (omega arith))
+    (may-authenticate c.node_id.result c.args.user.now c.args.digest.now
+    (user-text c.args.user.now c.requires) (omega arith))
 
 pub returns : goal.returns
 returns c =
