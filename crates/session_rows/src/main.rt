@@ -1,0 +1,23 @@
+//! The rows of sessions: users and digests, and the two windows.
+//!
+//! Each table of data/ is run through the public calls of its crate. A row of which something else comes than what is
+//! wanted is printed, and of each table how many rows it has and how many differ.
+#![tactic(auto)]
+
+mod against;
+mod digests;
+mod inputs;
+mod receiving;
+mod sending;
+mod users;
+
+use rows::run;
+use std::io;
+
+fn main(rt: HostRuntime) -> io::Result<()> {
+    run(&rt, &users::UsersFiles)?;
+    run(&rt, &digests::Digests)?;
+    run(&rt, &receiving::Receiving)?;
+    run(&rt, &against::Against)?;
+    run(&rt, &sending::Sending)
+}
