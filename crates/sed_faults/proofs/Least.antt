@@ -43,13 +43,11 @@ lesser_none (Some a) = refl
 -- ---- a loop over a row, which keeps the least so far
 
 -- what is left of a row, before and after one more of its items
-pub said_step : {X : Type 0} (said : ℕ → X → List Fault) (n i : ℕ) (xs : List X) (x : X) (far one : Option Fault) →
-    drop i xs ≡ x ∷ drop (i + 1) xs → one ≡ least (said (n + i) x) →
-    lesser (lesser far one) (least (said_from said (n + (i + 1)) (drop (i + 1) xs))) ≡ lesser far (least (said_from said (n + i) (drop i xs)))
-said_step said n i xs x far one e o =
-    let after : n + (i + 1) ≡ n + i + 1 = omega arith in
-    lesser_assoc far one (least (said_from said (n + (i + 1)) (drop (i + 1) xs)))
-    ∙ ap (λ m. lesser far (lesser one (least (said_from said m (drop (i + 1) xs))))) after
-    ∙ ap (λ w. lesser far (lesser w (least (said_from said (n + i + 1) (drop (i + 1) xs))))) o
-    ∙ sym (ap (lesser far) (least_together (said (n + i) x) (said_from said (n + i + 1) (drop (i + 1) xs))))
-    ∙ sym (ap (λ rest. lesser far (least (said_from said (n + i) rest))) e)
+pub said_next : {X : Type 0} (said : ℕ → X → List Fault) (i : ℕ) (xs : List X) (x : X) (far one : Option Fault) →
+    drop i xs ≡ x ∷ drop (i + 1) xs → one ≡ least (said i x) →
+    lesser (lesser far one) (least (said_from said (i + 1) (drop (i + 1) xs))) ≡ lesser far (least (said_from said i (drop i xs)))
+said_next said i xs x far one e o =
+    lesser_assoc far one (least (said_from said (i + 1) (drop (i + 1) xs)))
+    ∙ ap (λ w. lesser far (lesser w (least (said_from said (i + 1) (drop (i + 1) xs))))) o
+    ∙ sym (ap (lesser far) (least_together (said i x) (said_from said (i + 1) (drop (i + 1) xs))))
+    ∙ sym (ap (λ rest. lesser far (least (said_from said i rest))) e)
