@@ -1,5 +1,5 @@
-//! The table of receiving: numbers that come in, and what each is. `A-B` lets the numbers from A to B come with no word on
-//! them, and `ack` writes what is acknowledged.
+//! The table of receiving: numbers that come in, and what each is. `A-B` lets the numbers from A to B come with no
+//! word on them, and `ack` writes what is acknowledged.
 use crate::inputs::{number, word, write_blank, write_bytes};
 use dasp_window::{Receiver, Taken};
 use rows::Table;

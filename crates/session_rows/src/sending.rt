@@ -1,6 +1,7 @@
-//! The table of sending: what is done with a sender, and what it answers. A number after `@` is the moment in nanoseconds
-//! from there on; `post` gives the number of the message, `ack:N` and `ack:N/HEX` are heard, `due` writes what is due and
-//! sends it again where it can be, and `room` says whether another may be posted. `31*post` posts so often with no word.
+//! The table of sending: what is done with a sender, and what it answers. A number after `@` is the moment in
+//! nanoseconds from there on; `post` gives the number of the message, `ack:N` and `ack:N/HEX` are heard, `due`
+//! writes what is due and sends it again where it can be, and `room` says whether another may be posted. `31*post`
+//! posts so often with no word.
 use crate::inputs::{bad_input, bytes_of, moment, number, out_of_memory, word, write_blank};
 use dasp_window::{Due, Sender};
 use rows::Table;
