@@ -3,4 +3,5 @@ mod GeneratedLemmas
 mod MakingLemmas
 mod MessageLemmas
 mod NumberLemmas
+mod OneRecord
 mod RecordLemmas

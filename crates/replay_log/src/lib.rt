@@ -23,5 +23,5 @@ mod steps;
 pub use event::Event;
 pub use gen_spec::{GenSpec, GenType};
 pub use generate::generate_record;
-pub use laws::{records_are_one, refusals_are_one};
+pub use laws::{generated_records_are_one, records_are_one, refusals_are_one};
 pub use records::{NotARecord, Records};
