@@ -1,5 +1,5 @@
-use Rattle.sed_literals.proofs.Characters.{character_is}
-use Rattle.sed_literals.proofs.character_of.Goals as goal
+use Rattle.sed_names.proofs.Characters.{character_is}
+use Rattle.sed_names.proofs.literals.character_of.Goals as goal
 
 pub returns : goal.returns
 returns c = character_is c.args.bytes.now c.character_value.result c.character_value.ensures

@@ -3,7 +3,7 @@ use Rattle.std.proofs.Common.{◌≡◌, ℕ, Bool, true, false, ◌&&◌, ◌==
 use Rattle.std.proofs.lemmas.Bool.Decides.{Decides-eqb}
 use Rattle.sed_lexer.specs.One.{FindsOne}
 use Rattle.sed_lexer.specs.Spellings.{is_plain, escaped, Spells, IsCharacterOf}
-use Rattle.sed_literals.specs.Spelled.{character_of}
+use Rattle.sed_names.specs.Spelled.{character_of}
 
 none_some : {X : Type 0} (a : X) → ◌≡◌ {A = Option X} None (Some a) → ⊥
 none_some a e = cc

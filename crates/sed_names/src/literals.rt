@@ -2,10 +2,8 @@
 //!
 //! The lexer says which number a literal denotes by a relation with at most one answer. A judgement over trees needs the answer
 //! as a function, and so that function stands here, with the proof that it is the lexer's answer.
-#![tactic(auto)]
-
 ghost use Rattle.std.specs.Prelude.{◌≡◌};
-ghost use Rattle.sed_literals.specs.Spelled as spelled;
+ghost use Rattle.sed_names.specs.Spelled as spelled;
 
 use sed_lexer::{Number, character_value, integer_value};
 
