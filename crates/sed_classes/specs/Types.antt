@@ -19,7 +19,7 @@ use Rattle.sed_units.specs.declared.leaves.TypeRef.{TypeRef}
 use Rattle.sed_classes.specs.declared.kit_units.KitUnits.{KitUnits}
 use Rattle.sed_classes.specs.declared.source_type.SourceType.{SourceType}
 use Rattle.sed_classes.specs.declared.source_type.SourceType.TheVariants.{Void, Prim, Text, SizedText, Buf, Array, Object, Unknown, Outside}
-use Rattle.sed_literals.specs.Spelled.{integer_of}
+use Rattle.sed_names.specs.Spelled.{integer_of}
 use Rattle.sed_classes.specs.Names.{class_of_name, is_text_name, is_buffer_name}
 
 abbrev pub within : ℕ → ℕ → Option ℕ

@@ -23,7 +23,7 @@ use Rattle.sed_classes.specs.declared.source_type.Constant.TheVariants as consta
 use Rattle.sed_classes.specs.declared.source_type.SourceType.{SourceType}
 use Rattle.sed_classes.specs.declared.source_type.SourceType.TheVariants.{Prim}
 use Rattle.sed_classes.specs.Declarations.{all_classes}
-use Rattle.sed_literals.specs.Spelled.{integer_of, character_of}
+use Rattle.sed_names.specs.Spelled.{integer_of, character_of}
 use Rattle.sed_classes.specs.Literals.{text_of}
 use Rattle.sed_classes.specs.Types.{type_of}
 use Rattle.sed_classes.specs.Members.{Owned, is_define, form_value, nearest}

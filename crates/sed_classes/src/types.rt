@@ -5,7 +5,7 @@ ghost use Rattle.sed_classes.specs.Types as types;
 use crate::source_type::SourceType;
 use crate::table::{Classes, is_buffer_name, is_text_name};
 use sed_lexer::Number;
-use sed_literals::integer_of;
+use sed_names::integer_of;
 use sed_units::{Base, Literal, Size, TypeName, TypeRef};
 use sed_value::Prim;
 
