@@ -1,3 +1,4 @@
 pub mod Codes
 pub mod Forms
 pub mod Reading
+pub mod Decoding

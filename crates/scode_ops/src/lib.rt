@@ -14,6 +14,6 @@ mod op;
 mod operands;
 
 pub use codes::{decode, encode};
-pub use laws::{one_instruction_stands, spellings_differ};
+pub use laws::{instructions_are_found, one_instruction_stands, spellings_differ};
 pub use op::Op;
 pub use operands::LONGEST_CODE;
