@@ -1,0 +1,5 @@
+pub mod Going
+pub mod Building
+pub mod Examples
+pub mod RuleExamples
+pub mod Walks

@@ -1,0 +1,15 @@
+pub mod Tables
+pub mod Contents
+pub mod Fields
+pub mod Machine
+pub mod Effect
+pub mod Calls
+pub mod Steps
+pub mod Root
+pub mod Image
+pub mod Kinds
+pub mod Wants
+pub mod CodeRules
+pub mod TableRules
+pub mod Faults
+pub mod Verified
