@@ -1,0 +1,16 @@
+//! The rows of the crates of images.
+//!
+//! Each table of data/ is run through the public calls of its crate. A row of which something else comes than what is
+//! wanted is printed, and of each table how many rows it has and how many differ.
+#![tactic(auto)]
+
+mod edit;
+mod image;
+mod reading;
+
+use rows::run;
+use std::io;
+
+fn main(rt: HostRuntime) -> io::Result<()> {
+    run(&rt, &reading::Reading)
+}
