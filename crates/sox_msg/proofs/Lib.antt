@@ -1,3 +1,4 @@
+pub mod AnsweredLemmas
 pub mod AskedLemmas
 pub mod LimitLemmas
 pub mod ReadingLemmas
