@@ -17,7 +17,7 @@ use Rattle.dasp_session.specs.Closing.{not_known}
 use Rattle.dasp_session.specs.Letters.{welcome, close}
 use Rattle.dasp_session.specs.Session.{Session}
 
--- what a step of a session effect to what stands above
+-- what a step of a session hands to what stands above
 pub data Effect : Type 0 where
   nothing : Effect
   ended : Effect

@@ -1,6 +1,6 @@
-//! What a datagram effect to what stands above the sessions.
+//! What a datagram hands to what stands above the sessions.
 
-/// What a datagram effect on.
+/// What a datagram hands on.
 #[derive(Clone, Copy, Debug, PartialEq, Eq)]
 pub enum Handed {
     /// Nothing.
@@ -11,7 +11,7 @@ pub enum Handed {
     Payload { place: u8, at: usize },
 }
 
-/// What a message effect on of its session.
+/// What a message hands on of its session.
 #[derive(Clone, Copy, Debug, PartialEq, Eq)]
 pub(crate) enum Effect {
     /// Nothing.

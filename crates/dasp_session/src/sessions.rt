@@ -204,6 +204,7 @@ impl Sessions {
         let effect = hear(&mut self.places[place], &self.users, self.moment, msg, out);
         handed(effect, place as u8, at)
     }
+
     /// Posts a message of at most 498 bytes in a session that is live, authenticated and has room, and sends it. Needs
     /// one free place in the outbox.
     pub fn post(&mut self, place: u8, bytes: &[u8], out: &mut Outbox)
