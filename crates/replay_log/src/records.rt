@@ -13,8 +13,8 @@ use std::marker::Model;
 /// The bytes are no record.
 #[derive(Clone, Copy, Debug, PartialEq, Eq)]
 pub struct NotARecord {
-    /// The place of the cause, counted from 0: the start of the first entry that is not whole or not allowed, the end
-    /// of the bytes where the end mark is missing, or the first byte behind the end mark.
+    /// Where the first entry begins that is cut off or that a record doesn't have; behind the last byte where no end
+    /// mark came; or at the first byte that follows an end mark. Counted from 0.
     pub at: usize,
 }
 
