@@ -1,5 +1,5 @@
--- Of no kits the schema is that of `sys`: its types are as a typed program has them, and its canonical text is the one that the
--- documents print.
+-- Of no kits the schema is that of `sys`: its types are as a typed program has them, and its canonical text is the
+-- one that the documents print.
 use Rattle.std.proofs.Common.{◌≡◌, List, [], ◌∷◌, ◌++◌, refl}
 use Rattle.std.specs.Prelude.{codes}
 use Rattle.sed_typed.specs.SysTypes.{HasSysTypes, IsSysType}

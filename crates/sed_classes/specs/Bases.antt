@@ -26,12 +26,13 @@ base_written units class kit (Some name) = base_named units kit name
 abbrev pub base_of : List KitUnits → ℕ → Option ℕ
 base_of units class = option_and_then (λ d. base_written units class d.kit d.class.base) (class_at units class)
 
--- what is reached by going on from a row, each once: it ends where nothing comes, or one that is there already, and after so
--- many steps
+-- what is reached by going on from a row, each once: it ends where nothing comes, or one that is there already, and
+-- after so many steps
 abbrev pub gone_on : (ℕ → Option ℕ) → ℕ → List ℕ → Option ℕ → List ℕ
 gone_on next zero far at = far
 gone_on next (suc steps) far None = far
-gone_on next (suc steps) far (Some at) = if list_any (λ f. f == at) far then far else gone_on next steps (far ++ at ∷ []) (next at)
+gone_on next (suc steps) far (Some at) =
+    if list_any (λ f. f == at) far then far else gone_on next steps (far ++ at ∷ []) (next at)
 
 -- a class, its base, the base of that, and so on, each once
 abbrev pub lineage : List KitUnits → ℕ → List ℕ

@@ -12,7 +12,8 @@ use Rattle.sed_units.specs.declared.classes.Member.{Member}
 use Rattle.sed_units.specs.Tree.{Tree, Absent, Part}
 use Rattle.sed_classes.specs.Members.{form_body}
 
--- the nodes of a tree, each before those below it: in the order of the text, but that an operator stands before its operands
+-- the nodes of a tree, each before those below it: in the order of the text, but that an operator stands before its
+-- operands
 abbrev pub nodes_in : Tree → List Label
 nodes_in Absent = []
 nodes_in (Part l a b) = l ∷ nodes_in a ++ nodes_in b

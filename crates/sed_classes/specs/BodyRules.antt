@@ -1,5 +1,5 @@
--- What the rules on types, limits and names ask of the bodies of methods. Each gives the faults of a member's body: where it
--- breaks it.
+-- What the rules on types, limits and names ask of the bodies of methods. Each gives the faults of a member's body:
+-- where it breaks it.
 use Rattle.std.specs.Prelude.{ℕ, ◌==◌, Bool, true, false, nat_lt, if◌then◌else◌, List, [], ◌∷◌, ◌++◌, length, map, take}
 use Rattle.std.specs.List.{list_any, flat_map}
 use Rattle.std.specs.Str.{bytes_eq}

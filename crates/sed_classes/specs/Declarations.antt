@@ -5,8 +5,8 @@ use Rattle.sed_units.specs.declared.classes.Unit.{Unit as SourceUnit}
 use Rattle.sed_classes.specs.declared.kit_units.KitUnits.{KitUnits}
 use Rattle.sed_classes.specs.SysSource.{sys_classes}
 
--- A class where it is declared: the number of its kit, `sys` being 0; the number of its text in the kit; and its own number in
--- the kit, counted from 0 in the order of the texts.
+-- A class where it is declared: the number of its kit, `sys` being 0; the number of its text in the kit; and its own
+-- number in the kit, counted from 0 in the order of the texts.
 pub record Declaration : Type 0 where
   pub kit : ℕ
   pub text : ℕ

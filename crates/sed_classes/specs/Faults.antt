@@ -11,7 +11,7 @@ use Rattle.sed_classes.specs.Members.{form_params}
 use Rattle.sed_classes.specs.NameRules.{type_without_class, base_without_class, class_name_not_free, base_not_fit}
 use Rattle.sed_classes.specs.MemberRules.{name_repeated, inherited_name_taken, overrides_nothing, class_not_runnable, method_not_runnable, slot_not_fit}
 use Rattle.sed_classes.specs.FieldRules.{object_not_fit, member_not_fit, param_not_fit, value_not_fit}
-use Rattle.sed_classes.specs.LimitRules.{too_many_types, too_many_params, too_long_in_class, too_long_in_member, too_long_in_param, member_counts, member_sizes}
+use Rattle.sed_classes.specs.LimitRules.{too_many_types, too_many_params, too_many_methods, too_many_virtual, too_many_slots, too_large_config, too_large_runtime, too_much_data, too_many_statics, too_long_in_class, too_long_in_member, too_long_in_param}
 use Rattle.sed_classes.specs.BodyRules.{body_faults, too_many_texts}
 use Rattle.sed_faults.specs.Faults.{said_from}
 
@@ -29,7 +29,8 @@ member_name_faults units class d i m =
 
 abbrev pub member_word_faults : List KitUnits → ℕ → Declaration → Member → List Fault
 member_word_faults units class d m =
-    method_not_runnable units class d m ++ slot_not_fit units class d.kit m ++ member_not_fit units d.kit m ++ too_long_in_member m
+    method_not_runnable units class d m ++ slot_not_fit units class d.kit m ++ member_not_fit units d.kit m
+    ++ too_long_in_member m
 
 abbrev pub params_faults : List KitUnits → ℕ → Member → List Fault
 params_faults units kit m = said_from (param_faults units kit) 0 (form_params m.form)
@@ -50,21 +51,27 @@ class_form_faults units class d =
 
 -- of a class and its members
 abbrev pub form_faults : List KitUnits → ℕ → Declaration → List Fault
-form_faults units class d = class_form_faults units class d ++ said_from (member_form_faults units class d) 0 d.class.members
+form_faults units class d =
+    class_form_faults units class d ++ said_from (member_form_faults units class d) 0 d.class.members
 
 -- ---- what is counted of members, inherited ones among them
 
 abbrev pub count_faults : List KitUnits → ℕ → Declaration → List Fault
-count_faults units class d = said_from (member_counts units class d) 0 d.class.members
+count_faults units class d =
+    said_from (too_many_methods d) 0 d.class.members
+    ++ said_from (too_many_virtual units class d) 0 d.class.members
+    ++ said_from (too_many_slots units class d) 0 d.class.members
+    ++ said_from (too_large_config units class d) 0 d.class.members
+    ++ said_from (too_large_runtime units class d) 0 d.class.members
 
 -- ---- what is seen of objects, values and sizes
 
-abbrev pub member_value_faults : List KitUnits → ℕ → Declaration → ℕ → Member → List Fault
-member_value_faults units class d i m =
-    object_not_fit units d.kit m ++ value_not_fit units class d.kit m ++ member_sizes units class d i m
-
 abbrev pub value_faults : List KitUnits → ℕ → Declaration → List Fault
-value_faults units class d = said_from (member_value_faults units class d) 0 d.class.members
+value_faults units class d =
+    flat_map (object_not_fit units d.kit) d.class.members
+    ++ flat_map (value_not_fit units class d.kit) d.class.members
+    ++ said_from (too_much_data units class d) 0 d.class.members
+    ++ said_from (too_many_statics units class d) 0 d.class.members
 
 -- ---- all that a class declares
 
@@ -84,7 +91,9 @@ placed_in d f = record { kit = d.kit; text = d.text; at = f.at; rule = f.rule }
 -- those of a row of classes, the first of which is at this place
 abbrev pub faults_from : List KitUnits → ℕ → List Declaration → List PlacedFault
 faults_from units class [] = []
-faults_from units class (d ∷ ds) = map (placed_in d) (declaration_faults units class d ++ bodies_faults units class d) ++ faults_from units (class + 1) ds
+faults_from units class (d ∷ ds) =
+    map (placed_in d) (declaration_faults units class d ++ bodies_faults units class d)
+    ++ faults_from units (class + 1) ds
 
 -- those of the classes that the units declare
 abbrev pub faults_of : List KitUnits → List PlacedFault

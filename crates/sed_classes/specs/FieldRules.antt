@@ -1,4 +1,5 @@
--- Rules on fields, types of members and initial values. Each gives the faults of a member or a parameter: where it breaks it.
+-- Rules on fields, types of members and initial values. Each gives the faults of a member or a parameter: where it
+-- breaks it.
 use Rattle.std.specs.Prelude.{ℕ, Bool, true, false, not, ◌==◌, ◌&&◌, ◌||◌, ◌+◌, nat_lt, if◌then◌else◌, List, [], ◌∷◌, ◌++◌, filter, length, is_none, Option, Some, None}
 use Rattle.std.specs.List.{list_any, flat_map, enumerate_from}
 use Rattle.std.specs.Option.{option_map_or}
@@ -29,10 +30,12 @@ is_abstract_at units class = option_map_or (λ d. is_abstract_class d.class) (cl
 -- of this class there is no inline object
 abbrev pub is_no_object_class : List KitUnits → ℕ → Bool
 is_no_object_class units class =
-    is_abstract_at units class || is_below units component_class class || not (has_field units class) || holds_itself units class
+    is_abstract_at units class || is_below units component_class class || not (has_field units class)
+    || holds_itself units class
 
 abbrev pub object_not_fit : List KitUnits → ℕ → Member → List Fault
-object_not_fit units kit m = broken_if (option_map_or (is_no_object_class units) (inline_class units kit m) false) 9 m.at
+object_not_fit units kit m =
+    broken_if (option_map_or (is_no_object_class units) (inline_class units kit m) false) 9 m.at
 
 -- ---- 10: types of members and parameters, and modifiers that go together
 
@@ -49,7 +52,8 @@ said_once w m = if has_word w m.modifiers then 1 else 0
 -- how many it says of the words that exclude one another, but for `static inline`
 abbrev pub exclusive_count : Member → ℕ
 exclusive_count m =
-    said_once word.Property m + said_once word.Action m + said_once word.Define m + said_once word.Static m + said_once word.Inline m
+    said_once word.Property m + said_once word.Action m + said_once word.Define m + said_once word.Static m
+    + said_once word.Inline m
 
 abbrev pub is_static_inline : Member → Bool
 is_static_inline m = is_static m && is_inline m && (exclusive_count m == 2)
@@ -61,7 +65,8 @@ has_no_method_words m =
     || (is_static m && (has_word word.Virtual m.modifiers || has_word word.Abstract m.modifiers || overrides m))
 
 abbrev pub have_words_apart : Member → Bool
-have_words_apart m = (nat_lt 1 (exclusive_count m) && not (is_static_inline m)) || (is_method m && has_no_method_words m)
+have_words_apart m =
+    (nat_lt 1 (exclusive_count m) && not (is_static_inline m)) || (is_method m && has_no_method_words m)
 
 abbrev pub is_no_member : SourceType → Member → Bool
 is_no_member t m = is_no_field t m || is_no_result t m || have_words_apart m
@@ -85,7 +90,8 @@ is_no_value_of units class init t = false
 
 abbrev pub is_no_value : List KitUnits → ℕ → ℕ → Member → Init → Bool
 is_no_value units class kit m init =
-    is_inline m || is_no_value_of units class init (type_of units kit m.kind) || (is_define m && define_leads_back units class m)
+    is_inline m || is_no_value_of units class init (type_of units kit m.kind)
+    || (is_define m && define_leads_back units class m)
 
 abbrev pub value_unfit : List KitUnits → ℕ → ℕ → Member → Option Init → List Fault
 value_unfit units class kit m None = broken_if (is_define m) 11 m.at

@@ -1,5 +1,6 @@
--- The limits on classes, members, sizes and names. Each gives the faults of a class, a member or a parameter: where it passes it.
--- A limit is passed at one place: at the declaration or literal that is one too many, or that makes a sum too large.
+-- The limits on classes, members, sizes and names. Each gives the faults of a class, a member or a parameter: where
+-- it passes it. A limit is passed at one place: at the declaration or literal that is one too many, or that makes a
+-- sum too large.
 use Rattle.std.specs.Prelude.{ℕ, zero, suc, ◌+◌, ◌*◌, ◌==◌, ◌&&◌, ◌||◌, Bool, true, false, not, nat_lt, nat_le, if◌then◌else◌, List, [], ◌∷◌, ◌++◌, count_by, filter, length, map, sum_by, take, Option, Some, None}
 use Rattle.std.specs.List.{list_any, flat_map, enumerate_from}
 use Rattle.std.specs.Str.{bytes_eq}
@@ -38,7 +39,8 @@ own_sum count units class = sum_by (count (kit_of units class)) (members_of unit
 
 -- what the members before the one of a number come to, inherited ones and the class's own
 abbrev pub sum_before : (ℕ → Member → ℕ) → List KitUnits → ℕ → Declaration → ℕ → ℕ
-sum_before count units class d i = sum_by (own_sum count units) (bases units class) + sum_by (count d.kit) (take i d.class.members)
+sum_before count units class d i =
+    sum_by (own_sum count units) (bases units class) + sum_by (count d.kit) (take i d.class.members)
 
 -- the member of this number is the one with which the sum over inherited and own members passes a bound
 abbrev pub passes_at : ℕ → (ℕ → Member → ℕ) → List KitUnits → ℕ → Declaration → ℕ → Member → Bool
@@ -56,11 +58,12 @@ too_many_types d = broken_if (d.number == 64) 22 d.class.at
 
 -- 60 methods that a class itself declares, actions among them
 abbrev pub too_many_methods : Declaration → ℕ → Member → List Fault
-too_many_methods d i m = broken_if (passes 60 (count_by is_method (take i d.class.members)) (one_if (is_method m))) 22 m.at
+too_many_methods d i m =
+    broken_if (passes 60 (count_by is_method (take i d.class.members)) (one_if (is_method m))) 22 m.at
 
--- 8 parameters
+-- 8 parameters; and 64 locals, parameters among them
 abbrev pub too_many_params : ℕ → Param → List Fault
-too_many_params i p = broken_if (i == 8) 22 p.at
+too_many_params i p = broken_if ((i == 8) || (i == 64)) 22 p.at
 
 -- 255 virtual methods, inherited ones among them; what overrides one is none more
 abbrev pub new_virtual : ℕ → Member → ℕ
@@ -82,7 +85,8 @@ too_many_slots units class d i m =
 
 -- 65,535 of data in an object, inherited fields among them
 abbrev pub too_much_data : List KitUnits → ℕ → Declaration → ℕ → Member → List Fault
-too_much_data units class d i m = broken_if (passes_at 65535 (data_of units (data_size units)) units class d i m) 22 m.at
+too_much_data units class d i m =
+    broken_if (passes_at 65535 (data_of units (data_size units)) units class d i m) 22 m.at
 
 -- what a property's value takes where it is written out
 abbrev pub config_of : Option (Bool × SlotForm) → ℕ
@@ -93,13 +97,15 @@ abbrev pub runtime_of : Option (Bool × SlotForm) → ℕ
 runtime_of None = 0
 runtime_of (Some s) = if s.0 then 0 else value_size s.1
 
--- 400 of config values in a class, and 400 of runtime values
-abbrev pub too_large_values : List KitUnits → ℕ → Declaration → ℕ → Member → List Fault
-too_large_values units class d i m =
-    broken_if
-    (passes_at 400 (λ kit n. config_of (shape_of units kit n)) units class d i m
-    || passes_at 400 (λ kit n. runtime_of (shape_of units kit n)) units class d i m)
-    22 m.at
+-- 400 of config values in a class
+abbrev pub too_large_config : List KitUnits → ℕ → Declaration → ℕ → Member → List Fault
+too_large_config units class d i m =
+    broken_if (passes_at 400 (λ kit n. config_of (shape_of units kit n)) units class d i m) 22 m.at
+
+-- and 400 of runtime values
+abbrev pub too_large_runtime : List KitUnits → ℕ → Declaration → ℕ → Member → List Fault
+too_large_runtime units class d i m =
+    broken_if (passes_at 400 (λ kit n. runtime_of (shape_of units kit n)) units class d i m) 22 m.at
 
 -- ---- statics
 
@@ -118,7 +124,9 @@ statics_before units class = sum_by (statics_of units) (take class (all_classes 
 abbrev pub too_many_statics : List KitUnits → ℕ → Declaration → ℕ → Member → List Fault
 too_many_statics units class d i m =
     broken_if
-    (passes 65535 (statics_before units class + sum_by (static_of units d.kit) (take i d.class.members)) (static_of units d.kit m))
+    (passes 65535
+    (statics_before units class + sum_by (static_of units d.kit) (take i d.class.members))
+    (static_of units d.kit m))
     22 m.at
 
 -- ---- names
@@ -165,16 +173,8 @@ too_long_in_class c = too_long_in_facets c.facets ++ too_long_name c.name ++ too
 -- those of a member, without its parameters and its body
 abbrev pub too_long_in_member : Member → List Fault
 too_long_in_member m =
-    too_long_in_facets m.facets ++ too_long_in_type m.kind ++ too_long_name m.name ++ too_long_in_init (form_value m.form)
+    too_long_in_facets m.facets ++ too_long_in_type m.kind ++ too_long_name m.name
+    ++ too_long_in_init (form_value m.form)
 
 abbrev pub too_long_in_param : Param → List Fault
 too_long_in_param p = too_long_in_type p.kind ++ too_long_name p.name
-
--- ---- counts and sums with what a member adds
-
-abbrev pub member_counts : List KitUnits → ℕ → Declaration → ℕ → Member → List Fault
-member_counts units class d i m =
-    too_many_methods d i m ++ too_many_virtual units class d i m ++ too_many_slots units class d i m ++ too_large_values units class d i m
-
-abbrev pub member_sizes : List KitUnits → ℕ → Declaration → ℕ → Member → List Fault
-member_sizes units class d i m = too_much_data units class d i m ++ too_many_statics units class d i m

@@ -3,7 +3,8 @@ use Rattle.std.specs.Prelude.{ℕ, ◌-◌, Bool, true, false, ◌==◌, if◌th
 use Rattle.std.specs.Str.{byte}
 use Rattle.sed_lexer.specs.Spellings.{escaped}
 
--- the characters that bytes of a text spell, where a backslash stands before them or not: with the byte behind it it is one
+-- the characters that bytes of a text spell, where a backslash stands before them or not: with the byte behind it it
+-- is one
 abbrev pub characters_in : Bool → List ℕ → List ℕ
 characters_in slashed [] = []
 characters_in true (b ∷ bs) = unwrap_or (escaped b) b ∷ characters_in false bs

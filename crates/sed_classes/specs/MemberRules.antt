@@ -65,7 +65,8 @@ is_abstract_method m = is_method m && has_word word.Abstract m.modifiers
 -- only below `Virtual` a method says `virtual`, `abstract` or `override`
 abbrev pub is_virtual_elsewhere : List KitUnits → ℕ → Member → Bool
 is_virtual_elsewhere units class m =
-    (has_word word.Virtual m.modifiers || has_word word.Abstract m.modifiers || overrides m) && not (is_below units virtual_class class)
+    (has_word word.Virtual m.modifiers || has_word word.Abstract m.modifiers || overrides m)
+    && not (is_below units virtual_class class)
 
 -- only a class that is abstract declares an abstract method
 abbrev pub is_abstract_elsewhere : Class → Member → Bool
@@ -84,17 +85,24 @@ is_abstract_owned (Some o) = is_abstract_method o.member
 abbrev pub is_named_abstract : List KitUnits → ℕ → Member → Bool
 is_named_abstract units class m = is_abstract_owned (nearest units class m.name.bytes)
 
--- a class has a method, its own or inherited, that is abstract and that nothing nearer overrides
-abbrev pub has_abstract_method : List KitUnits → ℕ → Bool
-has_abstract_method units class =
+-- a name of a member at or above a class stands for an abstract method
+abbrev pub reaches_abstract : List KitUnits → ℕ → Bool
+reaches_abstract units class =
     list_any (λ c. list_any (is_named_abstract units class) (members_of units c)) (lineage units class)
 
+-- a class declares an abstract method, or inherits one that nothing nearer overrides
+abbrev pub has_abstract_method : List KitUnits → ℕ → Bool
+has_abstract_method units class = list_any is_abstract_method (members_of units class) || reaches_abstract units class
+
 abbrev pub class_not_runnable : List KitUnits → ℕ → Declaration → List Fault
-class_not_runnable units class d = broken_if (not (is_abstract_class d.class) && has_abstract_method units class) 7 d.class.at
+class_not_runnable units class d =
+    broken_if (not (is_abstract_class d.class) && has_abstract_method units class) 7 d.class.at
 
 abbrev pub method_not_runnable : List KitUnits → ℕ → Declaration → Member → List Fault
 method_not_runnable units class d m =
-    broken_if (is_method m && (is_virtual_elsewhere units class m || is_abstract_elsewhere d.class m || has_wrong_body m)) 7 m.at
+    broken_if
+    (is_method m && (is_virtual_elsewhere units class m || is_abstract_elsewhere d.class m || has_wrong_body m))
+    7 m.at
 
 -- ---- 8: properties and actions
 
@@ -117,11 +125,18 @@ is_no_answer t = not (is_unknown t) && not (is_void t)
 abbrev pub is_no_action : List KitUnits → ℕ → Member → Bool
 is_no_action units kit m = is_no_answer (type_of units kit m.kind) || are_no_arguments units kit (form_params m.form)
 
+abbrev pub is_slot_elsewhere : List KitUnits → ℕ → Member → Bool
+is_slot_elsewhere units class m = (is_property m || is_action m) && not (is_below units component_class class)
+
+abbrev pub is_wrong_property : List KitUnits → ℕ → Member → Bool
+is_wrong_property units kit m = is_property m && is_no_property_type (type_of units kit m.kind)
+
+abbrev pub is_wrong_action : List KitUnits → ℕ → Member → Bool
+is_wrong_action units kit m = is_action m && is_no_action units kit m
+
 abbrev pub is_no_slot : List KitUnits → ℕ → ℕ → Member → Bool
 is_no_slot units class kit m =
-    ((is_property m || is_action m) && not (is_below units component_class class))
-    || (is_property m && is_no_property_type (type_of units kit m.kind))
-    || (is_action m && is_no_action units kit m)
+    is_slot_elsewhere units class m || is_wrong_property units kit m || is_wrong_action units kit m
 
 abbrev pub slot_not_fit : List KitUnits → ℕ → ℕ → Member → List Fault
 slot_not_fit units class kit m = broken_if (is_no_slot units class kit m) 8 m.at

@@ -85,7 +85,9 @@ is_static_field m = not (is_method m) && not (is_define m) && is_static m
 
 -- a method that may be overridden, by its own words
 abbrev pub is_open : Member → Bool
-is_open m = is_method m && (has_word word.Virtual m.modifiers || has_word word.Abstract m.modifiers || has_word word.Action m.modifiers)
+is_open m =
+    is_method m
+    && (has_word word.Virtual m.modifiers || has_word word.Abstract m.modifiers || has_word word.Action m.modifiers)
 
 abbrev pub overrides : Member → Bool
 overrides m = has_word word.Override m.modifiers
@@ -125,7 +127,8 @@ kit_of units class = option_map_or (λ d. d.kit) (class_at units class) 0
 
 -- the first member of a name that a class itself declares
 abbrev pub own_named : List KitUnits → List ℕ → ℕ → Option Owned
-own_named units name class = option_map (owned class (kit_of units class)) (find (has_name name) (members_of units class))
+own_named units name class =
+    option_map (owned class (kit_of units class)) (find (has_name name) (members_of units class))
 
 -- that of the first of these classes that declares one
 abbrev pub nearest_among : List KitUnits → List ℕ → List ℕ → Option Owned

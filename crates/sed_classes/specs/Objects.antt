@@ -62,7 +62,8 @@ type_size object t = 0
 -- a field that is of one of the forms of fields
 abbrev pub has_form : List KitUnits → ℕ → Member → Bool
 has_form units kit m =
-    if is_property m then is_property_type (type_of units kit m.kind) else is_field_type (is_inline m) (type_of units kit m.kind)
+    if is_property m then is_property_type (type_of units kit m.kind)
+    else is_field_type (is_inline m) (type_of units kit m.kind)
 
 -- the size of a field; of one that is of no form, 0
 abbrev pub field_size : List KitUnits → (ℕ → ℕ) → ℕ → Member → ℕ
@@ -76,7 +77,8 @@ data_of units object kit m = if is_instance_field m then field_size units object
 abbrev pub own_size : List KitUnits → (ℕ → ℕ) → ℕ → ℕ
 own_size units object class = sum_by (data_of units object (kit_of units class)) (members_of units class)
 
--- The size of an object of a class, objects standing in one another at most so deep. One that would stand in itself has none.
+-- The size of an object of a class, objects standing in one another at most so deep. One that would stand in itself
+-- has none.
 abbrev pub size_within : List KitUnits → ℕ → ℕ → ℕ
 size_within units zero class = 0
 size_within units (suc depth) class =

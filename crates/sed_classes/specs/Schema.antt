@@ -31,8 +31,8 @@ first_with units n (suc i) = first_with units n i ++ at_if (length (bases units 
 abbrev pub with_bases : List KitUnits → ℕ → List ℕ
 with_bases units n = first_with units n (length (declared_in units))
 
--- The places of classes in the order of the schema: the types of `sys`, and then the others, those with fewer bases first, else as
--- they are declared. So each base stands before the classes based on it.
+-- The places of classes in the order of the schema: the types of `sys`, and then the others, those with fewer bases
+-- first, else as they are declared. So each base stands before the classes based on it.
 abbrev pub order_below : List KitUnits → ℕ → List ℕ
 order_below units zero = 0 ∷ 1 ∷ 2 ∷ 3 ∷ 4 ∷ []
 order_below units (suc n) = order_below units n ++ with_bases units n

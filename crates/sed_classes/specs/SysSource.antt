@@ -1,4 +1,5 @@
--- Kit `sys` as a source would declare it. The places in this text are all 0, and nobody sees them: no rule is broken in it.
+-- Kit `sys` as a source would declare it. The places in this text are all 0, and nobody sees them: no rule is broken
+-- in it.
 use Rattle.std.specs.Prelude.{ℕ, Bool, true, false, List, [], ◌∷◌, map, Option, Some, None, codes}
 use Rattle.sed_value.specs.declared.slot_type.Primitive.TheVariants as prim
 use Rattle.sed_units.specs.declared.leaves.Ident.{Ident}

@@ -127,7 +127,9 @@ value_constant read units class (Some i) = init_constant read units class i.valu
 abbrev pub define_within : List KitUnits → ℕ → Owned → Constant
 define_within units zero o = constant.Unknown
 define_within units (suc steps) o =
-    read_constant (type_of units o.kit o.member.kind) (value_constant (define_within units steps) units o.class (form_value o.member.form))
+    read_constant
+    (type_of units o.kit o.member.kind)
+    (value_constant (define_within units steps) units o.class (form_value o.member.form))
 
 -- how many members there are in all
 abbrev pub member_count : List KitUnits → ℕ

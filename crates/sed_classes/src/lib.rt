@@ -1,9 +1,9 @@
 //! The classes of a program's kits: what the units of its texts say of names, bases, members, fields and slots.
 //!
-//! The definitions of specs/ go from the units alone: kit `sys` and its five types stand before the classes of the units, a
-//! class is found by its name in its own kit, in those that the kit depends on, and in `sys`; what a class inherits follows
-//! its bases. Each rule on classes and their members is a definition of its own, which gives the places at which units break
-//! it. The schema of units that break none is a function of them.
+//! The definitions of specs/ go from the units alone: kit `sys` and its five types stand before the classes of the
+//! units, a class is found by its name in its own kit, in those that the kit depends on, and in `sys`; what a class
+//! inherits follows its bases. Each rule on classes and their members is a definition of its own, which gives the
+//! places at which units break it. The schema of units that break none is a function of them.
 #![tactic(auto)]
 
 mod bases;

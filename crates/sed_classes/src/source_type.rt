@@ -38,7 +38,8 @@ pub enum Constant {
     Unknown,
 }
 
-/// A broken rule, by its number, with the number of the kit, that of the text in the kit, and the byte place in the text.
+/// A broken rule, by its number, with the number of the kit, that of the text in the kit, and the byte place in the
+/// text.
 #[derive(Clone, Copy, Debug, PartialEq, Eq)]
 pub struct PlacedFault {
     pub kit: usize,
