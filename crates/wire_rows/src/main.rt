@@ -9,6 +9,7 @@ mod inputs;
 mod messages;
 mod reading;
 mod records;
+mod replies;
 mod requests;
 mod sweeps;
 mod writing;
@@ -21,6 +22,7 @@ fn main(rt: HostRuntime) -> io::Result<()> {
     run(&rt, &writing::Writing)?;
     run(&rt, &messages::Messages)?;
     run(&rt, &requests::Requests)?;
+    run(&rt, &replies::Replies)?;
     run(&rt, &records::RecordRows)?;
     run(&rt, &sweeps::Sweeps)?;
     run(&rt, &generated::Generated)

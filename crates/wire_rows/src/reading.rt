@@ -1,5 +1,6 @@
 //! The table of reading: a call or a type, the bytes that it is given, and what comes of it.
 use crate::inputs::{bytes_of, slot_of, word};
+use dasp_msg::ack_more_bytes;
 use rows::Table;
 use sed_value::Value;
 use sed_wire::{Reader, Short, StrFault, ValueFault, can_be_held};
@@ -42,6 +43,10 @@ fn write_read(
         "remaining" => {
             let count = reader.remaining();
             write!(out, "{count}")
+        }
+        "ack_more" => {
+            let meaning = hex::encode(alloc, &ack_more_bytes(reader.rest()))?;
+            write!(out, "<{meaning}>")
         }
         "is_empty" => {
             let answer = if reader.is_empty() { "yes" } else { "no" };
