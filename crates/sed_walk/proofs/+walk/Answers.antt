@@ -1,0 +1,414 @@
+use Rattle.std.proofs.Common.{◌≡◌, ◌∙◌, ◌<◌, ◌-◌, Option, map, sym, ap, arith, ◌+◌, Ok, rules, Result, Err, Some, List, ℕ, replicate, subst, suc}
+use Rattle.std.specs.Prelude.{slice_get, max}
+use Rattle.std.specs.Option.{option_copied}
+use Rattle.sed_typed.specs.declared.program.Program.{Program}
+use Rattle.sed_typed.specs.declared.program.Method.{Method}
+use Rattle.sed_engine.specs.State.{Shared, State, gives, End, then_do}
+use Rattle.sed_engine.specs.Expressions.{Setting, eval as eval_of, Called, frame_of, call_static, call_super, in_chain, meaning as link_of, put_all, part_at, text_call, invoke as invoke_of}
+use Rattle.sed_engine.specs.Root.{run_method}
+use Rattle.walk_steps.specs.Seen.{seen, stop_seen}
+use Rattle.walk_steps.specs.Stored.{shared_of, state_of, ended}
+use Rattle.walk_steps.specs.Targets.{setting_of}
+use Rattle.sed_walk.proofs.Rounds.{calls_in, put-next, frame-fails, body-runs, loop-again, loop-answer, loop-over, loop-stop, switch-goes}
+use Rattle.sed_engine.specs.Steps.{with_local}
+use Rattle.sed_engine.specs.Stops.{Stop}
+use Rattle.sed_engine.specs.Values.{Val, Nothing}
+use Rattle.sed_engine.specs.Statements as flow
+use Rattle.sed_walk.specs.Flows.{flow_seen, rounds_seen, LeavesFewer}
+use Rattle.sed_typed.specs.declared.tree.Expr.{Expr}
+use Rattle.sed_typed.specs.declared.tree.Link.{Link}
+use Rattle.sed_walk.specs.Forms.{call_from, asks_of, rest_of_round, round_with}
+use Rattle.sed_walk.proofs.Rows.{evals_hidden, meanings_hidden, execs_hidden, heights_hidden, links_hidden, stmts_hidden}
+use Rattle.sed_engine.specs.Places.{field_spot}
+use Rattle.sed_engine.specs.Statements.{exec as exec_of, rounds, switch, follows, in_order, leaves}
+use Rattle.sed_walk.specs.declared.ends.Round.{Round}
+use Rattle.sed_typed.specs.declared.statement.Label.{Label}
+use Rattle.sed_typed.specs.declared.statement.Stmt.{Stmt}
+use Rattle.sed_walk.specs.declared.ends.Flow.{Flow as Own}
+use Rattle.std.proofs.lemmas.List.{drop-map}
+use Rattle.sed_typed.specs.Height.{height_of, link_height, stmt_height}
+use Rattle.sed_walk.specs.Heights.{heights, link_heights, stmt_heights, left_with}
+use Rattle.sed_walk.proofs.Measures.{lower-by, lower-within, lower-alike}
+use Rattle.sed_walk.proofs.+walk.Goals as goal
+
+pub expressions::eval-eval_call-requires : goal.expressions::eval-eval_call-requires
+expressions::eval-eval_call-requires t c =
+    let left = left_with c.args.plan.now.program.methods c.args.frames in
+    let es = c.deref-in-Call.result.now in
+    let e : height_of c.args.e.now ≡ suc (heights es) =
+    ap height_of c.in-Call.is ∙ ap suc (heights_hidden c.in-Call.args ∙ ap heights (sym c.deref-in-Call.ensures.value)) in
+    let h = lower-by left (heights es) (height_of c.args.e.now) 2 e (omega arith) in
+    (omega (arith, h), (c.requires, omega arith))
+
+pub expressions::eval-eval_call-requires-in-Super : goal.expressions::eval-eval_call-requires-in-Super
+expressions::eval-eval_call-requires-in-Super t c =
+    let left = left_with c.args.plan.now.program.methods c.args.frames in
+    let es = c.deref-in-Super.result.now in
+    let e : height_of c.args.e.now ≡ suc (heights es) =
+    ap height_of c.in-Super.is ∙ ap suc (heights_hidden c.in-Super.args ∙ ap heights (sym c.deref-in-Super.ensures.value)) in
+    let h = lower-by left (heights es) (height_of c.args.e.now) 2 e (omega arith) in
+    (omega (arith, h), (c.requires, omega arith))
+
+pub expressions::eval-eval_links-requires : goal.expressions::eval-eval_links-requires
+expressions::eval-eval_links-requires t c =
+    let left = left_with c.args.plan.now.program.methods c.args.frames in
+    let n = link_heights c.deref-in-Chain-2.result.now in
+    let m = max (height_of c.in-Chain.head.value) n in
+    let e : height_of c.args.e.now ≡ suc m =
+    ap height_of c.in-Chain.is
+    ∙ ap (λ (n : ℕ). suc (max (height_of c.in-Chain.head.value) n)) (links_hidden c.in-Chain.links ∙ ap link_heights (sym c.deref-in-Chain-2.ensures.value)) in
+    let h = lower-within left n (height_of c.args.e.now) m 4 e (omega arith) (omega arith) in
+    (omega (arith, h), c.requires)
+
+pub links::eval_link-eval_invoke-requires : goal.links::eval_link-eval_invoke-requires
+links::eval_link-eval_invoke-requires t c =
+    let left = left_with c.args.plan.now.program.methods c.args.frames in
+    let es = c.deref.result.now in
+    let e : link_height c.args.link.now ≡ heights es =
+    ap link_height c.in-Invoke.is ∙ heights_hidden c.in-Invoke.args ∙ ap heights (sym c.deref.ensures.value) in
+    let h = lower-alike left (heights es) (link_height c.args.link.now) 2 3 e (omega arith) in
+    (omega (arith, h), c.requires)
+
+pub links::eval_link-eval_args-requires : goal.links::eval_link-eval_args-requires
+links::eval_link-eval_args-requires t c =
+    let left = left_with c.args.plan.now.program.methods c.args.frames in
+    let es = c.deref-in-TextCall.result.now in
+    let e : link_height c.args.link.now ≡ heights es =
+    ap link_height c.in-TextCall.is ∙ heights_hidden c.in-TextCall.args ∙ ap heights (sym c.deref-in-TextCall.ensures.value) in
+    let h = lower-alike left (heights es) (link_height c.args.link.now) 1 3 e (omega arith) in
+    (omega (arith, h), (c.requires, omega arith))
+
+pub statements::exec-run_switch-requires : goal.statements::exec-run_switch-requires
+statements::exec-run_switch-requires t c =
+    let left = left_with c.args.plan.now.program.methods c.args.frames in
+    let m = max (height_of c.in-Switch.e) (stmt_heights c.deref-in-Switch-2.result.now) in
+    let e : stmt_height c.args.s.now ≡ suc m =
+    ap stmt_height c.in-Switch.is
+    ∙ ap (λ (n : ℕ). suc (max (height_of c.in-Switch.e) n)) (stmts_hidden c.in-Switch.all ∙ ap stmt_heights (sym c.deref-in-Switch-2.ensures.value)) in
+    let h = lower-by left m (stmt_height c.args.s.now) 2 e (omega arith) in
+    (omega (arith, h), c.requires)
+
+pub calls::call-returns-in-Some-clause-end : goal.calls::call-returns-in-Some-clause-end
+calls::call-returns-in-Some-clause-end t c =
+    let plan = c.args.plan.now in
+    let class = c.args.class in
+    let w : Setting = setting_of plan class (c.args.frames - 1) in
+    let f = map (seen plan class) c.args.frame.now in
+    let s : Shared = shared_of plan class c.args.store.now in
+    let h : 0 < c.args.frames = omega arith in
+    c.run.ensures.end
+    ∙ ap (λ (o : Option Method). run_method w o f s) (ap option_copied (sym c.in-Some.is) ∙ c.method_of.ensures ∙ ap (λ (p : Program). slice_get p.methods c.args.method) c.program.ensures)
+    ∙ sym (calls_in plan.program class c.args.frames c.args.method f s h)
+
+pub calls::call-returns-in-None-clause-end : goal.calls::call-returns-in-None-clause-end
+calls::call-returns-in-None-clause-end t c =
+    let plan = c.args.plan.now in
+    let class = c.args.class in
+    let w : Setting = setting_of plan class (c.args.frames - 1) in
+    let f = map (seen plan class) c.args.frame.now in
+    let s : Shared = shared_of plan class c.args.store.now in
+    let h : 0 < c.args.frames = omega arith in
+    ap (λ (o : Option Method). run_method w o f s) (ap option_copied (sym c.in-None.is) ∙ c.method_of.ensures ∙ ap (λ (p : Program). slice_get p.methods c.args.method) c.program.ensures)
+    ∙ sym (calls_in plan.program class c.args.frames c.args.method f s h)
+
+pub calls::eval_args-loop-at-preserved : goal.calls::eval_args-loop-at-preserved
+calls::eval_args-loop-at-preserved t c =
+    let plan = c.args.plan.now in
+    let class = c.args.class in
+    let w : Setting = setting_of plan class c.args.frames in
+    let n = c.args.first + c.loop-at.at in
+    let frame = map (seen plan class) c.loop-at.frame in
+    let more = map (seen plan class) c.write.new.locals in
+    let s : State = state_of plan class c.loop-at.store c.loop-at.locals in
+    let t : State = state_of plan class c.eval.new.store c.eval.new.locals in
+    let v = seen plan class c.in_ok-value.value in
+    let e : gives v t ≡ eval_of w c.index-args-at.result s = c.in_ok-value.ensures.end in
+    let k : with_local frame n v ≡ Ok more = sym (c.in_ok-write.ensures.end plan class) in (
+      sym (put-next (eval_of w) c.args.args.now c.loop-at.at c.index-args-at.result c.loop-at-test.true c.index-args-at.is n frame s t v more (c.args.first + (c.loop-at.at + 1)) e k (omega arith))
+          ∙ c.loop-at.invariant.0,
+      omega arith,
+    )
+
+pub calls::run-returns-then-not-is_frame_of-clause-end : goal.calls::run-returns-then-not-is_frame_of-clause-end
+calls::run-returns-then-not-is_frame_of-clause-end t c =
+    let plan = c.args.plan.now in
+    let class = c.args.class in
+    let w : Setting = setting_of plan class c.args.frames in
+    let f = map (seen plan class) c.args.frame.now in
+    let s : Shared = shared_of plan class c.args.store.now in
+    frame-fails w c.args.method.now f s c.is_frame_of.result (c.is_frame_of.ensures plan class) c.if-not-is_frame_of.true
+
+pub calls::run-returns-clause-end : goal.calls::run-returns-clause-end
+calls::run-returns-clause-end t c =
+    let plan = c.args.plan.now in
+    let class = c.args.class in
+    let w : Setting = setting_of plan class c.args.frames in
+    let f = map (seen plan class) c.args.frame.now in
+    let s : Shared = shared_of plan class c.args.store.now in
+    let u : Shared = shared_of plan class c.exec.new.store in
+    let done : Result flow.Flow Stop = Ok (flow_seen plan class c.in_ok-flow.flow) in
+    let e : End flow.Flow = ended plan class done c.exec.new.store c.exec.new.locals in
+    let answer : Result Val Stop → Called = λ r. record { result = r; shared = u } in
+    ap answer (c.answer_of.ensures plan class)
+    ∙ body-runs w c.args.method.now f s c.is_frame_of.result (c.is_frame_of.ensures plan class) c.in-Some.body e c.if-not-is_frame_of.false c.in-Some.is c.in_ok-flow.ensures.end
+
+pub calls::run-returns-in_err-flow-clause-end : goal.calls::run-returns-in_err-flow-clause-end
+calls::run-returns-in_err-flow-clause-end t c =
+    let plan = c.args.plan.now in
+    let class = c.args.class in
+    let w : Setting = setting_of plan class c.args.frames in
+    let f = map (seen plan class) c.args.frame.now in
+    let s : Shared = shared_of plan class c.args.store.now in
+    let u : Shared = shared_of plan class c.exec.new.store in
+    let x = stop_seen c.in_err-flow.field-0.0 in
+    let stop : Result flow.Flow Stop = Err x in
+    let e : End flow.Flow = ended plan class stop c.exec.new.store c.exec.new.locals in
+    let answer : Result Val Stop → Called = λ r. record { result = r; shared = u } in
+    let q : answer (Err x) ≡ run_method w (Some c.args.method.now) f s =
+    body-runs w c.args.method.now f s c.is_frame_of.result (c.is_frame_of.ensures plan class) c.in-Some.body e c.if-not-is_frame_of.false c.in-Some.is c.in_err-flow.ensures.end in
+    search (rules, q)
+
+pub expressions::eval-returns-in-Call-clause-end : goal.expressions::eval-returns-in-Call-clause-end
+expressions::eval-returns-in-Call-clause-end t c =
+    let plan = c.args.plan.now in
+    let class = c.args.class in
+    let w : Setting = setting_of plan class c.args.frames in
+    let s : State = state_of plan class c.args.store.now c.args.locals.now in
+    let m = c.in-Call.method in
+    c.eval_call.ensures.end
+    ∙ ap (λ (es : List Expr). call_from w 0 m (map (eval_of w) es) (map (seen plan class) c.new_frame-frame.result) s) c.deref-in-Call.ensures.value
+    ∙ ap (λ (frame : List Val). call_from w 0 m (map (eval_of w) c.in-Call.args.items) frame s) (c.new_frame-frame.ensures plan class)
+    ∙ ap (λ (es : List (State → End Val)). call_static w m es s) (sym (evals_hidden w c.in-Call.args))
+    ∙ ap (λ (e : Expr). eval_of w e s) (sym c.in-Call.is)
+
+pub expressions::eval-returns-in_ok-this-in-Super-clause-end : goal.expressions::eval-returns-in_ok-this-in-Super-clause-end
+expressions::eval-returns-in_ok-this-in-Super-clause-end t c =
+    let plan = c.args.plan.now in
+    let class = c.args.class in
+    let w : Setting = setting_of plan class c.args.frames in
+    let s : State = state_of plan class c.args.store.now c.args.locals.now in
+    let m = c.in-Super.method in
+    let es = map (eval_of w) c.in-Super.args.items in
+    c.eval_call-in-Super.ensures.end
+    ∙ ap (λ (es : List Expr). call_from w 1 m (map (eval_of w) es) (map (seen plan class) c.frame_of-frame.result) s) c.deref-in-Super.ensures.value
+    ∙ ap (λ (frame : List Val). call_from w 1 m es frame s) (c.frame_of-frame.ensures plan class)
+    ∙ ap (λ (r : End Val). then_do r (λ this s1. call_from w 1 m es (frame_of this) s1)) (c.in_ok-this-in-Super.ensures.end plan class c.args.store.now)
+    ∙ ap (λ (es : List (State → End Val)). call_super w m es s) (sym (evals_hidden w c.in-Super.args))
+    ∙ ap (λ (e : Expr). eval_of w e s) (sym c.in-Super.is)
+
+pub expressions::eval-returns-in_ok-value-in-Chain-clause-end : goal.expressions::eval-returns-in_ok-value-in-Chain-clause-end
+expressions::eval-returns-in_ok-value-in-Chain-clause-end t c =
+    let plan = c.args.plan.now in
+    let class = c.args.class in
+    let w : Setting = setting_of plan class c.args.frames in
+    let s : State = state_of plan class c.args.store.now c.args.locals.now in
+    let t : State = state_of plan class c.eval-in-Chain.new.store c.eval-in-Chain.new.locals in
+    let ls = map (link_of w) c.in-Chain.links.items in
+    c.eval_links.ensures.end
+    ∙ ap (λ (ls : List Link). in_chain (map (link_of w) ls) (seen plan class c.in_ok-value-in-Chain.value) t) c.deref-in-Chain-2.ensures.value
+    ∙ ap (λ (r : End Val). then_do r (λ v s1. in_chain ls v s1)) c.in_ok-value-in-Chain.ensures.end
+    ∙ ap (λ (e : Expr). then_do (eval_of w e s) (λ v s1. in_chain ls v s1)) c.deref-in-Chain.ensures
+    ∙ ap (λ (ls : List (Val → State → End Val)). then_do (eval_of w c.in-Chain.head.value s) (λ v s1. in_chain ls v s1)) (sym (meanings_hidden w c.in-Chain.links))
+    ∙ ap (λ (e : Expr). eval_of w e s) (sym c.in-Chain.is)
+
+pub links::eval_link-returns-in-Invoke-clause-end : goal.links::eval_link-returns-in-Invoke-clause-end
+links::eval_link-returns-in-Invoke-clause-end t c =
+    let plan = c.args.plan.now in
+    let class = c.args.class in
+    let w : Setting = setting_of plan class c.args.frames in
+    let s : State = state_of plan class c.args.store.now c.args.locals.now in
+    let v = seen plan class c.args.value in
+    let m = c.in-Invoke.method in
+    c.eval_invoke.ensures.end
+    ∙ ap (λ (es : List Expr). invoke_of w v m (map (eval_of w) es) s) c.deref.ensures.value
+    ∙ ap (λ (es : List (State → End Val)). invoke_of w v m es s) (sym (evals_hidden w c.in-Invoke.args))
+    ∙ ap (λ (l : Link). link_of w l v s) (sym c.in-Invoke.is)
+
+pub links::eval_link-returns-in-Part-clause-end : goal.links::eval_link-returns-in-Part-clause-end
+links::eval_link-returns-in-Part-clause-end t c =
+    let plan = c.args.plan.now in
+    let class = c.args.class in
+    let w : Setting = setting_of plan class c.args.frames in
+    let s : State = state_of plan class c.args.store.now c.args.locals.now in
+    let v = seen plan class c.args.value in
+    c.part.ensures c.args.frames (map (seen plan class) c.args.locals.now)
+    ∙ ap (λ (n : ℕ). then_do (field_spot v n s) (λ spot s1. part_at w c.in-Part.kind spot s1)) c.from.ensures
+    ∙ ap (λ (l : Link). link_of w l v s) (sym c.in-Part.is)
+
+pub links::eval_link-returns-in_err-eval_args-in-TextCall-clause-end : goal.links::eval_link-returns-in_err-eval_args-in-TextCall-clause-end
+links::eval_link-returns-in_err-eval_args-in-TextCall-clause-end t c =
+    let plan = c.args.plan.now in
+    let class = c.args.class in
+    let w : Setting = setting_of plan class c.args.frames in
+    let s : State = state_of plan class c.args.store.now c.args.locals.now in
+    let v = seen plan class c.args.value in
+    let op = c.in-TextCall.op in
+    let x = stop_seen c.in_err-eval_args-in-TextCall.field-0.0 in
+    let stop : Result Val Stop = Err x in
+    let q : ended plan class stop c.eval_args.new.store c.eval_args.new.locals ≡ link_of w c.args.link.now v s =
+    ap (λ (r : End (List Val)). then_do r (λ xs s1. text_call w op v xs s1))
+    (c.in_err-eval_args-in-TextCall.ensures.end
+    ∙ ap (λ (es : List Expr). put_all 0 (map (eval_of w) es) (replicate 2 Nothing) s) c.deref-in-TextCall.ensures.value
+    ∙ ap (λ (es : List (State → End Val)). put_all 0 es (replicate 2 Nothing) s) (sym (evals_hidden w c.in-TextCall.args)))
+    ∙ ap (λ (l : Link). link_of w l v s) (sym c.in-TextCall.is) in
+    search (rules, q)
+
+pub links::eval_link-returns-in_ok-eval_args-in-TextCall-clause-end : goal.links::eval_link-returns-in_ok-eval_args-in-TextCall-clause-end
+links::eval_link-returns-in_ok-eval_args-in-TextCall-clause-end t c =
+    let plan = c.args.plan.now in
+    let class = c.args.class in
+    let w : Setting = setting_of plan class c.args.frames in
+    let s : State = state_of plan class c.args.store.now c.args.locals.now in
+    let v = seen plan class c.args.value in
+    let op = c.in-TextCall.op in
+    c.call.ensures.end c.args.frames (map (seen plan class) c.eval_args.new.locals)
+    ∙ ap (λ (r : End (List Val)). then_do r (λ xs s1. text_call w op v xs s1))
+    (c.in_ok-eval_args-in-TextCall.ensures.end
+    ∙ ap (λ (es : List Expr). put_all 0 (map (eval_of w) es) (replicate 2 Nothing) s) c.deref-in-TextCall.ensures.value
+    ∙ ap (λ (es : List (State → End Val)). put_all 0 es (replicate 2 Nothing) s) (sym (evals_hidden w c.in-TextCall.args)))
+    ∙ ap (λ (l : Link). link_of w l v s) (sym c.in-TextCall.is)
+
+pub loops::run_rounds-rounds-preserved : goal.loops::run_rounds-rounds-preserved
+loops::run_rounds-rounds-preserved t c =
+    let plan = c.args.plan.now in
+    let class = c.args.class in
+    let w : Setting = setting_of plan class c.args.frames in
+    let one = round_with (asks_of w c.args.s.now) (exec_of w c.args.body.now) (rest_of_round w c.args.s.now) in
+    let s : State = state_of plan class c.rounds.store c.rounds.locals in
+    let u : State = state_of plan class c.run_round.new.store c.run_round.new.locals in
+    let i = c.rounds.invariant in
+    let h : 0 < i.0 = omega arith in
+    let o = c.in_ok-run_round.ensures in
+    let e : gives flow.Again u ≡ one s =
+    sym (ap (λ (r : Round). ended plan class (rounds_seen plan class (Ok r)) c.run_round.new.store c.run_round.new.locals) c.in-Again.is) ∙ o.end in
+    let f : c.run_round.new.store.turns < c.rounds.store.turns =
+    subst (λ (r : Round). LeavesFewer (Ok r) c.run_round.new.store.turns c.rounds.store.turns) c.in-Again.is o.fewer in
+    (i.0 - 1, omega arith, sym (loop-again one i.0 s u h e) ∙ i.2, omega arith)
+
+pub loops::run_rounds-returns-in-Answer-clause-end : goal.loops::run_rounds-returns-in-Answer-clause-end
+loops::run_rounds-returns-in-Answer-clause-end t c =
+    let plan = c.args.plan.now in
+    let class = c.args.class in
+    let w : Setting = setting_of plan class c.args.frames in
+    let one = round_with (asks_of w c.args.s.now) (exec_of w c.args.body.now) (rest_of_round w c.args.s.now) in
+    let s : State = state_of plan class c.rounds.store c.rounds.locals in
+    let u : State = state_of plan class c.run_round.new.store c.run_round.new.locals in
+    let i = c.rounds.invariant in
+    let h : 0 < i.0 = omega arith in
+    let e : gives (flow.Answer (seen plan class c.in-Answer.value)) u ≡ one s =
+    sym (ap (λ (r : Round). ended plan class (rounds_seen plan class (Ok r)) c.run_round.new.store c.run_round.new.locals) c.in-Answer.is)
+    ∙ c.in_ok-run_round.ensures.end in
+    sym (loop-answer one i.0 s u (seen plan class c.in-Answer.value) h e) ∙ i.2
+
+pub loops::run_rounds-returns-in-Over-clause-end : goal.loops::run_rounds-returns-in-Over-clause-end
+loops::run_rounds-returns-in-Over-clause-end t c =
+    let plan = c.args.plan.now in
+    let class = c.args.class in
+    let w : Setting = setting_of plan class c.args.frames in
+    let one = round_with (asks_of w c.args.s.now) (exec_of w c.args.body.now) (rest_of_round w c.args.s.now) in
+    let s : State = state_of plan class c.rounds.store c.rounds.locals in
+    let u : State = state_of plan class c.run_round.new.store c.run_round.new.locals in
+    let i = c.rounds.invariant in
+    let h : 0 < i.0 = omega arith in
+    let e : gives flow.Over u ≡ one s =
+    sym (ap (λ (r : Round). ended plan class (rounds_seen plan class (Ok r)) c.run_round.new.store c.run_round.new.locals) c.in-Over.is)
+    ∙ c.in_ok-run_round.ensures.end in
+    sym (loop-over one i.0 s u h e) ∙ i.2
+
+pub loops::run_rounds-returns-in_err-run_round-clause-end : goal.loops::run_rounds-returns-in_err-run_round-clause-end
+loops::run_rounds-returns-in_err-run_round-clause-end t c =
+    let plan = c.args.plan.now in
+    let class = c.args.class in
+    let w : Setting = setting_of plan class c.args.frames in
+    let one = round_with (asks_of w c.args.s.now) (exec_of w c.args.body.now) (rest_of_round w c.args.s.now) in
+    let s : State = state_of plan class c.rounds.store c.rounds.locals in
+    let u : State = state_of plan class c.run_round.new.store c.run_round.new.locals in
+    let i = c.rounds.invariant in
+    let h : 0 < i.0 = omega arith in
+    let x = stop_seen c.in_err-run_round.field-0.0 in
+    let q : ended {A = flow.Flow} plan class (Err x) c.run_round.new.store c.run_round.new.locals ≡ rounds one (state_of plan class c.args.store.now c.args.locals.now) =
+    sym (loop-stop one i.0 s u x h c.in_err-run_round.ensures.end) ∙ i.2 in
+    search (rules, q)
+
+pub statements::exec-returns-in-Switch-clause-end : goal.statements::exec-returns-in-Switch-clause-end
+statements::exec-returns-in-Switch-clause-end t c =
+    let plan = c.args.plan.now in
+    let class = c.args.class in
+    let w : Setting = setting_of plan class c.args.frames in
+    let s : State = state_of plan class c.args.store.now c.args.locals.now in
+    c.run_switch.ensures.end
+    ∙ ap (λ (labels : List Label). switch (eval_of w c.in-Switch.e) labels (map (exec_of w) c.deref-in-Switch-2.result.now) s) c.deref-in-Switch.ensures.value
+    ∙ ap (λ (all : List Stmt). switch (eval_of w c.in-Switch.e) c.in-Switch.labels.items (map (exec_of w) all) s) c.deref-in-Switch-2.ensures.value
+    ∙ ap (λ (xs : List (State → End flow.Flow)). switch (eval_of w c.in-Switch.e) c.in-Switch.labels.items xs s) (sym (execs_hidden w c.in-Switch.all))
+    ∙ ap (λ (x : Stmt). exec_of w x s) (sym c.in-Switch.is)
+
+pub statements::exec-returns-in-While-clause-end : goal.statements::exec-returns-in-While-clause-end
+statements::exec-returns-in-While-clause-end t c =
+    let plan = c.args.plan.now in
+    let class = c.args.class in
+    let w : Setting = setting_of plan class c.args.frames in
+    let s : State = state_of plan class c.args.store.now c.args.locals.now in
+    c.run_rounds.ensures.end
+    ∙ ap (λ (b : Stmt). rounds (round_with (asks_of w c.args.s.now) (exec_of w b) (rest_of_round w c.args.s.now)) s) c.deref-in-While.ensures
+    ∙ ap (λ (x : Stmt). rounds (round_with (asks_of w x) (exec_of w c.in-While.body.value) (rest_of_round w x)) s) c.in-While.is
+    ∙ ap (λ (x : Stmt). exec_of w x s) (sym c.in-While.is)
+
+pub statements::exec-returns-in-DoWhile-clause-end : goal.statements::exec-returns-in-DoWhile-clause-end
+statements::exec-returns-in-DoWhile-clause-end t c =
+    let plan = c.args.plan.now in
+    let class = c.args.class in
+    let w : Setting = setting_of plan class c.args.frames in
+    let s : State = state_of plan class c.args.store.now c.args.locals.now in
+    c.run_rounds-in-DoWhile.ensures.end
+    ∙ ap (λ (b : Stmt). rounds (round_with (asks_of w c.args.s.now) (exec_of w b) (rest_of_round w c.args.s.now)) s) c.deref-in-DoWhile.ensures
+    ∙ ap (λ (x : Stmt). rounds (round_with (asks_of w x) (exec_of w c.in-DoWhile.body.value) (rest_of_round w x)) s) c.in-DoWhile.is
+    ∙ ap (λ (x : Stmt). exec_of w x s) (sym c.in-DoWhile.is)
+
+pub statements::exec-returns-in-Next-clause-end : goal.statements::exec-returns-in-Next-clause-end
+statements::exec-returns-in-Next-clause-end t c =
+    let plan = c.args.plan.now in
+    let class = c.args.class in
+    let w : Setting = setting_of plan class c.args.frames in
+    let s : State = state_of plan class c.args.store.now c.args.locals.now in
+    let t : State = state_of plan class c.exec-in-For.new.store c.exec-in-For.new.locals in
+    let body = c.in-For.body.value in
+    let loop : Stmt → State → End flow.Flow = λ x. rounds (round_with (asks_of w x) (exec_of w body) (rest_of_round w x)) in
+    c.run_rounds-in-Next.ensures.end
+    ∙ ap (λ (b : Stmt). rounds (round_with (asks_of w c.args.s.now) (exec_of w b) (rest_of_round w c.args.s.now)) t) c.deref-in-Next.ensures
+    ∙ ap (λ (f : Own). follows (flow_seen plan class f) (loop c.args.s.now) t) (sym c.in-Next.is)
+    ∙ ap (λ (r : End flow.Flow). then_do r (λ f s1. follows f (loop c.args.s.now) s1)) c.in_ok-exec-in-For.ensures.end
+    ∙ ap (λ (x : Stmt). then_do (exec_of w x s) (λ f s1. follows f (loop c.args.s.now) s1)) c.deref-in-For.ensures
+    ∙ ap (λ (x : Stmt). then_do (exec_of w c.in-For.first.value s) (λ f s1. follows f (loop x) s1)) c.in-For.is
+    ∙ ap (λ (x : Stmt). exec_of w x s) (sym c.in-For.is)
+
+pub statements::run_switch-returns-clause-end : goal.statements::run_switch-returns-clause-end
+statements::run_switch-returns-clause-end t c =
+    let plan = c.args.plan.now in
+    let class = c.args.class in
+    let w : Setting = setting_of plan class c.args.frames in
+    let s : State = state_of plan class c.args.store.now c.args.locals.now in
+    let t : State = state_of plan class c.eval.new.store c.eval.new.locals in
+    let u : State = state_of plan class c.exec_all.new.store c.exec_all.new.locals in
+    let all = map (exec_of w) c.args.all.now in
+    let rest = ap (λ (ss : List Stmt). in_order (map (exec_of w) ss) t) c.rest_of.ensures
+    ∙ ap (λ (xs : List (State → End flow.Flow)). in_order xs t) (sym (drop-map (exec_of w) c.in_ok-start.start c.args.all.now)) in
+    ap (λ (f : flow.Flow). gives f u) (c.leaves.ensures plan class)
+    ∙ switch-goes (eval_of w c.args.e.now) c.args.labels.now all s t (seen plan class c.in_ok-value.value) c.in_ok-start.start (gives (flow_seen plan class c.in_ok-flow.flow) u)
+    c.in_ok-value.ensures.end (c.in_ok-start.ensures plan class) (c.in_ok-flow.ensures.end ∙ rest)
+
+pub statements::run_switch-returns-in_err-flow-clause-end : goal.statements::run_switch-returns-in_err-flow-clause-end
+statements::run_switch-returns-in_err-flow-clause-end t c =
+    let plan = c.args.plan.now in
+    let class = c.args.class in
+    let w : Setting = setting_of plan class c.args.frames in
+    let s : State = state_of plan class c.args.store.now c.args.locals.now in
+    let t : State = state_of plan class c.eval.new.store c.eval.new.locals in
+    let all = map (exec_of w) c.args.all.now in
+    let rest = ap (λ (ss : List Stmt). in_order (map (exec_of w) ss) t) c.rest_of.ensures
+    ∙ ap (λ (xs : List (State → End flow.Flow)). in_order xs t) (sym (drop-map (exec_of w) c.in_ok-start.start c.args.all.now)) in
+    let stop : Result flow.Flow Stop = Err (stop_seen c.in_err-flow.field-0.0) in
+    let e : End flow.Flow = ended plan class stop c.exec_all.new.store c.exec_all.new.locals in
+    let q : e ≡ switch (eval_of w c.args.e.now) c.args.labels.now all s =
+    switch-goes (eval_of w c.args.e.now) c.args.labels.now all s t (seen plan class c.in_ok-value.value) c.in_ok-start.start e
+    c.in_ok-value.ensures.end (c.in_ok-start.ensures plan class) (c.in_err-flow.ensures.end ∙ rest) in
+    search (rules, q)

@@ -1,0 +1,206 @@
+-- How calls, loops, arguments, chains and blocks go on.
+use Rattle.std.specs.Prelude.{slice_get, nat_lt, nat_le, not, ◌&&◌, if◌then◌else◌}
+use Rattle.std.proofs.Common.{◌≡◌, ℕ, zero, suc, ◌+◌, ◌-◌, ◌<◌, ◌≤◌, List, [], ◌∷◌, drop, length, map, get_or, ℤ, Bool, true, false, Option, Some, Result, Ok, Err, refl, sym, ap, ◌∙◌, arith}
+use mathlib.Core.Bool.{beq}
+use Rattle.std.proofs.lemmas.List.{drop_more}
+use Rattle.std.proofs.Math.Seq.{drop-length}
+use Rattle.std.proofs.lemmas.Bool.Decides.{nat_tests}
+use Rattle.sed_typed.specs.declared.operators.Width.TheVariants.{Int as IntWidth}
+use Rattle.sed_typed.specs.declared.program.Method.{Method}
+use Rattle.sed_typed.specs.declared.program.Program.{Program}
+use Rattle.sed_typed.specs.declared.statement.Label.{Label}
+use Rattle.sed_typed.specs.declared.statement.Stmt.{Stmt}
+use Rattle.sed_typed.specs.declared.tree.Expr.{Expr}
+use Rattle.sed_typed.specs.declared.tree.Link.{Link}
+use Rattle.sed_engine.specs.declared.trap.Trap.TheVariants.{TooDeep}
+use Rattle.sed_engine.specs.Stops.{Stop, Traps, Untyped, map_ok}
+use Rattle.sed_engine.specs.Values.{Val, whole, is_begun, are_begun}
+use Rattle.walk_steps.specs.declared.word.Word.{Word}
+use Rattle.sed_engine.specs.State.{Shared, State, End, gives, answers, then_do}
+use Rattle.sed_engine.specs.Steps.{with_local}
+use Rattle.sed_engine.specs.Expressions.{Setting, put_all, in_chain}
+use Rattle.sed_engine.specs.Statements.{Flow, Next, Return, Round, Again, Over, Answer, after_round, follows, in_order, loop, exec, switch, label_of, leaves}
+use Rattle.sed_engine.specs.Root.{calls_with, run_method, run_body, untyped, called, is_frame_of}
+
+-- ---- calls
+
+pub calls_out : (program : Program) (class n m : ℕ) (f : List Val) (s : Shared) → n ≡ 0 → calls_with program class n m f s ≡ record { result = Err (Traps TooDeep); shared = s }
+unfolding calls_with
+calls_out program class zero m f s h = refl
+calls_out program class (suc n) m f s h = absurd (omega arith)
+
+pub calls_in : (program : Program) (class n m : ℕ) (f : List Val) (s : Shared) → 0 < n →
+    calls_with program class n m f s ≡ run_method (record { program = program; class = class; calls = calls_with program class (n - 1) }) (slice_get program.methods m) f s
+unfolding calls_with
+calls_in program class zero m f s h = absurd (omega arith)
+calls_in program class (suc n) m f s h =
+    let e : n ≡ suc n - 1 = omega arith in
+    ap (λ (j : ℕ). run_method (record { program = program; class = class; calls = calls_with program class j }) (slice_get program.methods m) f s) e
+
+-- a method on a frame, where its body is run, and where it isn't
+module _ (w : Setting) (m : Method) (f : List Val) (s : Shared) (b : Bool) (is : b ≡ is_frame_of m f) where
+  pub frame-fails : b ≡ false → record { result = Err Untyped; shared = s } ≡ run_method w (Some m) f s
+  frame-fails e = ap (λ (c : Bool). (if c then run_body w m.result m.body else untyped) f s) (sym e ∙ is)
+
+  pub body-runs : (body : Stmt) (e : End Flow) → b ≡ true → m.body ≡ Some body → e ≡ exec w body (record { shared = s; locals = f }) →
+      called m.result e ≡ run_method w (Some m) f s
+  body-runs body e fits here ends =
+      ap (called m.result) ends
+      ∙ ap (λ (o : Option Stmt). run_body w m.result o f s) (sym here)
+      ∙ ap (λ (c : Bool). (if c then run_body w m.result m.body else untyped) f s) (sym fits ∙ is)
+
+-- ---- switch
+
+pub switch-goes : (value : State → End Val) (labels : List Label) (all : List (State → End Flow)) (s t : State) (v : Val) (i : ℕ) (e : End Flow) →
+    gives v t ≡ value s → Ok i ≡ map_ok (λ n. label_of labels n) (whole IntWidth v) → e ≡ in_order (drop i all) t →
+    then_do e (λ flow s3. gives (leaves flow) s3) ≡ switch value labels all s
+switch-goes value labels all s t v i e first second third =
+    ap (λ (r : End Flow). then_do r (λ flow s3. gives (leaves flow) s3)) third
+    ∙ from (whole IntWidth v) second
+    ∙ ap (λ (r : End Val). then_do r (λ v s1. then_do (answers (whole IntWidth v) s1) (λ n s2. then_do (in_order (drop (label_of labels n) all) s2) (λ flow s3. gives (leaves flow) s3)))) first
+  where
+    from : (r : Result ℤ Stop) → Ok i ≡ map_ok (λ n. label_of labels n) r →
+        then_do (in_order (drop i all) t) (λ flow s3. gives (leaves flow) s3)
+        ≡ then_do (answers r t) (λ n s2. then_do (in_order (drop (label_of labels n) all) s2) (λ flow s3. gives (leaves flow) s3))
+    from (Ok n) h =
+        let same : i ≡ label_of labels n = cc in
+        ap (λ (k : ℕ). then_do (in_order (drop k all) t) (λ flow s3. gives (leaves flow) s3)) same
+    from (Err stop) h = absurd (let no : ⊥ = cc in no)
+
+-- ---- loops
+
+pub loop-again : (one : State → End Round) (n : ℕ) (s t : State) → 0 < n → gives Again t ≡ one s → loop one n s ≡ loop one (n - 1) t
+unfolding loop
+loop-again one zero s t h e = absurd (omega arith)
+loop-again one (suc n) s t h e = let q : n ≡ suc n - 1 = omega arith in ap (λ (r : End Round). then_do r (λ r s1. after_round r (loop one n) s1)) (sym e) ∙ ap (λ (m : ℕ). loop one m t) q
+
+pub loop-answer : (one : State → End Round) (n : ℕ) (s t : State) (v : Val) → 0 < n → gives (Answer v) t ≡ one s → loop one n s ≡ gives (Return v) t
+unfolding loop
+loop-answer one zero s t v h e = absurd (omega arith)
+loop-answer one (suc n) s t v h e = ap (λ (r : End Round). then_do r (λ r s1. after_round r (loop one n) s1)) (sym e)
+
+pub loop-over : (one : State → End Round) (n : ℕ) (s t : State) → 0 < n → gives Over t ≡ one s → loop one n s ≡ gives Next t
+unfolding loop
+loop-over one zero s t h e = absurd (omega arith)
+loop-over one (suc n) s t h e = ap (λ (r : End Round). then_do r (λ r s1. after_round r (loop one n) s1)) (sym e)
+
+pub loop-stop : (one : State → End Round) (n : ℕ) (s t : State) (x : Stop) → 0 < n → record { result = Err x; state = t } ≡ one s → loop one n s ≡ record { result = Err x; state = t }
+unfolding loop
+loop-stop one zero s t x h e = absurd (omega arith)
+loop-stop one (suc n) s t x h e = ap (λ (r : End Round). then_do r (λ r s1. after_round r (loop one n) s1)) (sym e)
+
+-- ---- rows
+
+-- the rest of a list from a place on
+pub rest-is : {X : Type 0} (xs : List X) (i : ℕ) (x : X) → i < length xs → x ≡ get_or xs i x → drop i xs ≡ x ∷ drop (i + 1) xs
+rest-is xs i x h at = drop_more xs i x h ∙ ap (λ (y : _). y ∷ drop (i + 1) xs) (sym at)
+
+-- ---- arguments
+
+module _ (f : Expr → State → End Val) (xs : List Expr) (i : ℕ) (x : Expr) (h : i < length xs) (at : x ≡ get_or xs i x) (n : ℕ) (frame : List Val) (s t : State) where
+  put-goes : (r : Result Val Stop) → record { result = r; state = t } ≡ f x s →
+      put_all n (map f (drop i xs)) frame s ≡ then_do (record { result = r; state = t }) (λ v s1. then_do (answers (with_local frame n v) s1) (λ more s2. put_all (n + 1) (map f (drop (i + 1) xs)) more s2))
+  put-goes r e =
+      ap (λ (ys : List Expr). put_all n (map f ys) frame s) (rest-is xs i x h at)
+      ∙ ap (λ (q : End Val). then_do q (λ v s1. then_do (answers (with_local frame n v) s1) (λ more s2. put_all (n + 1) (map f (drop (i + 1) xs)) more s2))) (sym e)
+
+  pub put-next : (v : Val) (more : List Val) (k : ℕ) → gives v t ≡ f x s → with_local frame n v ≡ Ok more → k ≡ n + 1 →
+      put_all n (map f (drop i xs)) frame s ≡ put_all k (map f (drop (i + 1) xs)) more t
+  put-next v more k e w same =
+      put-goes (Ok v) e
+      ∙ ap (λ (r : Result (List Val) Stop). then_do (answers r t) (λ more s2. put_all (n + 1) (map f (drop (i + 1) xs)) more s2)) w
+      ∙ ap (λ (m : ℕ). put_all m (map f (drop (i + 1) xs)) more t) (sym same)
+
+  pub put-full : (v : Val) (stop : Stop) → gives v t ≡ f x s → with_local frame n v ≡ Err stop →
+      put_all n (map f (drop i xs)) frame s ≡ record { result = Err stop; state = t }
+  put-full v stop e w =
+      put-goes (Ok v) e
+      ∙ ap (λ (r : Result (List Val) Stop). then_do (answers r t) (λ more s2. put_all (n + 1) (map f (drop (i + 1) xs)) more s2)) w
+
+  pub put-stop : (stop : Stop) → record { result = Err stop; state = t } ≡ f x s → put_all n (map f (drop i xs)) frame s ≡ record { result = Err stop; state = t }
+  put-stop stop e = put-goes (Err stop) e
+
+-- ---- chains
+
+module _ (f : Link → Val → State → End Val) (xs : List Link) (i : ℕ) (x : Link) (h : i < length xs) (at : x ≡ get_or xs i x) (v : Val) (s t : State) where
+  pub chain-goes : (r : Result Val Stop) → record { result = r; state = t } ≡ f x v s →
+      in_chain (map f (drop i xs)) v s ≡ then_do (record { result = r; state = t }) (λ w s1. in_chain (map f (drop (i + 1) xs)) w s1)
+  chain-goes r e =
+      ap (λ (ys : List Link). in_chain (map f ys) v s) (rest-is xs i x h at)
+      ∙ ap (λ (q : End Val). then_do q (λ w s1. in_chain (map f (drop (i + 1) xs)) w s1)) (sym e)
+
+-- ---- blocks
+
+module _ (f : Stmt → State → End Flow) (xs : List Stmt) (i : ℕ) (x : Stmt) (h : i < length xs) (at : x ≡ get_or xs i x) (s t : State) where
+  pub order-goes : (r : Result Flow Stop) → record { result = r; state = t } ≡ f x s →
+      in_order (map f (drop i xs)) s ≡ then_do (record { result = r; state = t }) (λ flow s1. follows flow (in_order (map f (drop (i + 1) xs))) s1)
+  order-goes r e =
+      ap (λ (ys : List Stmt). in_order (map f ys) s) (rest-is xs i x h at)
+      ∙ ap (λ (q : End Flow). then_do q (λ flow s1. follows flow (in_order (map f (drop (i + 1) xs))) s1)) (sym e)
+
+-- ---- frames
+
+differ : (a b : Bool) → not (beq a b) ≡ true → a ≡ not b
+differ true true e = absurd (let never : false ≡ true = e in let no : ⊥ = cc in no)
+differ true false e = refl
+differ false true e = refl
+differ false false e = absurd (let never : false ≡ true = e in let no : ⊥ = cc in no)
+
+agree : (a b : Bool) → not (beq a b) ≡ false → a ≡ b
+agree true true e = refl
+agree true false e = absurd (let never : true ≡ false = e in let no : ⊥ = cc in no)
+agree false true e = absurd (let never : true ≡ false = e in let no : ⊥ = cc in no)
+agree false false e = refl
+
+begun-by : (v : Val) (n m : ℕ) (b : Bool) (rest : List Val) → is_begun v ≡ b → n ≡ (if b then suc m else 0) → m ≡ (if b then m else 0) → are_begun n (v ∷ rest) ≡ are_begun m rest
+begun-by v n m true rest e k z =
+    ap (λ (q : ℕ). are_begun q (v ∷ rest)) k ∙ ap (λ (c : Bool). c && are_begun m rest) e
+begun-by v n m false rest e k z =
+    ap (λ (q : ℕ). are_begun q (v ∷ rest)) k ∙ ap (λ (c : Bool). not c && are_begun 0 rest) e ∙ ap (λ (q : ℕ). are_begun q rest) (sym z)
+
+other-by : (v : Val) (n m : ℕ) (b : Bool) (rest : List Val) → is_begun v ≡ not b → n ≡ (if b then suc m else 0) → are_begun n (v ∷ rest) ≡ false
+other-by v n m true rest e k = ap (λ (q : ℕ). are_begun q (v ∷ rest)) k ∙ ap (λ (c : Bool). c && are_begun m rest) e
+other-by v n m false rest e k = ap (λ (q : ℕ). are_begun q (v ∷ rest)) k ∙ ap (λ (c : Bool). not c && are_begun 0 rest) e
+
+left-is : (i count : ℕ) (b : Bool) → nat_lt i count ≡ b → count - i ≡ (if b then suc (count - (i + 1)) else 0)
+left-is i count true e = let lt : i < count = grind (arith, nat_tests) in omega (arith, lt)
+left-is i count false e = let le : count ≤ i = grind (arith, nat_tests) in omega (arith, le)
+
+less-is : (i count : ℕ) (b : Bool) → nat_lt i count ≡ b → count - (i + 1) ≡ (if b then count - (i + 1) else 0)
+less-is i count true e = refl
+less-is i count false e = let le : count ≤ i = grind (arith, nat_tests) in omega (arith, le)
+
+-- one local after the other, each begun just where it is one of the first
+module _ (f : Word → Val) (xs : List Word) (i count : ℕ) (d : Word) (h : i < length xs) (b : Bool) (is : b ≡ is_begun (f (get_or xs i d))) where
+  begun-goes : are_begun (count - i) (map f (drop i xs)) ≡ are_begun (count - i) (f (get_or xs i d) ∷ map f (drop (i + 1) xs))
+  begun-goes = ap (λ (ys : List Word). are_begun (count - i) (map f ys)) (drop_more xs i d h)
+
+  pub begun-next : not (beq b (nat_lt i count)) ≡ false → are_begun (count - i) (map f (drop i xs)) ≡ are_begun (count - (i + 1)) (map f (drop (i + 1) xs))
+  begun-next e =
+      begun-goes
+      ∙ begun-by (f (get_or xs i d)) (count - i) (count - (i + 1)) (nat_lt i count) (map f (drop (i + 1) xs)) (sym is ∙ agree b (nat_lt i count) e)
+      (left-is i count (nat_lt i count) refl) (less-is i count (nat_lt i count) refl)
+
+  pub begun-not : not (beq b (nat_lt i count)) ≡ true → are_begun (count - i) (map f (drop i xs)) ≡ false
+  begun-not e =
+      begun-goes
+      ∙ other-by (f (get_or xs i d)) (count - i) (count - (i + 1)) (nat_lt i count) (map f (drop (i + 1) xs)) (sym is ∙ differ b (nat_lt i count) e)
+      (left-is i count (nat_lt i count) refl)
+
+-- past the last local
+begun-all : (count n : ℕ) → nat_le count n ≡ are_begun (count - n) []
+begun-all count n = go (nat_le count n) refl
+  where
+    none : (k : ℕ) → 0 < k → are_begun k [] ≡ false
+    none zero h = absurd (omega arith)
+    none (suc k) h = refl
+
+    go : (b : Bool) → nat_le count n ≡ b → b ≡ are_begun (count - n) []
+    go true e = let le : count ≤ n = grind (arith, nat_tests) in let z : count - n ≡ 0 = omega (arith, le) in ap (λ (k : ℕ). are_begun k []) (sym z)
+    go false e = let lt : n < count = grind (arith, nat_tests) in let p : 0 < count - n = omega (arith, lt) in sym (none (count - n) p)
+
+pub begun-end : (f : Word → Val) (xs : List Word) (i count : ℕ) → i ≡ length xs → nat_le count (length xs) ≡ are_begun (count - i) (map f (drop i xs))
+begun-end f xs i count e =
+    begun-all count (length xs)
+    ∙ ap (λ (ys : List Word). are_begun (count - length xs) (map f ys)) (sym (drop-length xs))
+    ∙ ap (λ (k : ℕ). are_begun (count - k) (map f (drop k xs))) (sym e)

@@ -1,0 +1,37 @@
+-- How the ends of statements and of rounds are seen.
+use Rattle.std.specs.Prelude.{ℕ, ◌<◌, Result, Ok, Err}
+use Rattle.sed_engine.specs.Stops as stops
+use Rattle.sed_engine.specs.Statements as flow
+use Rattle.sed_cells.specs.Places.{Plan}
+use Rattle.walk_steps.specs.declared.word.Stop.{Stop}
+use Rattle.walk_steps.specs.Seen.{seen, stop_seen}
+use Rattle.sed_walk.specs.declared.ends.Flow.{Flow}
+use Rattle.sed_walk.specs.declared.ends.Flow.TheVariants.{Next, Break, Continue, Return}
+use Rattle.sed_walk.specs.declared.ends.Round.{Round}
+use Rattle.sed_walk.specs.declared.ends.Round.TheVariants.{Again, Over, Answer}
+
+abbrev pub flow_seen : Plan → ℕ → Flow → flow.Flow
+flow_seen plan class Next = flow.Next
+flow_seen plan class Break = flow.Break
+flow_seen plan class Continue = flow.Continue
+flow_seen plan class (Return v) = flow.Return (seen plan class v)
+
+-- how a statement ends
+abbrev pub flows : Plan → ℕ → Result Flow Stop → Result flow.Flow stops.Stop
+flows plan class (Ok f) = Ok (flow_seen plan class f)
+flows plan class (Err stop) = Err (stop_seen stop)
+
+abbrev pub round_seen : Plan → ℕ → Round → flow.Round
+round_seen plan class Again = flow.Again
+round_seen plan class Over = flow.Over
+round_seen plan class (Answer v) = flow.Answer (seen plan class v)
+
+-- how a round ends
+abbrev pub rounds_seen : Plan → ℕ → Result Round Stop → Result flow.Round stops.Stop
+rounds_seen plan class (Ok r) = Ok (round_seen plan class r)
+rounds_seen plan class (Err stop) = Err (stop_seen stop)
+
+-- a round that goes on leaves fewer turns
+abbrev pub LeavesFewer : Result Round Stop → ℕ → ℕ → Type 0
+LeavesFewer (Ok Again) left before = left < before
+LeavesFewer r left before = Unit {0}
