@@ -7,7 +7,7 @@ use Rattle.std.specs.Str.{bytes_eq}
 use Rattle.std.specs.FinMap as map
 use Rattle.std.proofs.lemmas.Bool.Decides.{nat_tests}
 use Rattle.sed_value.specs.Names.{is_name}
-use Rattle.sed_value.specs.Value.{goes_to, is_of_type}
+use Rattle.sed_value.specs.Value.{goes_to}
 use Rattle.sed_value.specs.declared.id.Id.{Id}
 use Rattle.sed_value.specs.declared.refusal.Refusal.{Refusal}
 use Rattle.sed_value.specs.declared.refusal.Refusal.TheVariants.{AppItself, BadName, BadValue, BufferTooLong, Faulted, NameTaken, NoComponent, NoSlot, NotTheChildren, WrongKindOfSlot}
@@ -21,23 +21,23 @@ use Rattle.sed_engine.specs.declared.call.Root.TheVariants.{Action as ActionRoot
 use Rattle.sed_engine.specs.declared.engine.Engine.{Ghosts}
 use Rattle.sed_engine.specs.Code.{Meaning, Object, Places, action_takes, is_argument, is_property, may_call, may_store, property_type, slot_form, slot_type, slot_value, with_slot}
 use Rattle.comp_tree.specs.declared.node.Node.{Node}
-use Rattle.comp_tree.specs.Application.{ById, Component, Components, change_at, children_of, name_of, object_of, parent_of, type_at, value_at, with_components}
+use Rattle.comp_tree.specs.Application.{ById, Component, Components, change_at, children_of, name_of, object_of, parent_of, value_at, with_components}
 use Rattle.comp_tree.specs.Held.{Held, IsHeld, IsTreeOf, Nodes, IsPlaced, by_id_of, children_in, component_of, components_of, contents_at, name_in}
 use Rattle.comp_tree.specs.Links.{has_changed, store, with_value}
 use Rattle.comp_tree.specs.Read.{AreTaken, IsRefusedValue}
-use Rattle.comp_tree.specs.Refusals.{action_argument, invoke_types, are_each_once, are_the_children, argument_types, first_refusal, ids_of, is_other_child_named, refusals_of_invoke, refusals_of_read, refusals_of_rename, refusals_of_reorder, refusals_of_write, write_types}
+use Rattle.comp_tree.specs.Refusals.{action_argument, invoke_types, are_each_once, argument_types, first_refusal, ids_of, is_other_child_named, refusals_of_invoke, refusals_of_read, refusals_of_rename, refusals_of_reorder, refusals_of_write, write_types}
 use Rattle.comp_tree.specs.Same.{is_same_value}
 use Rattle.comp_tree.specs.Told.{IsGreatest}
 use Rattle.comp_tree.specs.Values.{are_bad_values, have_long_buffer, taken}
 use Rattle.comp_tree.proofs.HeldLemmas.{get-by_id, component_with}
 use Rattle.comp_tree.proofs.MapLemmas.{get_put, put_same}
 use Rattle.comp_tree.proofs.NodeTrees.{tree_alike, tree_order}
-use Rattle.comp_tree.proofs.RunLemmas.{by_id_after, by_id_node, may_here, placed_after, placed_node}
+use Rattle.comp_tree.proofs.RunLemmas.{by_id_after, by_id_node, placed_after, placed_node}
 use Rattle.comp_tree.proofs.TreeLemmas.{component_is, kept_here, no_component}
 
 -- ---- a node with one part changed
 
-of_found : {A : Type 0} (r : Option A) (x : A) (P : A → Type 0) → r ≡ Some x → IfSome r P → P x
+pub of_found : {A : Type 0} (r : Option A) (x : A) (P : A → Type 0) → r ≡ Some x → IfSome r P → P x
 of_found {A} r x P e h = subst (λ (y : Option A). IfSome y P) e h
 
 module _ {E : Type 0} (g : Ghosts E) (h : Held E) (was : IsPlaced (g.meaning h.engine) (g.live h.engine) h.nodes) (id : ℕ) (n : Node) (found : map.get h.nodes id ≡ Some n)
@@ -113,6 +113,13 @@ name_read name new e = by_test (is_name name) e
   where
     by_test : (b : Bool) → ◌≡◌ {A = Option (List ℕ)} (Some new) (if b then Some name else None) → b ≡ true
     by_test true e = refl
+    by_test false e = absurd (let never = e in cc)
+
+pub name_same : (name new : List ℕ) → ◌≡◌ {A = Option (List ℕ)} (Some new) (if is_name name then Some name else None) → new ≡ name
+name_same name new e = by_test (is_name name) e
+  where
+    by_test : (b : Bool) → ◌≡◌ {A = Option (List ℕ)} (Some new) (if b then Some name else None) → new ≡ name
+    by_test true e = cc
     by_test false e = absurd (let never = e in cc)
 
 taken_by : (ℕ → List ℕ) → (ℕ → List ℕ) → ℕ → List ℕ → Option ℕ → Bool
@@ -199,7 +206,7 @@ module _ (live : Places) (nodes : Nodes) (id : ℕ) (bytes : List ℕ) where
 
 -- ---- values that are written
 
-pub or_else : Option Refusal → Option Refusal → Option Refusal
+unfoldable pub or_else : Option Refusal → Option Refusal → Option Refusal
 or_else (Some r) y = Some r
 or_else None y = y
 

@@ -5,6 +5,7 @@ pub mod TakenLemmas
 pub mod MarkLemmas
 pub mod ShapeLemmas
 pub mod ShapeSteps
+pub mod DepthLemmas
 pub mod NodeTrees
 pub mod HeldLemmas
 pub mod TreeLemmas
@@ -13,4 +14,7 @@ pub mod ReadLemmas
 pub mod IdsLemmas
 pub mod MatchLemmas
 pub mod SchemaLemmas
+pub mod ConfigLemmas
 pub mod EditLemmas
+pub mod AllowedLemmas
+pub mod AddLemmas

@@ -1,6 +1,16 @@
 -- What is said of a result, said on.
-use Rattle.std.specs.Prelude.{Result, Ok, Err, MatchResult}
+use Rattle.std.proofs.Common.{◌≡◌, refl}
+use Rattle.std.specs.Prelude.{Option, Some, None, IfSome, IsSomeAnd, Result, Ok, Err, MatchResult}
 
 pub match_more : {T E : Type 0} {P P' : T → Type 0} {Q Q' : E → Type 0} (r : Result T E) → MatchResult r P Q → ((x : T) → P x → P' x) → ((e : E) → Q e → Q' e) → MatchResult r P' Q'
 match_more (Ok x) h p q = p x h
 match_more (Err e) h p q = q e h
+
+-- what holds of each thing that may be there
+pub if_some : {A : Type 0} (r : Option A) (P : A → Type 0) → ((x : A) → r ≡ Some x → P x) → IfSome r P
+if_some None P each = tt
+if_some (Some x) P each = each x refl
+
+pub and_more : {A : Type 0} {P Q : A → Type 0} (r : Option A) → IsSomeAnd r P → ((x : A) → P x → Q x) → IsSomeAnd r Q
+and_more None never more = never
+and_more (Some x) h more = more x h

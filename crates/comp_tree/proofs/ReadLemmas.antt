@@ -1,5 +1,5 @@
 -- What the bytes of a command are, by what a reader finds in them.
-use Rattle.std.proofs.Common.{◌≡◌, ℕ, zero, suc, ◌+◌, ◌<◌, ◌≤◌, ℤ, Bool, true, false, cond, IsTrue, List, [], ◌∷◌, ◌++◌, length, take, drop, FitsSigned, length-drop, refl, sym, ◌∙◌, ap, subst, arith}
+use Rattle.std.proofs.Common.{◌≡◌, ℕ, ◌+◌, ◌<◌, ◌≤◌, Bool, true, false, IsTrue, List, [], ◌∷◌, ◌++◌, length, take, drop, length-drop, refl, sym, ◌∙◌, ap, arith}
 use Rattle.std.proofs.lemmas.Bool.Decides.{nat_tests}
 use Rattle.std.proofs.lemmas.Int.{to_z-of_z}
 use Rattle.std.proofs.lemmas.List.{length-append, length-take-le}
@@ -7,26 +7,25 @@ use Rattle.std.proofs.Math.Seq.{take-append_seam, drop-append_seam}
 use Rattle.std.specs.Prelude.{Option, Some, None, Result, Ok, Err, MatchResult, nat_lt, if◌then◌else◌, ◌||◌}
 use Rattle.std.specs.Option.{option_map, option_map_or}
 use Rattle.std.specs.List.{list_any, zip}
-use Rattle.std.specs.Int.{w32, w64, cast_signed, cast_unsigned}
+use Rattle.std.specs.Int.{w32, w64, cast_signed}
 use Rattle.sed_typed.specs.declared.schema.ActionArg.{ActionArg}
-use Rattle.sed_typed.specs.declared.schema.ActionArg.TheVariants.{Void, Bool as BoolArg, Int as IntArg, Long as LongArg}
 use Rattle.sed_value.specs.declared.refusal.Refusal.{Refusal}
 use Rattle.sed_value.specs.declared.refusal.Refusal.TheVariants.{BadValue, BufferTooLong}
 use Rattle.sed_value.specs.declared.slot_type.Primitive.TheVariants.{Bool as BoolType, Byte as ByteType, Short as ShortType, Int as IntType, Long as LongType}
 use Rattle.sed_value.specs.declared.slot_type.SlotType.{SlotType}
 use Rattle.sed_value.specs.declared.slot_type.SlotType.TheVariants.{Prim as PrimSlot, Buf as BufSlot}
 use Rattle.sed_value.specs.declared.value.Value.{Value}
-use Rattle.sed_value.specs.declared.value.Value.TheVariants.{Bool as Truth, Byte, Short, Int, Long, Buf, Nothing}
+use Rattle.sed_value.specs.declared.value.Value.TheVariants.{Bool as Truth, Byte, Short, Int, Long, Buf}
 use Rattle.sed_value.specs.Value.{goes_to, is_of_type}
 use Rattle.sed_engine.specs.Code.{is_argument}
-use Rattle.sed_wire.specs.Faults.{IsBadBool, IsTooLong, contents_length, size_of}
-use Rattle.sed_wire.specs.Number.{number_of, SpellsNumber, SpellsSigned}
+use Rattle.sed_wire.specs.Faults.{IsTooLong, contents_length, size_of}
+use Rattle.sed_wire.specs.Number.{number_of}
 use Rattle.sed_wire.specs.Reading.{Reads}
-use Rattle.sed_wire.specs.Spelling.{Spells, SpellsContents, SpellsValue}
+use Rattle.sed_wire.specs.Spelling.{Spells}
 use Rattle.comp_tree.specs.Edits.{first_of}
 use Rattle.comp_tree.specs.Read.{AreTaken, IsArgument, IsBadArgument, IsRefusedValue}
 use Rattle.comp_tree.specs.Refusals.{argument_types, first_refusal}
-use Rattle.comp_tree.specs.Values.{are_bad_values, have_long_buffer, is_bad_truth, is_too_long, taken, value_of, values_of}
+use Rattle.comp_tree.specs.Values.{are_bad_values, is_bad_truth, is_too_long, taken, value_of, values_of}
 
 -- ---- a value that is found
 

@@ -18,7 +18,7 @@ use Rattle.sed_engine.specs.declared.engine.Engine.{Ghosts}
 use Rattle.sed_engine.specs.Code.{Meaning, Object, Places, called, is_argument, may_call, root_of}
 use Rattle.sed_engine.specs.Root.{RootEnd}
 use Rattle.comp_tree.specs.declared.node.Node.{Node}
-use Rattle.comp_tree.specs.Application.{ById, Component, Components, object_of}
+use Rattle.comp_tree.specs.Application.{Component, Components, object_of}
 use Rattle.comp_tree.specs.Calls.{Ran, callback_argument, ended, fault_by, not_run, run_at, with_end}
 use Rattle.comp_tree.specs.Changed.{with_fault}
 use Rattle.comp_tree.specs.Held.{Held, Nodes, IsPlaced, IsTreeOf, by_id_of, component_of, components_of, contents_at}

@@ -1,7 +1,7 @@
 -- What a whole code says of its slots.
-use Rattle.std.proofs.Common.{ℕ, ◌≡◌, ◌≤◌, ◌<◌, List, [], length, refl, sym, ◌∙◌, ap, subst, arith}
-use Rattle.std.specs.Prelude.{Option, Some, None, All, IsTrue, is_some, nat_le, slice_get, slice_index_or}
-use Rattle.std.specs.Option.{option_map, option_map_or}
+use Rattle.std.proofs.Common.{ℕ, ◌≡◌, List, [], refl, ap, subst, arith}
+use Rattle.std.specs.Prelude.{Option, Some, None, All, Bool, true, false, IfSome, IsTrue, is_some, slice_get, ◌&&◌, if◌then◌else◌}
+use Rattle.std.specs.Option.{option_and_then, option_map, option_map_or}
 use Rattle.std.proofs.lemmas.Bool.Decides.{nat_tests}
 use Rattle.std.proofs.lemmas.Option.{get_or_from_slice_get, slice_get_within}
 use Rattle.sed_value.specs.declared.slot_type.SlotType.{SlotType}
@@ -12,8 +12,10 @@ use Rattle.sed_typed.specs.declared.schema.SlotForm.{SlotForm}
 use Rattle.sed_typed.specs.declared.schema.SlotForm.TheVariants.{Prop, Action}
 use Rattle.sed_typed.specs.declared.schema.SlotInfo.{SlotInfo}
 use Rattle.sed_typed.specs.Classes.{slots}
-use Rattle.sed_engine.specs.Code.{Meaning, slot_form}
-use Rattle.sed_engine.specs.Whole.{HasBufSize, IsWhole, KeepsLimits}
+use Rattle.sed_engine.specs.Code.{property_type}
+use Rattle.comp_tree.specs.Parts.{is_property_form}
+use Rattle.comp_tree.specs.Read.{CanBeHeld, config_type_of}
+use Rattle.sed_engine.specs.Whole.{HasBufSize, KeepsLimits}
 use Rattle.sed_wire.specs.Spelling.{can_be_held}
 
 at_place : {A : Type 0} (P : A → Type 0) (xs : List A) (k : ℕ) (x : A) → All P xs → slice_get xs k ≡ Some x → P x
@@ -24,13 +26,6 @@ held_by (PrimSlot p) size = refl
 held_by (BufSlot n) size = let few = size.1 in grind (arith, nat_tests)
 
 module _ (schema : Schema) (keeps : KeepsLimits schema) (class : ℕ) where
-  pub slots_few : length (slots schema.classes class) ≤ 64
-  slots_few = by_class (slice_get schema.classes class) refl
-    where
-      by_class : (r : Option ClassInfo) → slice_get schema.classes class ≡ r → length (option_map_or (λ (c : ClassInfo). c.slots) r []) ≤ 64
-      by_class None e = omega arith
-      by_class (Some c) e = at_place (λ (c : ClassInfo). length c.slots ≤ 64) schema.classes class c keeps.slots e
-
   -- the size of a slot's Buf
   pub slot_size : (slot : ℕ) (s : SlotInfo) → slice_get (slots schema.classes class) slot ≡ Some s → HasBufSize s.form
   slot_size slot s is = by_class (slice_get schema.classes class) refl is
@@ -49,3 +44,16 @@ module _ (schema : Schema) (keeps : KeepsLimits schema) (class : ℕ) where
       by_slot (Some s) e at =
           let same : s.form ≡ Prop t = cc in
           held_by t (subst HasBufSize same (slot_size slot s e))
+
+-- a reader holds a value of each config property
+pub can_hold : (schema : Schema) → KeepsLimits schema → (class : ℕ) → CanBeHeld (slots schema.classes class)
+can_hold schema keeps class n = by_slot (slice_get (slots schema.classes class) n) refl
+  where
+    by_form : (config : Bool) (form : SlotForm) → HasBufSize form → IfSome (if is_property_form form && config then property_type (Some form) else None) (λ t. IsTrue (can_be_held t))
+    by_form true (Prop t) size = held_by t size
+    by_form false (Prop t) size = tt
+    by_form config (Action a) size = tt
+
+    by_slot : (r : Option SlotInfo) → slice_get (slots schema.classes class) n ≡ r → IfSome (option_and_then config_type_of r) (λ t. IsTrue (can_be_held t))
+    by_slot None e = tt
+    by_slot (Some s) e = by_form s.config s.form (slot_size schema keeps class n s e)

@@ -1,14 +1,13 @@
 -- What keeps the shape of a tree: another order of children, one more, and what stands below one taken away.
 use Rattle.std.proofs.Common.{ℕ, zero, suc, ◌+◌, ◌<◌, ◌≤◌, ◌≡◌, ◌≢◌, ◌⊎◌, inl, inr, Bool, true, false, not, cond, IsTrue, List, [], ◌∷◌, ◌++◌, length, refl, sym, ◌∙◌, ap, subst, arith}
-use Rattle.std.specs.Prelude.{Option, Some, None, is_some, nat_eq, ◌==◌, ◌&&◌, count_by, filter}
-use Rattle.std.specs.List.{Contains, IsDistinct, list_all}
+use Rattle.std.specs.Prelude.{Option, Some, None, nat_eq, ◌==◌, ◌&&◌, count_by, filter}
+use Rattle.std.specs.List.{IsDistinct, list_all}
 use Rattle.std.specs.Option.{option_and_then}
 use Rattle.std.proofs.lemmas.Bool.{cases_eq}
 use Rattle.std.proofs.lemmas.Bool.Decides.{nat_tests}
-use Rattle.std.proofs.lemmas.Grind.{common_steps}
 use Rattle.std.proofs.lemmas.List.Sums.{sum_by-cons}
 use Rattle.comp_tree.specs.Shape.{IsTree, down_by, up_by}
-use Rattle.comp_tree.proofs.ShapeLemmas.{In, Once, below_up, child_in, in_cases, in_child, in_from, in_left, in_right, in_to, once_append, once_from, once_to, up_below, up_more, up_next, up_once}
+use Rattle.comp_tree.proofs.ShapeLemmas.{In, Once, below_up, child_in, in_cases, in_child, in_from, in_left, in_right, in_to, once_append, once_from, once_to, up_below, up_more, up_once}
 
 -- ---- more on steps up
 

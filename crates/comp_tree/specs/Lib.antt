@@ -18,3 +18,4 @@ pub mod Changed
 pub mod Held
 pub mod Told
 pub mod Read
+pub mod Allowed

@@ -10,7 +10,9 @@
 #![tactic(auto)]
 
 mod children;
+mod config;
 pub mod entry;
+mod joining;
 mod node;
 mod nodes;
 mod order;

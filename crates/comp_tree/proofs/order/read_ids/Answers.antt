@@ -1,4 +1,4 @@
-use Rattle.std.proofs.Common.{◌≡◌, sym, subst, ap, ◌∙◌, arith}
+use Rattle.std.proofs.Common.{◌≡◌, sym, subst, ap, ◌∙◌}
 use Rattle.std.specs.Prelude.{is_err}
 use Rattle.comp_tree.specs.Refusals.{ids_of}
 use Rattle.comp_tree.proofs.IdsLemmas.{all_read, fewer_left, left_over_byte, more_than, one_more_id, so_far}

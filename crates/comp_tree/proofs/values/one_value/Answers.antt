@@ -1,10 +1,8 @@
-use Rattle.std.proofs.Common.{◌∷◌, [], Err, sym, ap, subst, ◌∙◌}
+use Rattle.std.proofs.Common.{◌∷◌, [], Err, ap, subst}
 use Rattle.sed_value.specs.declared.refusal.Refusal.TheVariants.{BadValue, BufferTooLong}
 use Rattle.sed_wire.specs.Faults.{StandsAfter}
-use Rattle.sed_wire.specs.Reading.{Reads}
-use Rattle.sed_wire.specs.Spelling.{Spells}
 use Rattle.comp_tree.specs.Read.{AreTaken, IsRefusedValue}
-use Rattle.comp_tree.proofs.ReadLemmas.{long_is_bad, long_is_refused, more_is_bad, one_is}
+use Rattle.comp_tree.proofs.ReadLemmas.{long_is_refused, more_is_bad, one_is}
 use Rattle.comp_tree.proofs.values.one_value.Goals as goal
 
 pub returns-then-is_empty-clause-taken : goal.returns-then-is_empty-clause-taken

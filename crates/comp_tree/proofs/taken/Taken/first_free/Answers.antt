@@ -1,4 +1,4 @@
-use Rattle.std.proofs.Common.{◌≡◌, ◌<◌, ◌≤◌, ◌^◌, ◌+◌, ◌*◌, ℕ, length, sym, ap, ◌∙◌, subst, arith}
+use Rattle.std.proofs.Common.{◌<◌, ◌+◌, ◌*◌, sym, ap, ◌∙◌, arith}
 use Rattle.comp_tree.specs.Taken.{is_taken}
 use Rattle.comp_tree.proofs.TakenLemmas.{below_taken, here_free, open_word}
 use Rattle.comp_tree.proofs.taken.Taken.first_free.Goals as goal

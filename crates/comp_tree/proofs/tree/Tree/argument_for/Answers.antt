@@ -1,4 +1,4 @@
-use Rattle.std.proofs.Common.{◌≡◌, Some, sym, ap, subst, ◌∙◌}
+use Rattle.std.proofs.Common.{Some, sym, ap, subst, ◌∙◌}
 use Rattle.std.specs.Prelude.{IsSomeAnd, IsTrue, slice_get}
 use Rattle.std.specs.FinMap as map
 use Rattle.std.specs.Option.{option_map}
@@ -7,7 +7,7 @@ use Rattle.sed_typed.specs.declared.schema.SlotInfo.{SlotInfo}
 use Rattle.sed_engine.specs.declared.call.Root.TheVariants.{Action as ActionRoot}
 use Rattle.sed_engine.specs.Code.{may_call}
 use Rattle.comp_tree.specs.Edits.{first_of}
-use Rattle.comp_tree.specs.Held.{Held, by_id_of, components_of}
+use Rattle.comp_tree.specs.Held.{Held, by_id_of}
 use Rattle.comp_tree.specs.Refusals.{first_refusal, invoke_types, refusals_of_invoke}
 use Rattle.comp_tree.specs.Values.{taken}
 use Rattle.comp_tree.proofs.EditLemmas.{invoke_allowed, invoke_bad, invoke_faulted, invoke_may, invoke_no_component, invoke_no_slot, invoke_property, invoke_takes}

@@ -1,7 +1,7 @@
 use Rattle.std.proofs.Common.{refl, sym, ap, ◌∙◌}
 use Rattle.std.specs.FinMap as map
 use Rattle.comp_tree.specs.Changed as node
-use Rattle.comp_tree.specs.Edits.{after_rename, with_name, with_children}
+use Rattle.comp_tree.specs.Edits.{after_rename, with_name}
 use Rattle.comp_tree.specs.Held.{Held, by_id_of, components_of}
 use Rattle.comp_tree.specs.Refusals.{first_refusal, refusals_of_rename}
 use Rattle.comp_tree.proofs.EditLemmas.{changed_is, held_changed, some_of}

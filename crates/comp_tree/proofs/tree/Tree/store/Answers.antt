@@ -1,7 +1,7 @@
-use Rattle.std.proofs.Common.{◌≡◌, not, sym, ap, subst, ◌∙◌}
+use Rattle.std.proofs.Common.{not, sym, ap, subst, ◌∙◌}
 use Rattle.std.specs.Prelude.{IsSomeAnd, IsTrue}
 use Rattle.std.specs.FinMap as map
-use Rattle.sed_engine.specs.Code.{is_property, may_store}
+use Rattle.sed_engine.specs.Code.{may_store}
 use Rattle.comp_tree.specs.Held.{Held, by_id_of, components_of}
 use Rattle.comp_tree.specs.Links.{has_changed, store}
 use Rattle.comp_tree.specs.Same.{is_same_value}

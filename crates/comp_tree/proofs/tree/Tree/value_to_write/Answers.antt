@@ -1,11 +1,6 @@
-use Rattle.std.proofs.Common.{◌≡◌, ◌∷◌, [], Some, sym, ap, subst, ◌∙◌}
-use Rattle.std.specs.Prelude.{IsSomeAnd, IsTrue}
-use Rattle.std.specs.FinMap as map
-use Rattle.sed_engine.specs.Code.{may_store}
-use Rattle.comp_tree.specs.Held.{Held, by_id_of, components_of}
-use Rattle.comp_tree.specs.Refusals.{first_refusal, refusals_of_write, write_types}
+use Rattle.std.proofs.Common.{◌∷◌, [], ap}
+use Rattle.comp_tree.specs.Held.{components_of}
 use Rattle.comp_tree.specs.Edits.{first_of}
-use Rattle.comp_tree.specs.Values.{taken}
 use Rattle.comp_tree.proofs.EditLemmas.{write_allowed, write_may, write_refused, write_takes, write_unread}
 use Rattle.comp_tree.proofs.MatchLemmas.{match_more}
 use Rattle.comp_tree.proofs.ReadLemmas.{goes_there}
