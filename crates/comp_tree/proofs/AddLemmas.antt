@@ -13,9 +13,9 @@ use Rattle.sed_typed.specs.declared.number.TypeNo.{TypeNo}
 use Rattle.sed_engine.specs.declared.call.Place.{Place}
 use Rattle.sed_engine.specs.declared.engine.Engine.{Ghosts}
 use Rattle.sed_engine.specs.Code.{Meaning, Object, Places, new_object, with_slot}
-use Rattle.comp_tree.specs.declared.node.Node.{Node}
+use Rattle.node_table.specs.declared.node.Node.{Node}
 use Rattle.comp_tree.specs.Application.{ById, Component, Components, change_at, children_of, data_size_of, greatest_depth, is_live, with_components}
-use Rattle.comp_tree.specs.Changed.{with_children}
+use Rattle.node_table.specs.Changed.{with_children}
 use Rattle.comp_tree.specs.Edits.{added, after_add, new_component, with_child}
 use Rattle.sed_value.specs.declared.refusal.Refusal.{Refusal}
 use Rattle.sed_value.specs.declared.refusal.Refusal.TheVariants.{DataFull, OutOfMemory}

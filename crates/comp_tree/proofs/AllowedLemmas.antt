@@ -15,7 +15,7 @@ use Rattle.sed_typed.specs.Classes.{reached, slots}
 use Rattle.sed_typed.specs.Schemas.{type_at as class_numbered}
 use Rattle.sed_typed.specs.SysTypes.{app_type, component_type}
 use Rattle.sed_engine.specs.Code.{Meaning, Places}
-use Rattle.comp_tree.specs.declared.node.Node.{Node}
+use Rattle.node_table.specs.declared.node.Node.{Node}
 use Rattle.comp_tree.specs.Allowed.{IsKindToAdd, IsNewChild, MayAdd, child_rows, kind_rows}
 use Rattle.comp_tree.specs.Application.{Component, Components, children_of, greatest_depth, is_live, most_children, most_components, name_of, parent_of}
 use Rattle.comp_tree.specs.Held.{Nodes, by_id_of, component_of, name_in, parent_in}

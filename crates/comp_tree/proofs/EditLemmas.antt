@@ -20,7 +20,7 @@ use Rattle.sed_typed.specs.declared.schema.SlotForm.TheVariants.{Prop, Action}
 use Rattle.sed_engine.specs.declared.call.Root.TheVariants.{Action as ActionRoot}
 use Rattle.sed_engine.specs.declared.engine.Engine.{Ghosts}
 use Rattle.sed_engine.specs.Code.{Meaning, Object, Places, action_takes, is_argument, is_property, may_call, may_store, property_type, slot_form, slot_type, slot_value, with_slot}
-use Rattle.comp_tree.specs.declared.node.Node.{Node}
+use Rattle.node_table.specs.declared.node.Node.{Node}
 use Rattle.comp_tree.specs.Application.{ById, Component, Components, change_at, children_of, name_of, object_of, parent_of, value_at, with_components}
 use Rattle.comp_tree.specs.Held.{Held, IsHeld, IsTreeOf, Nodes, IsPlaced, by_id_of, children_in, component_of, components_of, contents_at, name_in}
 use Rattle.comp_tree.specs.Links.{has_changed, store, with_value}

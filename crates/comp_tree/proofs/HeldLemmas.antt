@@ -8,7 +8,7 @@ use Rattle.std.proofs.lemmas.Bool.{cases_eq}
 use Rattle.sed_value.specs.declared.id.Id.{Id}
 use Rattle.sed_typed.specs.Contents.{Contents}
 use Rattle.sed_engine.specs.Code.{Meaning, Object, Places}
-use Rattle.comp_tree.specs.declared.node.Node.{Node}
+use Rattle.node_table.specs.declared.node.Node.{Node}
 use Rattle.comp_tree.specs.Application.{Component, data_size_of}
 use Rattle.comp_tree.specs.Held.{Nodes, IsPlaced, by_id_of, component_of}
 use Rattle.comp_tree.proofs.MapLemmas.{get_put, get_beside, kept_beside, len_less, taken_out, len_over, len_more, some_is, get-map_values}

@@ -1,10 +1,8 @@
-pub mod IndexLemmas
 pub mod MapLemmas
 pub mod SumLemmas
-pub mod TakenLemmas
-pub mod MarkLemmas
 pub mod ShapeLemmas
 pub mod ShapeSteps
+pub mod SubtreeLemmas
 pub mod DepthLemmas
 pub mod NodeTrees
 pub mod HeldLemmas
@@ -18,3 +16,4 @@ pub mod ConfigLemmas
 pub mod EditLemmas
 pub mod AllowedLemmas
 pub mod AddLemmas
+pub mod DeleteLemmas

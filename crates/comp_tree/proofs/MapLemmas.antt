@@ -1,5 +1,5 @@
 -- Finite maps: what a change leaves, and a function applied to each value.
-use Rattle.std.proofs.Common.{◌≡◌, ◌≢◌, ℕ, suc, inl, inr, ◌+◌, List, [], ◌∷◌, Bool, true, false, cond, length, refl, sym, ◌∙◌, ap, subst}
+use Rattle.std.proofs.Common.{◌≡◌, ◌≢◌, ℕ, suc, inl, inr, ◌+◌, List, [], ◌∷◌, Bool, true, false, cond, length, refl, sym, ◌∙◌, ap, subst, arith}
 use Rattle.std.specs.Prelude.{Option, Some, None, is_some, ◌&&◌, T}
 use Rattle.std.specs.Option.{option_map}
 use Rattle.std.specs.FinMap as finite
@@ -9,7 +9,13 @@ use Rattle.std.specs.Ordering.{nat_cmp, eq_by_cmp, is_lt}
 use Rattle.std.specs.Cmp.{nat_cmp_total}
 use Rattle.std.proofs.lemmas.Bool.{cases_eq}
 use Rattle.comp_tree.specs.Mapped.{on_values, map_values}
-use Rattle.comp_tree.proofs.IndexLemmas.{tied_same, tied_apart}
+use Rattle.std.proofs.lemmas.Bool.Decides.{nat_tests}
+
+tied_same : (a : ℕ) → eq_by_cmp nat_cmp a a ≡ true
+tied_same a = grind (arith, nat_tests)
+
+tied_apart : (a b : ℕ) → a ≢ b → eq_by_cmp nat_cmp a b ≡ false
+tied_apart a b ne = grind (arith, nat_tests)
 
 module _ {V : Type 0} where
   pub get_put : (m : FinMap nat_cmp V) (k : ℕ) (x : V) → finite.get (finite.insert m k x) k ≡ Some x

@@ -7,8 +7,8 @@ use Rattle.std.specs.List.{Contains, IsDistinct}
 use Rattle.std.specs.Ordering.{nat_cmp}
 use Rattle.std.proofs.lemmas.Bool.{cases_eq}
 use Rattle.sed_value.specs.declared.id.Id.{Id}
-use Rattle.comp_tree.specs.declared.node.Node.{Node}
-use Rattle.comp_tree.specs.Changed.{with_children}
+use Rattle.node_table.specs.declared.node.Node.{Node}
+use Rattle.node_table.specs.Changed.{with_children}
 use Rattle.comp_tree.specs.Held.{IsTreeOf, Nodes, children_in, parent_in}
 use Rattle.comp_tree.specs.Refusals.{are_each_once}
 use Rattle.comp_tree.specs.Shape.{IsTree, up_by}
@@ -17,7 +17,7 @@ use Rattle.comp_tree.proofs.ShapeLemmas.{In, in_from, once_from, once_to}
 use Rattle.comp_tree.proofs.ShapeSteps.{Reordered, reordered, tree_more, tree_reordered}
 
 -- what is told of every node alike is told of the changed nodes alike
-alike_at : {A : Type 0} (F : Option Node → A) (nodes : Nodes) (id : ℕ) (n k : Node) → map.get nodes id ≡ Some n → F (Some n) ≡ F (Some k) → (q : ℕ) → F (map.get nodes q) ≡ F (map.get (map.insert nodes id k) q)
+pub alike_at : {A : Type 0} (F : Option Node → A) (nodes : Nodes) (id : ℕ) (n k : Node) → map.get nodes id ≡ Some n → F (Some n) ≡ F (Some k) → (q : ℕ) → F (map.get nodes q) ≡ F (map.get (map.insert nodes id k) q)
 alike_at F nodes id n k found same q = elim (cases_eq q id) [
   | inl e ↦
       ap (λ (p : ℕ). F (map.get nodes p)) e ∙ ap F found ∙ same ∙ ap F (sym (get_put nodes id k))

@@ -1,5 +1,5 @@
 -- What a change of one component's node and object does to the tree, and what a root call on it comes to.
-use Rattle.std.proofs.Common.{ℕ, ℤ, ◌≡◌, ◌≢◌, Bool, true, false, ◌<◌, not, [], ◌∷◌, refl, sym, ◌∙◌, ap, subst}
+use Rattle.std.proofs.Common.{ℕ, ℤ, ◌≡◌, ◌≢◌, inl, inr, Bool, true, false, ◌<◌, not, [], ◌∷◌, refl, sym, ◌∙◌, ap, subst}
 use Rattle.std.specs.Prelude.{Option, Some, None, IfSome, IsSome, IsSomeAnd, IsTrue, is_some, nat_lt, ◌==◌, if◌then◌else◌}
 use Rattle.std.specs.Option.{option_map_or}
 use Rattle.std.specs.FinMap as map
@@ -17,15 +17,16 @@ use Rattle.sed_engine.specs.declared.call.Root.{Root}
 use Rattle.sed_engine.specs.declared.engine.Engine.{Ghosts}
 use Rattle.sed_engine.specs.Code.{Meaning, Object, Places, called, is_argument, may_call, root_of}
 use Rattle.sed_engine.specs.Root.{RootEnd}
-use Rattle.comp_tree.specs.declared.node.Node.{Node}
+use Rattle.node_table.specs.declared.node.Node.{Node}
 use Rattle.comp_tree.specs.Application.{Component, Components, object_of}
 use Rattle.comp_tree.specs.Calls.{Ran, callback_argument, ended, fault_by, not_run, run_at, with_end}
-use Rattle.comp_tree.specs.Changed.{with_fault}
+use Rattle.node_table.specs.Changed.{with_fault}
 use Rattle.comp_tree.specs.Held.{Held, Nodes, IsPlaced, IsTreeOf, by_id_of, component_of, components_of, contents_at}
 use Rattle.comp_tree.proofs.HeldLemmas.{apart_from, by_id-put, component_with, placed_change}
-use Rattle.comp_tree.proofs.MapLemmas.{put_same}
+use Rattle.comp_tree.proofs.MapLemmas.{get_beside, get_put, put_same}
 use Rattle.comp_tree.proofs.NodeTrees.{tree_alike}
 use Rattle.std.proofs.Common.{arith}
+use Rattle.std.proofs.lemmas.Bool.{cases_eq}
 use Rattle.std.proofs.lemmas.Bool.Decides.{nat_tests}
 use Rattle.comp_tree.proofs.TreeLemmas.{component_is, kept_here, no_component}
 
@@ -66,6 +67,28 @@ run_by m a id which argument turns moment r =
 run_is : (m : Meaning) (a : Components) (id : ℕ) (which : Root) (argument : Value) (turns : ℕ) (moment : ℤ) → run_at m a id which argument turns moment ≡ run_by m a id which argument turns moment (map.get a.by_id id)
 unfolding run_by
 run_is m a id which argument turns moment = refl
+
+-- what a root call changes of no component
+module _ {A : Type 0} (F : Option Component → A) (same : (k : Component) (e : RootEnd) → F (Some (with_end k e)) ≡ F (Some k)) where
+  pub run_alike : (m : Meaning) (a : Components) (id : ℕ) (which : Root) (argument : Value) (turns : ℕ) (moment : ℤ) (q : ℕ) → F (map.get (run_at m a id which argument turns moment).left.by_id q) ≡ F (map.get a.by_id q)
+  unfolding run_by
+  run_alike m a id which argument turns moment q = ap (λ (r : Ran). F (map.get r.left.by_id q)) (run_is m a id which argument turns moment) ∙ by_component (map.get a.by_id id) refl
+    where
+      by_test : (c : Component) → map.get a.by_id id ≡ Some c → (b : Bool)
+          → F (map.get (if b then ended a id c (root_of m (object_of c) a.statics which argument turns moment) else not_run a turns).left.by_id q) ≡ F (map.get a.by_id q)
+      by_test c e false = refl
+      by_test c e true =
+          let n : Component = with_end c (root_of m (object_of c) a.statics which argument turns moment) in
+          elim (cases_eq q id) [
+            | inl is ↦
+                ap (λ (k : ℕ). F (map.get (map.insert a.by_id id n) k)) is ∙ ap F (get_put a.by_id id n) ∙ same c (root_of m (object_of c) a.statics which argument turns moment) ∙ ap F (sym e)
+                ∙ ap (λ (k : ℕ). F (map.get a.by_id k)) (sym is)
+            | inr ne ↦ ap F (get_beside a.by_id id n q ne)
+          ]
+
+      by_component : (r : Option Component) → map.get a.by_id id ≡ r → F (map.get (run_by m a id which argument turns moment r).left.by_id q) ≡ F (map.get a.by_id q)
+      by_component None e = refl
+      by_component (Some c) e = by_test c e (c.fault == 0)
 
 is_zero : (n : ℕ) → n ≡ 0 → (n == 0) ≡ true
 is_zero n e = grind (arith, nat_tests)

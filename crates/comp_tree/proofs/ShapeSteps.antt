@@ -266,14 +266,8 @@ module _ (live : ℕ → Bool) (parent : ℕ → Option ℕ) (children : ℕ →
       ];
     }
 
-  -- without one and what stands below it
-  module _ (live' : ℕ → Bool) (parent' : ℕ → Option ℕ) (children' : ℕ → List ℕ) (id at : ℕ) (is_child : parent id ≡ Some at)
-      (live_gone : (x : ℕ) → In x (down_by children 17 id) → live' x ≡ false) (live_others : (x : ℕ) → (In x (down_by children 17 id) → ⊥) → live' x ≡ live x)
-      (parent_gone : (x : ℕ) → In x (down_by children 17 id) → parent' x ≡ None) (parent_others : (x : ℕ) → (In x (down_by children 17 id) → ⊥) → parent' x ≡ parent x)
-      (children_gone : (x : ℕ) → In x (down_by children 17 id) → children' x ≡ [])
-      (children_at : children' at ≡ filter (λ child. not (child == id)) (children at))
-      (children_others : (x : ℕ) → (In x (down_by children 17 id) → ⊥) → x ≢ at → children' x ≡ children x)
-      (decide : (x : ℕ) → In x (down_by children 17 id) ⊎ (In x (down_by children 17 id) → ⊥)) where
+  -- what stands at and below one that has a parent
+  module _ (id at : ℕ) (is_child : parent id ≡ Some at) where
     -- what is below one that goes goes too
     closed : (x y : ℕ) → In x (down_by children 17 id) → parent y ≡ Some x → In y (down_by children 17 id)
     closed x y h e =
@@ -298,7 +292,7 @@ module _ (live : ℕ → Bool) (parent : ℕ → Option ℕ) (children : ℕ →
     first_gone : In id (down_by children 17 id)
     first_gone = up_below live parent children tree zero 17 id id (omega arith) refl
 
-    at_stays : In at (down_by children 17 id) → ⊥
+    pub at_stays : In at (down_by children 17 id) → ⊥
     at_stays h =
         let n = below_up live parent children tree 17 id at h in
         let up : up_by parent (suc n.0) id ≡ Some id = ap (option_and_then (up_by parent n.0)) is_child ∙ n.2 in
@@ -315,6 +309,14 @@ module _ (live : ℕ → Bool) (parent : ℕ → Option ℕ) (children : ℕ →
         go zero up = let same : 0 ≡ id = cc in let no : ◌≡◌ {A = Option ℕ} None (Some at) = sym tree.root ∙ ap parent same ∙ is_child in cc
         go (suc n) up = let no : ◌≡◌ {A = Option ℕ} None (Some id) = sym (ap (option_and_then (up_by parent n)) tree.root) ∙ up in cc
 
+  -- without one and what stands below it
+  module _ (live' : ℕ → Bool) (parent' : ℕ → Option ℕ) (children' : ℕ → List ℕ) (id at : ℕ) (is_child : parent id ≡ Some at)
+      (live_gone : (x : ℕ) → In x (down_by children 17 id) → live' x ≡ false) (live_others : (x : ℕ) → (In x (down_by children 17 id) → ⊥) → live' x ≡ live x)
+      (parent_gone : (x : ℕ) → In x (down_by children 17 id) → parent' x ≡ None) (parent_others : (x : ℕ) → (In x (down_by children 17 id) → ⊥) → parent' x ≡ parent x)
+      (children_gone : (x : ℕ) → In x (down_by children 17 id) → children' x ≡ [])
+      (children_at : children' at ≡ filter (λ child. not (child == id)) (children at))
+      (children_others : (x : ℕ) → (In x (down_by children 17 id) → ⊥) → x ≢ at → children' x ≡ children x)
+      (decide : (x : ℕ) → In x (down_by children 17 id) ⊎ (In x (down_by children 17 id) → ⊥)) where
     filter_in : (x : ℕ) (xs : List ℕ) → In x xs → x ≢ id → In x (filter (λ child. not (child == id)) xs)
     filter_in x [] never ne = absurd never
     filter_in x (y ∷ xs) h ne = kept (y == id) refl h (λ k. filter_in x xs k ne)
@@ -347,10 +349,10 @@ module _ (live : ℕ → Bool) (parent : ℕ → Option ℕ) (children : ℕ →
     in_stays : (x above : ℕ) → In x (children above) → (In x (down_by children 17 id) → ⊥) → In x (children' above)
     in_stays x above h stays =
         let e = in_child live parent children tree x above h in
-        let above_stays : In above (down_by children 17 id) → ⊥ = λ gone. stays (closed above x gone e) in
+        let above_stays : In above (down_by children 17 id) → ⊥ = λ gone. stays (closed id at is_child above x gone e) in
         elim (cases_eq above at) [
           | inl same ↦
-              let ne : x ≢ id = λ is. stays (subst (λ (k : ℕ). In k (down_by children 17 id)) (sym is) first_gone) in
+              let ne : x ≢ id = λ is. stays (subst (λ (k : ℕ). In k (down_by children 17 id)) (sym is) (first_gone id at is_child)) in
               subst (λ (k : ℕ). In x (children' k)) (sym same) (subst (In x) (sym children_at) (filter_in x (children at) (subst (λ (k : ℕ). In x (children k)) same h) ne))
           | inr ne ↦ subst (In x) (sym (children_others above above_stays ne)) h
         ]
@@ -362,12 +364,12 @@ module _ (live : ℕ → Bool) (parent : ℕ → Option ℕ) (children : ℕ →
         | inl same ↦
             let r = in_filter x (children at) (subst (In x) children_at (subst (λ (k : ℕ). In x (children' k)) same h)) in
             let old : In x (children above) = subst (λ (k : ℕ). In x (children k)) (sym same) r.0 in
-            (old, λ gone. elim (above_gone x above gone (in_child live parent children tree x above old)) [ inl is ↦ r.1 is | inr up ↦ above_stays up ])
+            (old, λ gone. elim (above_gone id at is_child x above gone (in_child live parent children tree x above old)) [ inl is ↦ r.1 is | inr up ↦ above_stays up ])
         | inr ne ↦
             let old : In x (children above) = subst (In x) (children_others above above_stays ne) h in
             let e = in_child live parent children tree x above old in (
               old,
-              λ gone. elim (above_gone x above gone e) [
+              λ gone. elim (above_gone id at is_child x above gone e) [
                 | inl is ↦ ne (let both : ◌≡◌ {A = Option ℕ} (Some above) (Some at) = sym e ∙ ap parent is ∙ is_child in cc)
                 | inr up ↦ above_stays up
               ],
@@ -382,12 +384,12 @@ module _ (live : ℕ → Bool) (parent : ℕ → Option ℕ) (children : ℕ →
         go : ((y : ℕ) → (In y (down_by children 17 id) → ⊥) → up_by parent n y ≡ Some 0 → up_by parent' n y ≡ Some 0)
             → (r : Option ℕ) → parent x ≡ r → option_and_then (up_by parent n) r ≡ Some 0 → up_by parent' (suc n) x ≡ Some 0
         go more None is e = absurd (let no = e in cc)
-        go more (Some y) is e = ap (option_and_then (up_by parent' n)) (parent_others x stays ∙ is) ∙ more y (λ gone. stays (closed y x gone is)) e
+        go more (Some y) is e = ap (option_and_then (up_by parent' n)) (parent_others x stays ∙ is) ∙ more y (λ gone. stays (closed id at is_child y x gone is)) e
 
     pub tree_less : IsTree live' parent' children'
     tree_less = record {
-      app = live_others 0 root_stays ∙ tree.app;
-      root = parent_others 0 root_stays ∙ tree.root;
+      app = live_others 0 (root_stays id at is_child) ∙ tree.app;
+      root = parent_others 0 (root_stays id at is_child) ∙ tree.root;
       up = λ x above e. elim (decide x) [
         | inl gone ↦ absurd (let no : ◌≡◌ {A = Option ℕ} None (Some above) = sym (parent_gone x gone) ∙ e in cc)
         | inr stays ↦ in_to (children' above) x (in_stays x above (child_in live parent children tree x above (sym (parent_others x stays) ∙ e)) stays)

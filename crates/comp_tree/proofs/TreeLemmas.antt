@@ -18,7 +18,7 @@ use Rattle.sed_typed.specs.SysTypes.{app_type}
 use Rattle.sed_engine.specs.declared.engine.Engine.{Ghosts}
 use Rattle.sed_engine.specs.Code.{Meaning, Object, Places, data_of, is_property, property_type, slot_form, slot_value}
 use Rattle.comp_tree.specs.declared.entry.Entry.{Entry}
-use Rattle.comp_tree.specs.declared.node.Node.{Node}
+use Rattle.node_table.specs.declared.node.Node.{Node}
 use Rattle.comp_tree.specs.Application.{ById, Component, children_of, data_size_of, object_of, value_at}
 use Rattle.comp_tree.specs.Edits.{app_class, app_component}
 use Rattle.comp_tree.specs.Held.{Held, Nodes, IsPlaced, IsPropertyOf, by_id_of, component_of, components_of, contents_at}

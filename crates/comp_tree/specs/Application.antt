@@ -8,6 +8,7 @@ use Rattle.sed_value.specs.declared.value.Value.{Value}
 use Rattle.sed_value.specs.declared.value.Value.TheVariants.{Nothing}
 use Rattle.sed_typed.specs.declared.schema.SlotForm.{SlotForm}
 use Rattle.sed_typed.specs.Contents.{Contents}
+pub use Rattle.node_table.specs.Limits.{most_children, most_components}
 use Rattle.sed_engine.specs.Code.{Meaning, Object, property_type, slot_form, slot_value}
 
 -- a component: its class, its name, its parent, which the App alone has not, its children in their order, its values by path,
@@ -42,12 +43,6 @@ pub record Application : Type 0 where
   pub links : List Link
 
 -- ---- limits
-
-abbrev pub most_components : ℕ
-most_components = 4096
-
-abbrev pub most_children : ℕ
-most_children = 200
 
 -- the App stands at depth 0
 abbrev pub greatest_depth : ℕ

@@ -3,6 +3,7 @@ use Rattle.std.specs.Prelude.{ℕ, ℤ, ◌==◌, not, if◌then◌else◌, List
 use Rattle.std.specs.List.{list_any, zip}
 use Rattle.std.specs.Option.{option_map_or}
 use Rattle.std.specs.FinMap as map
+use Rattle.std.specs.Ordering.{nat_cmp}
 use Rattle.sed_value.specs.declared.value.Value.{Value}
 use Rattle.sed_value.specs.declared.value.Value.TheVariants.{Nothing}
 use Rattle.sed_typed.specs.declared.number.SlotNo.{SlotNo}
@@ -67,8 +68,8 @@ after_add m a parent class name config turns moment =
 
 -- ---- delete
 
--- without these components
-abbrev pub without_all : List ℕ → ById → ById
+-- without what has one of these ids
+abbrev pub without_all : {V : Type 0} → List ℕ → map.FinMap nat_cmp V → map.FinMap nat_cmp V
 without_all ids all = map.retain_keys all (λ id. not (list_any (λ other. other == id) ids))
 
 -- without a component and those below it: its parent has one child less

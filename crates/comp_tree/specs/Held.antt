@@ -8,7 +8,7 @@ use Rattle.sed_value.specs.declared.id.Id.{Id}
 use Rattle.sed_typed.specs.Contents.{Contents}
 use Rattle.sed_engine.specs.declared.engine.Engine.{Ghosts}
 use Rattle.sed_engine.specs.Code.{Meaning, Object, Places, data_of, is_property}
-use Rattle.comp_tree.specs.declared.node.Node.{Node}
+use Rattle.node_table.specs.declared.node.Node.{Node}
 use Rattle.comp_tree.specs.Mapped.{map_values}
 use Rattle.comp_tree.specs.Application.{ById, Component, Components, data_size_of, object_of}
 use Rattle.comp_tree.specs.Refusals.{first_refusal, refusals_of_read}

@@ -11,10 +11,7 @@ pub mod Edits
 pub mod Cycle
 pub mod Edit
 pub mod Whole
-pub mod Indexed
-pub mod Taken
 pub mod Shape
-pub mod Changed
 pub mod Held
 pub mod Told
 pub mod Read

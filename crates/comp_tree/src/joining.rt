@@ -11,9 +11,8 @@ ghost use Rattle.comp_tree.specs.Held.{by_id_of, name_in, parent_in};
 ghost use Rattle.comp_tree.specs.Order.{most_levels};
 ghost use Rattle.comp_tree.specs.Refusals.{first_refusal, is_abstract_class, is_for_components as for_components, is_sys_type as sys_type};
 
-use crate::children::MOST_CHILDREN;
-use crate::nodes::{MOST_COMPONENTS, Nodes};
 use crate::siblings::is_named;
+use node_table::{MOST_CHILDREN, MOST_COMPONENTS, Nodes};
 use sed_typed::{Schema, TypeNo};
 use sed_value::{Id, Name, Refusal};
 
@@ -85,8 +84,8 @@ fn depth(nodes: &Nodes, id: Id) -> usize
     GREATEST_DEPTH + 1
 }
 
-// The parent of a node.
-fn parent_of(nodes: &Nodes, id: Id) -> Option<Id>
+/// The parent of a node.
+pub fn parent_of(nodes: &Nodes, id: Id) -> Option<Id>
     ensures { option_map (λ up. up.0) result ≡ parent_in nodes.now id.0 }
 {
     match nodes.get(id) {

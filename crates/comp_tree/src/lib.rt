@@ -5,23 +5,19 @@
 //! to it and when it is refused, and what a cycle does; they name no engine. A `Tree` keeps the
 //! components over an `Engine`, which keeps their values and runs their root calls; each of its
 //! calls leaves what the definition of its name says, or gives the first refusal of its table and
-//! leaves all as it was. Nodes are kept with the kit's slab; room for all that there may be is
-//! taken when a tree is made. Links and cycles are to stand on it.
+//! leaves all as it was. Nodes are kept in a table; room for all that there may be is taken when a
+//! tree is made. Links and cycles are to stand on it.
 #![tactic(auto)]
 
-mod children;
 mod config;
 pub mod entry;
 mod joining;
-mod node;
-mod nodes;
+mod leaving;
 mod order;
 mod siblings;
-mod taken;
 pub mod tree;
 mod values;
 
-pub use children::MOST_CHILDREN;
 pub use entry::Entry;
-pub use nodes::MOST_COMPONENTS;
+pub use node_table::{MOST_CHILDREN, MOST_COMPONENTS};
 pub use tree::Tree;

@@ -4,12 +4,11 @@ ghost use Rattle.std.specs.FinMap as map;
 ghost use Rattle.std.specs.List.{list_all};
 ghost use Rattle.sed_engine.specs.Code.{Places};
 ghost use Rattle.comp_tree.specs.Application.{most_children};
-ghost use Rattle.comp_tree.specs.Changed.{with_children};
+ghost use Rattle.node_table.specs.Changed.{with_children};
 ghost use Rattle.comp_tree.specs.Held.{by_id_of};
 ghost use Rattle.comp_tree.specs.Refusals.{are_each_once as each_once, first_refusal, ids_of, refusals_of_reorder};
 
-use crate::children::{Children, MOST_CHILDREN};
-use crate::nodes::Nodes;
+use node_table::{Children, MOST_CHILDREN, Nodes};
 use sed_value::{Id, Refusal};
 use sed_wire::Reader;
 

@@ -5,11 +5,11 @@ ghost use Rattle.std.specs.List.{list_any};
 ghost use Rattle.std.specs.Option.{option_map_or};
 ghost use Rattle.std.specs.Str.{bytes_eq};
 ghost use Rattle.sed_engine.specs.Code.{Places};
-ghost use Rattle.comp_tree.specs.Changed.{with_name};
+ghost use Rattle.node_table.specs.Changed.{with_name};
 ghost use Rattle.comp_tree.specs.Held.{by_id_of, children_in, name_in};
 ghost use Rattle.comp_tree.specs.Refusals.{first_refusal, refusals_of_rename};
 
-use crate::nodes::Nodes;
+use node_table::Nodes;
 use sed_value::{Id, Name, Refusal};
 
 /// The name that a component is to have, or why it may not.

@@ -13,12 +13,11 @@ ghost use Rattle.comp_tree.specs.Told.{IsEntry, IsGreatest};
 
 mod adding;
 mod editing;
+mod removing;
 mod running;
 
-use crate::children::Children;
 use crate::entry::Entry;
-use crate::node::Node;
-use crate::nodes::Nodes;
+use node_table::{Children, Node, Nodes};
 use sed_engine::{AddRefusal, Engine, Place};
 use sed_typed::{Schema, SlotForm, SlotNo, TypeNo};
 use sed_value::{Id, Name, Refusal, SlotBuf};
@@ -36,7 +35,7 @@ pub struct Tree<E: Engine> {
 }
 
 impl<E: Engine> Model for Tree<E> {
-    ghost use Rattle.comp_tree.specs.contracts.node.Node as node;
+    ghost use Rattle.node_table.specs.contracts.node.Node as node;
     ghost use Rattle.comp_tree.specs.Held.{Held, held_code, IsHeld};
 
     ghost Value = { Held E };

@@ -1,6 +1,6 @@
 use Rattle.std.proofs.Common.{sym, ap, ◌∙◌}
 use Rattle.std.specs.FinMap as map
-use Rattle.comp_tree.specs.Changed.{with_children}
+use Rattle.node_table.specs.Changed.{with_children}
 use Rattle.comp_tree.proofs.NodeTrees.{back_is}
 use Rattle.comp_tree.proofs.MapLemmas.{taken_out}
 use Rattle.comp_tree.proofs.order.reorder_node.Goals as goal

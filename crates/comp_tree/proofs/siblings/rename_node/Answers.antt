@@ -1,6 +1,6 @@
 use Rattle.std.proofs.Common.{sym, ap, ◌∙◌}
 use Rattle.std.specs.FinMap as map
-use Rattle.comp_tree.specs.Changed.{with_name}
+use Rattle.node_table.specs.Changed.{with_name}
 use Rattle.comp_tree.proofs.NodeTrees.{back_is}
 use Rattle.comp_tree.proofs.MapLemmas.{taken_out}
 use Rattle.comp_tree.proofs.siblings.rename_node.Goals as goal

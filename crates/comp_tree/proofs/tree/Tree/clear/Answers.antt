@@ -1,5 +1,5 @@
 use Rattle.std.proofs.Common.{refl, sym, ap, ◌∙◌}
-use Rattle.comp_tree.specs.Changed.{with_fault}
+use Rattle.node_table.specs.Changed.{with_fault}
 use Rattle.comp_tree.specs.Edits.{after_clear, without_fault}
 use Rattle.comp_tree.specs.Held.{Held, by_id_of, components_of}
 use Rattle.comp_tree.specs.Refusals.{first_refusal, refusals_of_clear}

@@ -1,6 +1,6 @@
 use Rattle.std.proofs.Common.{refl, sym, ap, ◌∙◌}
 use Rattle.std.specs.FinMap as map
-use Rattle.comp_tree.specs.Changed as node
+use Rattle.node_table.specs.Changed as node
 use Rattle.comp_tree.specs.Edits.{after_rename, with_name}
 use Rattle.comp_tree.specs.Held.{Held, by_id_of, components_of}
 use Rattle.comp_tree.specs.Refusals.{first_refusal, refusals_of_rename}

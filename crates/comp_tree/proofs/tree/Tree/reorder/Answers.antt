@@ -2,7 +2,7 @@ use Rattle.std.proofs.Common.{ℕ, List, [], refl, sym, ap, ◌∙◌}
 use Rattle.std.specs.FinMap as map
 use Rattle.std.specs.Option.{option_map_or}
 use Rattle.comp_tree.specs.Application.{change_at, with_components}
-use Rattle.comp_tree.specs.Changed as node
+use Rattle.node_table.specs.Changed as node
 use Rattle.comp_tree.specs.Edits.{after_reorder, with_children}
 use Rattle.comp_tree.specs.Held.{Held, by_id_of, components_of}
 use Rattle.comp_tree.specs.Refusals.{first_refusal, refusals_of_reorder}

@@ -1,7 +1,7 @@
 use Rattle.std.proofs.Common.{ℕ, List, [], ◌∷◌, ◌++◌, ◌<◌, length, sym, ap, ◌∙◌}
 use Rattle.std.specs.FinMap as map
-use Rattle.comp_tree.specs.declared.node.Node.{Node}
-use Rattle.comp_tree.specs.Changed.{with_children}
+use Rattle.node_table.specs.declared.node.Node.{Node}
+use Rattle.node_table.specs.Changed.{with_children}
 use Rattle.comp_tree.proofs.EditLemmas.{of_found}
 use Rattle.comp_tree.proofs.NodeTrees.{back_is}
 use Rattle.comp_tree.proofs.MapLemmas.{taken_out}

@@ -1,0 +1,4 @@
+pub mod Limits
+pub mod Indexed
+pub mod Taken
+pub mod Changed
