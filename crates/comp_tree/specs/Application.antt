@@ -10,6 +10,7 @@ use Rattle.sed_typed.specs.declared.schema.SlotForm.{SlotForm}
 use Rattle.sed_typed.specs.Contents.{Contents}
 pub use Rattle.node_table.specs.Limits.{most_children, most_components}
 use Rattle.sed_engine.specs.Code.{Meaning, Object, property_type, slot_form, slot_value}
+pub use Rattle.link_table.specs.Link.{Link, most_links}
 
 -- a component: its class, its name, its parent, which the App alone has not, its children in their order, its values by path,
 -- and its fault, 0 where it has none
@@ -30,13 +31,6 @@ pub record Components : Type 0 where
   pub statics : Contents
   pub limit : ℕ
 
--- from a slot of a component to a slot of a component
-pub record Link : Type 0 where
-  pub from : ℕ
-  pub from_slot : ℕ
-  pub to : ℕ
-  pub to_slot : ℕ
-
 -- the links stand in ascending order of the target's id and then slot
 pub record Application : Type 0 where
   pub components : Components
@@ -47,9 +41,6 @@ pub record Application : Type 0 where
 -- the App stands at depth 0
 abbrev pub greatest_depth : ℕ
 greatest_depth = 16
-
-abbrev pub most_links : ℕ
-most_links = 8192
 
 abbrev pub most_links_at_component : ℕ
 most_links_at_component = 60

@@ -1,11 +1,12 @@
 -- Links between slots, and what is copied along them.
-use Rattle.std.specs.Prelude.{ℕ, ◌==◌, ◌||◌, ◌&&◌, Bool, true, false, not, nat_lt, if◌then◌else◌, List, [], ◌∷◌, filter, Option, Some, ℤ}
-use Rattle.std.specs.List.{fold, list_any}
+use Rattle.std.specs.Prelude.{ℕ, ◌==◌, ◌&&◌, Bool, true, false, not, if◌then◌else◌, List, Option, Some, ℤ}
+use Rattle.std.specs.List.{fold}
 use Rattle.sed_value.specs.declared.slot_type.Primitive.{Primitive}
 use Rattle.sed_value.specs.declared.slot_type.Primitive.TheVariants.{Bool as BoolType, Byte as ByteType, Short as ShortType, Int as IntType, Long as LongType}
 use Rattle.sed_value.specs.declared.slot_type.SlotType.{SlotType}
 use Rattle.sed_value.specs.declared.slot_type.SlotType.TheVariants.{Prim, Buf}
 use Rattle.sed_value.specs.declared.value.Value.{Value}
+pub use Rattle.link_table.specs.Links.{is_same_link, has_target, is_before, with_link, without_link, without_links_at, links_into}
 use Rattle.sed_engine.specs.declared.call.Callback.TheVariants.{Changed}
 use Rattle.sed_engine.specs.Code.{Meaning, with_slot}
 use Rattle.comp_tree.specs.Application.{Component, Components, Link, change_at, object_of, value_at, with_components}
@@ -35,34 +36,6 @@ go_together from to = false
 abbrev pub go_together_if_there : Option SlotType → Option SlotType → Bool
 go_together_if_there (Some from) (Some to) = go_together from to
 go_together_if_there from to = false
-
--- ---- the list of links
-
-abbrev pub is_same_link : Link → Link → Bool
-is_same_link k l = (k.from == l.from) && (k.from_slot == l.from_slot) && (k.to == l.to) && (k.to_slot == l.to_slot)
-
-abbrev pub has_target : ℕ → ℕ → Link → Bool
-has_target id slot l = (l.to == id) && (l.to_slot == slot)
-
--- the target of one comes before that of another
-abbrev pub is_before : Link → Link → Bool
-is_before k l = nat_lt k.to l.to || ((k.to == l.to) && nat_lt k.to_slot l.to_slot)
-
--- with one link more, at its place in the order of the targets
-abbrev pub with_link : Link → List Link → List Link
-with_link l [] = l ∷ []
-with_link l (k ∷ ks) = if is_before k l then k ∷ with_link l ks else l ∷ k ∷ ks
-
-abbrev pub without_link : Link → List Link → List Link
-without_link l links = filter (λ k. not (is_same_link k l)) links
-
--- without each link from or to one of these components
-abbrev pub without_links_at : List ℕ → List Link → List Link
-without_links_at ids links = filter (λ l. not (list_any (λ id. (l.from == id) || (l.to == id)) ids)) links
-
--- the links into a component, by ascending target slot
-abbrev pub links_into : ℕ → List Link → List Link
-links_into id links = filter (λ l. l.to == id) links
 
 -- ---- values that are stored
 

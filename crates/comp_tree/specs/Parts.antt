@@ -1,5 +1,5 @@
 -- The parts of a component as bytes, and what of an application is kept in a file.
-use Rattle.std.specs.Prelude.{ℕ, ◌==◌, ◌&&◌, ◌||◌, Bool, true, false, not, if◌then◌else◌, List, [], ◌∷◌, ◌++◌, length, slice_get, map, filter, Option, Some, None}
+use Rattle.std.specs.Prelude.{ℕ, ◌==◌, ◌&&◌, Bool, true, false, not, if◌then◌else◌, List, [], ◌∷◌, ◌++◌, length, slice_get, map, filter, Option, Some, None}
 use Rattle.std.specs.Option.{option_map_or}
 use Rattle.std.specs.List.{enumerate_from, flat_map, fold}
 use Rattle.std.specs.Int.{bytes_high_first}
@@ -11,6 +11,7 @@ use Rattle.sed_typed.specs.declared.schema.SlotInfo.{SlotInfo}
 use Rattle.sed_typed.specs.Classes.{slots}
 use Rattle.sed_typed.specs.Contents.{Contents}
 use Rattle.sed_engine.specs.Code.{Meaning, Object, new_object, slot_value, with_slot}
+pub use Rattle.link_table.specs.Links.{links_at}
 use Rattle.comp_tree.specs.Mapped.{map_values}
 use Rattle.comp_tree.specs.Application.{Application, ById, Component, Link, object_of}
 use Rattle.comp_tree.specs.Values.{spelling_of_all}
@@ -76,10 +77,6 @@ runtime_part m c = spelling_of_all (values_in m c (runtime_slots m c.class))
 
 abbrev pub link_bytes : Link → List ℕ
 link_bytes l = u2 l.from ++ u1 l.from_slot ++ u2 l.to ++ u1 l.to_slot
-
--- the links at a component, those from it and those into it
-abbrev pub links_at : ℕ → List Link → List Link
-links_at id links = filter (λ l. (l.from == id) || (l.to == id)) links
 
 -- `l`: the links at the component, in the order of their targets
 abbrev pub link_part : ℕ → List Link → List ℕ
