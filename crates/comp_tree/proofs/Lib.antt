@@ -17,3 +17,4 @@ pub mod EditLemmas
 pub mod AllowedLemmas
 pub mod AddLemmas
 pub mod DeleteLemmas
+pub mod FitLemmas

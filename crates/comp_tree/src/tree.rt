@@ -12,6 +12,7 @@ ghost use Rattle.comp_tree.specs.Refusals.{first_refusal, refusals_of_read};
 ghost use Rattle.comp_tree.specs.Told.{IsEntry, IsGreatest};
 
 mod adding;
+mod copying;
 mod editing;
 mod removing;
 mod running;

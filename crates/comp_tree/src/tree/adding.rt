@@ -52,6 +52,7 @@ impl<E: Engine> Tree<E> {
         requires some_turns { 1 ≤ turns }
         requires most_turns { turns ≤ 1000000 }
         ensures id { IfOk result (λ id. id.0 ≡ least_free (components_of E.Engine self.old).by_id) }
+        ensures fresh { IfOk result (λ id. map.get (components_of E.Engine self.old).by_id id.0 ≡ None) }
         ensures done { OnOk result (components_of E.Engine self.new ≡ (after_add (E.meaning self.old.engine) (components_of E.Engine self.old) parent.0 (class_or_none (E.meaning self.old.engine) kit number) name.now config.now turns ticks).left) }
         ensures allowed { OnOk result (first_refusal (refusals_of_add (E.meaning self.old.engine) (components_of E.Engine self.old) parent.0 kit number name.now config.now) ≡ None) }
         ensures refused { IfErr result (λ refusal. refusal ≢ OutOfMemory → first_refusal (refusals_of_add (E.meaning self.old.engine) (components_of E.Engine self.old) parent.0 kit number name.now config.now) ≡ Some refusal) }
@@ -116,6 +117,7 @@ impl<E: Engine> Tree<E> {
         requires room { HasRoom (components_of E.Engine self.old).by_id parent.0 }
         requires good { refusal_after false (types_in (slots (E.meaning self.old.engine).schema.classes kind.0)) config.now ≡ None }
         ensures id { IfOk result (λ id. id.0 ≡ least_free (components_of E.Engine self.old).by_id) }
+        ensures fresh { IfOk result (λ id. map.get (components_of E.Engine self.old).by_id id.0 ≡ None) }
         ensures live { IfOk result (λ id. IsTrue (is_live (components_of E.Engine self.new).by_id id.0)) }
         ensures done { IfOk result (λ id. components_of E.Engine self.new ≡ with_components (components_of E.Engine self.old) (added (E.meaning self.old.engine) (components_of E.Engine self.old).by_id id.0 parent.0 kind.0 name (taken (config_types (E.meaning self.old.engine) kind.0) config.now))) }
         ensures full { (result ≡ Err AddRefusal.DataFull) ↔ ((components_of E.Engine self.old).limit < data_size_of (E.meaning self.old.engine) (components_of E.Engine self.old).by_id + (E.meaning self.old.engine).data_size kind.0) }

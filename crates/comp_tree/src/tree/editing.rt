@@ -180,7 +180,7 @@ impl<E: Engine> Tree<E> {
 
     // Stores a value in a property of a component, as an assignment does, and says whether what is
     // kept differs from before.
-    fn store(&mut self, id: Id, slot: u8, value: &SlotBuf) -> bool
+    pub(super) fn store(&mut self, id: Id, slot: u8, value: &SlotBuf) -> bool
         requires { IsSomeAnd (map.get (components_of E.Engine self.old).by_id id.0) (λ c. IsTrue (may_store (E.meaning self.old.engine) c.class slot value.now)) }
         ensures stored { components_of E.Engine self.new ≡ stored (E.meaning self.old.engine) (components_of E.Engine self.old) id.0 slot value.now }
         ensures changed { result ≡ has_changed (E.meaning self.old.engine) (components_of E.Engine self.old) (stored (E.meaning self.old.engine) (components_of E.Engine self.old) id.0 slot value.now) id.0 slot }

@@ -14,6 +14,7 @@ use Rattle.comp_tree.specs.Values.{taken}
 use Rattle.comp_tree.proofs.AddLemmas.{few_children, free_pushed, grown_held, grown_is, grown_live, least_is, len_same, live_two}
 use Rattle.comp_tree.proofs.EditLemmas.{live_same, some_of}
 use Rattle.comp_tree.proofs.MapLemmas.{get_put}
+use Rattle.comp_tree.proofs.TreeLemmas.{no_component}
 use Rattle.comp_tree.proofs.tree.Tree.grow.Goals as goal
 
 pub add-requires-clause-creatable : goal.add-requires-clause-creatable
@@ -89,3 +90,8 @@ pub returns-in-Err-clause-stays : goal.returns-in-Err-clause-stays
 returns-in-Err-clause-stays g c =
     let by_id = ap (λ l. by_id_of l c.self.inside.nodes) c.in-Err.ensures.refused in
     (λ i. record { by_id = by_id i; statics = c.in-Err.ensures.statics i; limit = c.in-Err.ensures.limit i }) ∙ ap (λ (x : Held _). components_of g.E.Engine x) c.self.view_is
+
+pub returns-clause-fresh : goal.returns-clause-fresh
+returns-clause-fresh g c =
+    ap (λ (x : Held _). map.get (by_id_of (g.E.Engine.live x.engine) x.nodes) c.least_free-id.result.0) (sym c.self.view_is)
+    ∙ no_component (g.E.Engine.live c.self.inside.engine) c.self.inside.nodes c.least_free-id.result.0 c.least_free-id.ensures.free

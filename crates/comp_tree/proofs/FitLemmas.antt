@@ -1,0 +1,208 @@
+-- What a slot holds is of its type, and may be stored where the types go together.
+use Rattle.std.proofs.Common.{ℕ, ◌≡◌, Bool, true, false, not, refl, sym, ◌∙◌, ap, subst}
+use Rattle.std.specs.Prelude.{Option, Some, None, IsTrue, IsSome, IsSomeAnd, IfSome, is_some, List, [], ◌∷◌, map, ◌&&◌, ◌||◌, nat_le, nat_lt, length, if◌then◌else◌, ◌==◌}
+use Rattle.std.specs.Option.{option_and_then, option_map, option_map_or}
+use Rattle.std.specs.FinMap as finite
+use Rattle.std.specs.List.{list_all, list_any}
+use Rattle.std.specs.Str.{bytes_eq}
+use Rattle.std.proofs.lemmas.Bool.{eqb-true}
+use Rattle.std.proofs.lemmas.Slice.Eq.{bytes_eq-Decides}
+use Rattle.sed_value.specs.Value.{are_bytes, goes_to, is_of_type, reads_as_int}
+use Rattle.sed_value.specs.declared.slot_type.Primitive.{Primitive}
+use Rattle.sed_value.specs.declared.slot_type.Primitive.TheVariants.{Bool as BoolType, Byte as ByteType, Short as ShortType, Int as IntType, Long as LongType}
+use Rattle.sed_value.specs.declared.slot_type.SlotType.{SlotType}
+use Rattle.sed_value.specs.declared.slot_type.SlotType.TheVariants.{Prim, Buf}
+use Rattle.sed_value.specs.declared.value.Value.{Value}
+use Rattle.sed_value.specs.declared.value.Value.TheVariants.{Nothing}
+use Rattle.sed_value.specs.declared.value.Value.TheVariants as kept
+use Rattle.sed_typed.specs.declared.program.FieldForm.{FieldForm}
+use Rattle.sed_typed.specs.Contents.{Contents, Path, value_at}
+use Rattle.sed_engine.specs.Code.{Meaning, Object, Places, may_store, property_type, slot_form, slot_path, slot_type, slot_value}
+use Rattle.sed_engine.specs.Fits.{Fits, all_kept, form_at, form_of, is_kept, keeps}
+use Rattle.sed_engine.specs.Whole.{HasTables, IsObject, IsWhole, field_form}
+use Rattle.node_table.specs.declared.node.Node.{Node}
+use Rattle.comp_tree.specs.Application.{ById, Component, object_of, type_at, value_at as component_value}
+use Rattle.comp_tree.specs.Held.{IsPlaced, Nodes, by_id_of, component_of}
+use Rattle.comp_tree.proofs.MapLemmas.{get-map_values}
+use Rattle.comp_tree.proofs.TreeLemmas.{kept_here}
+use Rattle.comp_tree.specs.Links.{are_same_primitive, go_together, go_together_if_there, reads_as_int as kept_as_int}
+
+-- ---- contents that fit
+
+pub some_and : {A : Type 0} {P : A → Type 0} (o : Option A) → IsSomeAnd o P → (x : A) × (◌≡◌ {A = Option A} o (Some x)) × P x
+some_and None h = absurd h
+some_and (Some x) h = (x, refl, h)
+
+some_is : {A : Type 0} (o : Option A) → IsSome o → (x : A) × (◌≡◌ {A = Option A} o (Some x))
+some_is None h = absurd (let no : false ≡ true = h in cc)
+some_is (Some x) h = (x, refl)
+
+has_path : (es : Contents) (p : Path) → is_some (value_at es p) ≡ list_any (λ q. bytes_eq q p) (map (λ e. e.0) es)
+has_path [] p = refl
+has_path (e ∷ es) p = by_test (bytes_eq e.0 p) (has_path es p)
+  where
+    by_test : (b : Bool) → is_some (value_at es p) ≡ list_any (λ q. bytes_eq q p) (map (λ e. e.0) es)
+        → is_some (if b then Some e.1 else value_at es p) ≡ (b || list_any (λ q. bytes_eq q p) (map (λ e. e.0) es))
+    by_test true rest = refl
+    by_test false rest = rest
+
+kept_at : (form : Path → Option FieldForm) (es : Contents) (p : Path) (v : Value) → IsTrue (all_kept form es) → value_at es p ≡ Some v → IsTrue (is_kept (form p) v)
+kept_at form [] p v all at = absurd (let no : ◌≡◌ {A = Option Value} None (Some v) = at in cc)
+kept_at form (e ∷ es) p v all at = by_test (bytes_eq e.0 p) refl (is_kept (form e.0) e.1) refl all at (kept_at form es p v)
+  where
+    by_test : (b : Bool) → bytes_eq e.0 p ≡ b → (k : Bool) → is_kept (form e.0) e.1 ≡ k → (k && all_kept form es) ≡ true
+        → (if b then Some e.1 else value_at es p) ≡ Some v → (IsTrue (all_kept form es) → value_at es p ≡ Some v → IsTrue (is_kept (form p) v))
+        → IsTrue (is_kept (form p) v)
+    by_test true same true is all at later =
+        let value : e.1 ≡ v = cc in
+        subst (λ q. IsTrue (is_kept (form q) v)) ((bytes_eq-Decides e.0 p).0 same) (subst (λ v. IsTrue (is_kept (form e.0) v)) value is)
+    by_test true same false is all at later = absurd (let no : false ≡ true = all in cc)
+    by_test false same true is all at later = later all at
+    by_test false same false is all at later = absurd (let no : false ≡ true = all in cc)
+
+module _ (m : Meaning) (o : Object) (slot : ℕ) (t : SlotType) (tables : HasTables m) (object : IsObject m o) (is : slot_type m o.class slot ≡ Some t) where
+  field : (i : ℕ) × (m.slot_field o.class slot ≡ Some i) × (form_at (m.fields o.class) i ≡ Some (field_form t))
+  field = some_and (m.slot_field o.class slot) (subst (λ (s : Option SlotType). IfSome s (λ t. IsSomeAnd (m.slot_field o.class slot) (λ i. form_at (m.fields o.class) i ≡ Some (field_form t)))) is (tables.slot_fields o.class slot))
+
+  path_is : slot_path m o.class slot ≡ field.0 ∷ []
+  path_is = ap (λ s. option_map_or (λ i. i ∷ []) s []) field.1
+
+  first : IsSome (value_at (m.initial o.class) (slot_path m o.class slot))
+  first = subst (λ (s : Option SlotType). IfSome s (λ t. IsSome (value_at (m.initial o.class) (slot_path m o.class slot)))) is (tables.values o.class slot)
+
+  there : is_some (value_at o.contents (slot_path m o.class slot)) ≡ is_some (value_at (m.initial o.class) (slot_path m o.class slot))
+  there =
+      has_path o.contents (slot_path m o.class slot)
+      ∙ ap (λ paths. list_any (λ q. bytes_eq q (slot_path m o.class slot)) paths) object.fits.paths
+      ∙ sym (has_path (m.initial o.class) (slot_path m o.class slot))
+
+  value : (v : Value) × (value_at o.contents (slot_path m o.class slot) ≡ Some v)
+  value = found (value_at o.contents (slot_path m o.class slot)) refl (value_at (m.initial o.class) (slot_path m o.class slot)) first there
+    where
+      found : (s : Option Value) → value_at o.contents (slot_path m o.class slot) ≡ s → (f : Option Value) → IsSome f → is_some s ≡ is_some f
+          → (v : Value) × (value_at o.contents (slot_path m o.class slot) ≡ Some v)
+      found (Some v) at f some same = (v, at)
+      found None at (Some v) some same = absurd (let no : false ≡ true = same in cc)
+      found None at None some same = absurd (let no : false ≡ true = some in cc)
+
+  of_form : (t : SlotType) (v : Value) → IsTrue (keeps (field_form t) v) → IsTrue (is_of_type t v)
+  of_form (Prim p) v h = h
+  of_form (Buf n) v h = h
+
+  form_is : form_of m.fields (m.fields o.class) (slot_path m o.class slot) ≡ Some (field_form t)
+  form_is = ap (form_of m.fields (m.fields o.class)) path_is ∙ below (form_at (m.fields o.class) field.0) field.2
+    where
+      below : (f : Option FieldForm) → f ≡ Some (field_form t) → form_of m.fields (m.fields o.class) (field.0 ∷ []) ≡ Some (field_form t)
+      below f e = rw (field.2) refl
+
+  pub slot_is_of_type : IsTrue (is_of_type t (slot_value m o slot))
+  slot_is_of_type =
+      subst (λ v. IsTrue (is_of_type t v)) (sym (ap (λ s. option_map_or (λ v. v) s Nothing) value.1))
+      (of_form t value.0
+      (subst (λ f. IsTrue (is_kept f value.0)) form_is
+      (kept_at (form_of m.fields (m.fields o.class)) o.contents (slot_path m o.class slot) value.0 object.fits.values value.1)))
+
+-- ---- types that go together
+
+left_or : (a b : Bool) → IsTrue a → IsTrue (a || b)
+left_or true b h = refl
+left_or false b h = absurd (let no : false ≡ true = h in cc)
+
+right_or : (a b : Bool) → IsTrue b → IsTrue (a || b)
+right_or true b h = refl
+right_or false b h = h
+
+first_of_three : (a b c : Bool) → IsTrue a → IsTrue (a || b || c)
+first_of_three true b c h = refl
+first_of_three false b c h = absurd (let no : false ≡ true = h in cc)
+
+second_of_three : (a b c : Bool) → IsTrue b → IsTrue (a || b || c)
+second_of_three true b c h = refl
+second_of_three false true c h = refl
+second_of_three false false c h = absurd (let no : false ≡ true = h in cc)
+
+third_of_three : (a b c : Bool) → IsTrue c → IsTrue (a || b || c)
+third_of_three true b c h = refl
+third_of_three false true c h = refl
+third_of_three false false c h = h
+
+-- what is of a type that reads as an int goes where ints go
+reads : (p : Primitive) (v : Value) → IsTrue (kept_as_int p) → IsTrue (is_of_type (Prim p) v) → IsTrue (reads_as_int v)
+reads ByteType v go is = first_of_three (is_of_type (Prim ByteType) v) (is_of_type (Prim ShortType) v) (is_of_type (Prim IntType) v) is
+reads ShortType v go is = second_of_three (is_of_type (Prim ByteType) v) (is_of_type (Prim ShortType) v) (is_of_type (Prim IntType) v) is
+reads IntType v go is = third_of_three (is_of_type (Prim ByteType) v) (is_of_type (Prim ShortType) v) (is_of_type (Prim IntType) v) is
+reads BoolType v go is = absurd (let no : false ≡ true = go in cc)
+reads LongType v go is = absurd (let no : false ≡ true = go in cc)
+
+goes_int : (to : Primitive) (v : Value) → IsTrue (kept_as_int to) → IsTrue (reads_as_int v) → IsTrue (goes_to (Prim to) v)
+goes_int ByteType v go is = is
+goes_int ShortType v go is = is
+goes_int IntType v go is = is
+goes_int BoolType v go is = absurd (let no : false ≡ true = go in cc)
+goes_int LongType v go is = absurd (let no : false ≡ true = go in cc)
+
+both : (a b : Bool) → IsTrue (a && b) → IsTrue a × IsTrue b
+both true b h = (refl, h)
+both false b h = absurd (let no : false ≡ true = h in cc)
+
+goes_prim : (from to : Primitive) (v : Value) → IsTrue (are_same_primitive from to) → IsTrue (is_of_type (Prim from) v) → IsTrue (goes_to (Prim to) v)
+goes_prim BoolType BoolType v go is = is
+goes_prim LongType LongType v go is = right_or (reads_as_int v) _ is
+goes_prim BoolType ByteType v go is = absurd (let no : false ≡ true = go in cc)
+goes_prim BoolType ShortType v go is = absurd (let no : false ≡ true = go in cc)
+goes_prim BoolType IntType v go is = absurd (let no : false ≡ true = go in cc)
+goes_prim BoolType LongType v go is = absurd (let no : false ≡ true = go in cc)
+goes_prim LongType BoolType v go is = absurd (let no : false ≡ true = go in cc)
+goes_prim LongType ByteType v go is = absurd (let no : false ≡ true = go in cc)
+goes_prim LongType ShortType v go is = absurd (let no : false ≡ true = go in cc)
+goes_prim LongType IntType v go is = absurd (let no : false ≡ true = go in cc)
+goes_prim ByteType to v go is = goes_int to v go (reads ByteType v refl is)
+goes_prim ShortType to v go is = goes_int to v go (reads ShortType v refl is)
+goes_prim IntType to v go is = goes_int to v go (reads IntType v refl is)
+
+goes_where : (from to : SlotType) (v : Value) → IsTrue (go_together from to) → IsTrue (is_of_type from v) → IsTrue (goes_to to v)
+goes_where (Prim p) (Prim q) v go is = goes_prim p q v go is
+goes_where (Buf n) (Buf k) v go is = subst (λ k. IsTrue (is_of_type (Buf k) v)) (eqb-true n k go) is
+goes_where (Prim p) (Buf k) v go is = absurd (let no : false ≡ true = go in cc)
+goes_where (Buf n) (Prim q) v go is = absurd (let no : false ≡ true = go in cc)
+
+-- the value in one slot may be stored in another whose type goes with its own
+pub slot_may_be_stored : (m : Meaning) (o : Object) (slot class other : ℕ) → HasTables m → IsObject m o
+    → IsTrue (go_together_if_there (slot_type m o.class slot) (slot_type m class other))
+    → IsTrue (may_store m class other (slot_value m o slot))
+slot_may_be_stored m o slot class other tables object go = by_types (slot_type m o.class slot) refl (slot_type m class other) refl go
+  where
+    by_types : (s : Option SlotType) → slot_type m o.class slot ≡ s → (t : Option SlotType) → slot_type m class other ≡ t
+        → IsTrue (go_together_if_there s t) → IsTrue (may_store m class other (slot_value m o slot))
+    by_types (Some s) is (Some t) to go =
+        subst (λ (t : Option SlotType). IsTrue (option_map_or (λ t. goes_to t (slot_value m o slot)) t false)) (sym to)
+        (goes_where s t (slot_value m o slot) go (slot_is_of_type m o slot s tables object is))
+    by_types (Some s) is None to go = absurd (let no : false ≡ true = go in cc)
+    by_types None is t to go = absurd (let no : false ≡ true = go in cc)
+
+-- ---- what is copied
+
+module _ (m : Meaning) (all : ById) (tables : HasTables m) (objects : (id : ℕ) → IfSome (finite.get all id) (λ (c : Component). IsObject m (object_of c))) where
+  pub may_be_copied : (from from_slot to to_slot : ℕ) → IsTrue (go_together_if_there (type_at m all from from_slot) (type_at m all to to_slot))
+      → IsSomeAnd (finite.get all to) (λ (c : Component). IsTrue (may_store m c.class to_slot (component_value m all from from_slot)))
+  may_be_copied from from_slot to to_slot go = by_components (finite.get all from) (objects from) (finite.get all to) go
+    where
+      by_components : (f : Option Component) → IfSome f (λ (c : Component). IsObject m (object_of c)) → (t : Option Component)
+          → IsTrue (go_together_if_there (property_type (option_and_then (λ (c : Component). slot_form m c.class from_slot) f)) (property_type (option_and_then (λ (c : Component). slot_form m c.class to_slot) t)))
+          → IsSomeAnd t (λ (c : Component). IsTrue (may_store m c.class to_slot (option_map_or (λ (c : Component). slot_value m (object_of c) from_slot) f Nothing)))
+      by_components None is t go = absurd (let no : false ≡ true = go in cc)
+      by_components (Some c) is (Some d) go = slot_may_be_stored m (object_of c) from_slot d.class to_slot tables is go
+      by_components (Some c) is None go = absurd (no_type (property_type (slot_form m c.class from_slot)) go)
+        where
+          no_type : (s : Option SlotType) → IsTrue (go_together_if_there s None) → ⊥
+          no_type None go = let no : false ≡ true = go in cc
+          no_type (Some s) go = let no : false ≡ true = go in cc
+
+module _ (m : Meaning) (live : Places) (nodes : Nodes) (was : IsPlaced m live nodes) (objects : (p : ℕ) → IfSome (finite.get live p) (IsObject m)) where
+  pub components_fit : (id : ℕ) → IfSome (finite.get (by_id_of live nodes) id) (λ (c : Component). IsObject m (object_of c))
+  components_fit id = subst (λ (o : Option Component). IfSome o (λ (c : Component). IsObject m (object_of c))) (sym (get-map_values (component_of live) nodes id)) (by_node (finite.get nodes id) refl)
+    where
+      by_node : (n : Option Node) → finite.get nodes id ≡ n → IfSome (option_map (component_of live) n) (λ (c : Component). IsObject m (object_of c))
+      by_node None there = tt {0}
+      by_node (Some n) there =
+          subst (λ (o : Option Object). IfSome o (IsObject m)) (kept_here m live nodes was id n there) (objects n.place.0)
