@@ -1,0 +1,3 @@
+pub mod AlikeComponents
+pub mod ChangedLinks
+pub mod CopiedLinks

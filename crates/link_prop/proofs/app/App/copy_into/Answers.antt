@@ -1,0 +1,27 @@
+use Rattle.std.proofs.Common.{◌≤◌, length, List, sym, ap, subst, w64, to_z, of_z}
+use Rattle.std.specs.List.{All}
+use Rattle.link_table.specs.Link.{Link, most_links}
+use Rattle.comp_tree.specs.Calls.{Counted}
+use Rattle.comp_tree.specs.Held.{components_of}
+use Rattle.comp_tree.specs.Whole.{IsLink}
+use Rattle.link_prop.proofs.AlikeComponents.{linked_if}
+use Rattle.link_prop.proofs.CopiedLinks.{alike_copies, all_into, few_into}
+use Rattle.link_prop.proofs.app.App.copy_into.Goals as goal
+
+pub copy_all-requires-clause-typed : goal.copy_all-requires-clause-typed
+copy_all-requires-clause-typed g c =
+    let is = IsLink (g.E.Engine.meaning c.self.inside.tree.engine) (components_of g.E.Engine c.self.inside.tree).by_id in
+    subst (All is) (sym c.into_component.ensures) (all_into is c.args.id.0 c.self.inside.links c.self.invariant.typed)
+
+pub copy_all-requires-clause-few : goal.copy_all-requires-clause-few
+copy_all-requires-clause-few g c =
+    subst (λ (links : List Link). length links ≤ most_links) (sym c.into_component.ensures)
+    (few_into c.args.id.0 c.self.inside.links c.len-few.ensures.most)
+
+pub invariant_of-self : goal.invariant_of-self
+invariant_of-self g c =
+    let m = g.E.Engine.meaning c.self.inside.tree.engine in
+    let start = components_of g.E.Engine c.self.inside.tree in
+    linked_if m (g.E.Engine.meaning c.copy_all.new.tree.engine) start (components_of g.E.Engine c.copy_all.new.tree) c.self.inside.links
+    c.self.invariant c.copy_all.ensures.meaning _ (ap (λ (s : Counted). s.left) c.copy_all.ensures.copied)
+    (alike_copies m c.args.turns (to_z w64 (of_z w64 c.args.ticks)) c.into_component.result.now (record { left = start; traps = 0 }))

@@ -1,0 +1,10 @@
+use Rattle.comp_tree.specs.Held.{components_of}
+use Rattle.link_prop.proofs.AlikeComponents.{linked_after_execute}
+use Rattle.link_prop.proofs.app.App.execute.Goals as goal
+
+pub invariant_of-self : goal.invariant_of-self
+invariant_of-self g c =
+    linked_after_execute (g.E.Engine.meaning c.self.inside.tree.engine) (g.E.Engine.meaning c.execute.new.self.engine)
+    (components_of g.E.Engine c.self.inside.tree) (components_of g.E.Engine c.execute.new.self) c.self.inside.links
+    c.self.invariant c.execute.ensures.meaning
+    c.args.id.0 c.args.turns _ c.execute.ensures.left

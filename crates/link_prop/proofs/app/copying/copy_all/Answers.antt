@@ -1,0 +1,35 @@
+use Rattle.std.proofs.Common.{◌+◌, sym, ◌∙◌, ap, subst, w64, to_z, of_z}
+use Rattle.sed_engine.specs.Code.{Meaning}
+use Rattle.link_table.specs.Link.{Link}
+use Rattle.comp_tree.specs.Held.{components_of}
+use Rattle.comp_tree.specs.Links.{copy_along}
+use Rattle.comp_tree.specs.Whole.{IsLink}
+use Rattle.link_prop.proofs.CopiedLinks.{CopiedSoFar, copied_more, linked_now}
+use Rattle.link_prop.proofs.app.copying.copy_all.Goals as goal
+
+pub copy_one-trapped-requires-clause-typed : goal.copy_one-trapped-requires-clause-typed
+copy_one-trapped-requires-clause-typed g c =
+    let m = g.E.Engine.meaning c.args.tree.now.engine in
+    let now = components_of g.E.Engine c.loop-at.tree in
+    subst (λ (m : Meaning). IsLink m now.by_id c.index-links-at.result) (sym c.loop-at.invariant.meaning)
+    (subst (λ (l : Link). IsLink m now.by_id l) (sym c.index-links-at.is)
+    (linked_now m c.args.turns (to_z w64 (of_z w64 c.args.ticks)) (components_of g.E.Engine c.args.tree.now) now c.args.links.now c.loop-at.at
+    c.loop-at.traps c.loop-at.invariant.copied c.index-links-at.result c.loop-at-test.true c.requires.typed))
+
+pub loop-at-preserved : goal.loop-at-preserved
+loop-at-preserved g c =
+    let m = g.E.Engine.meaning c.args.tree.now.engine in
+    let moment = to_z w64 (of_z w64 c.args.ticks) in
+    let now = components_of g.E.Engine c.loop-at.tree in
+    let after = components_of g.E.Engine c.copy_one-trapped.new.tree in
+    record {
+      copied = subst (λ n. CopiedSoFar m c.args.turns moment (components_of g.E.Engine c.args.tree.now) after c.args.links.now (c.loop-at.at + 1) n)
+          (sym c.counted-traps.ensures)
+          (copied_more m c.args.turns moment (components_of g.E.Engine c.args.tree.now) now c.args.links.now c.loop-at.at c.loop-at.traps
+          c.loop-at.invariant.copied c.index-links-at.result after c.copy_one-trapped.result c.loop-at-test.true
+          (λ k. ap (λ (l : Link). copy_along m c.args.turns moment (record { left = now; traps = k }) l) (sym c.index-links-at.is)
+          ∙ ap (λ (n : Meaning). copy_along n c.args.turns moment (record { left = now; traps = k }) c.index-links-at.result) (sym c.loop-at.invariant.meaning)
+          ∙ c.copy_one-trapped.ensures.copied k));
+      meaning = c.copy_one-trapped.ensures.meaning ∙ c.loop-at.invariant.meaning;
+      steady = c.copy_one-trapped.ensures.steady ∙ c.loop-at.invariant.steady;
+    }

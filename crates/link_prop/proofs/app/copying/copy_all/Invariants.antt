@@ -1,0 +1,12 @@
+use Rattle.std.proofs.Common.{◌≡◌}
+use Rattle.comp_tree.specs.Held.{components_of}
+use Rattle.link_prop.proofs.CopiedLinks.{CopiedSoFar}
+use Rattle.link_prop.proofs.app.copying.copy_all.Given as goal
+
+-- the links before this one have been copied along
+abbrev pub invariant-loop-at : goal.invariant-loop-at
+invariant-loop-at g l = record {
+  copied : CopiedSoFar (g.E.Engine.meaning l.fn.tree.engine) l.turns l.ticks (components_of g.E.Engine l.fn.tree) (components_of g.E.Engine l.tree) l.links l.at l.traps;
+  meaning : g.E.Engine.meaning l.tree.engine ≡ g.E.Engine.meaning l.fn.tree.engine;
+  steady : g.E.Engine.fixed l.tree.engine ≡ g.E.Engine.fixed l.fn.tree.engine;
+}

@@ -1,0 +1,86 @@
+//! Values that go along links.
+ghost use Rattle.std.specs.Prelude.{◌≡◌, ◌≤◌, ◌<◌, ◌+◌, ℕ, length};
+ghost use Rattle.std.specs.List.{All, fold};
+ghost use Rattle.link_table.specs.Link.{most_links};
+ghost use Rattle.comp_tree.specs.Calls.{Counted, traps_of};
+ghost use Rattle.link_prop.specs.Linked.{one_if};
+ghost use Rattle.comp_tree.specs.Links.{copy_along, copy_into as copied_into};
+ghost use Rattle.comp_tree.specs.Whole.{IsLink};
+ghost use Rattle.comp_tree.specs.Held.{components_of};
+
+use crate::app::App;
+use comp_tree::Tree;
+use link_table::LinkRec;
+use sed_engine::{CallEnd, Callback, Engine};
+use sed_value::Id;
+
+impl<E: Engine> App<E> {
+    ghost use Rattle.comp_tree.specs.Held.{components_of};
+
+    /// Copies the links into a component, by ascending target slot, each as an assignment does, and calls `changed` after each
+    /// copy that changes what is stored, with so many turns, 1 to 1,000,000, at a moment in nanoseconds. It answers how many
+    /// of these calls trapped.
+    pub fn copy_into(&mut self, id: Id, turns: u32, ticks: i64) -> u32
+        requires some_turns { 1 ≤ turns }
+        requires most_turns { turns ≤ 1000000 }
+        ensures copied { (let s : Counted = record { left = components_of E.Engine self.new.tree; traps = result } in s) ≡ copied_into (E.meaning self.old.tree.engine) self.old.links turns ticks (record { left = components_of E.Engine self.old.tree; traps = 0 }) id.0 }
+        ensures links { self.new.links ≡ self.old.links }
+        ensures meaning { E.meaning self.new.tree.engine ≡ E.meaning self.old.tree.engine }
+        ensures steady { E.fixed self.new.tree.engine ≡ E.fixed self.old.tree.engine }
+    {
+        let _few = self.links.len();
+        copy_all(&mut self.tree, self.links.into_component(id), turns, ticks)
+    }
+}
+
+// Copies along links one after another, and says how many calls of `changed` trapped.
+fn copy_all<E: Engine>(tree: &mut Tree<E>, links: &[LinkRec], turns: u32, ticks: i64) -> u32
+    requires typed { All (IsLink (E.meaning tree.old.engine) (components_of E.Engine tree.old).by_id) links.now }
+    requires few { length links.now ≤ most_links }
+    requires some_turns { 1 ≤ turns }
+    requires most_turns { turns ≤ 1000000 }
+    ensures copied { (let s : Counted = record { left = components_of E.Engine tree.new; traps = result } in s) ≡ fold (copy_along (E.meaning tree.old.engine) turns ticks) (record { left = components_of E.Engine tree.old; traps = 0 }) links.now }
+    ensures meaning { E.meaning tree.new.engine ≡ E.meaning tree.old.engine }
+    ensures steady { E.fixed tree.new.engine ≡ E.fixed tree.old.engine }
+{
+    let mut traps = 0;
+    for at in 0..links.len() {
+        let trapped = copy_one(tree, links[at], turns, ticks);
+        traps = counted(traps, trapped);
+    }
+    traps
+}
+
+// One more where a call trapped.
+fn counted(traps: u32, trapped: bool) -> u32
+    requires { traps < 4294967295 }
+    ensures { result ≡ traps + one_if trapped }
+{
+    if trapped { traps + 1 } else { traps }
+}
+
+// Copies along a link, and says whether `changed` was called and trapped.
+fn copy_one<E: Engine>(tree: &mut Tree<E>, link: LinkRec, turns: u32, ticks: i64) -> bool
+    requires typed { IsLink (E.meaning tree.old.engine) (components_of E.Engine tree.old).by_id link }
+    requires some_turns { 1 ≤ turns }
+    requires most_turns { turns ≤ 1000000 }
+    ensures copied { (traps : ℕ) → copy_along (E.meaning tree.old.engine) turns ticks (record { left = components_of E.Engine tree.old; traps = traps }) link ≡ (let s : Counted = record { left = components_of E.Engine tree.new; traps = traps + one_if result } in s) }
+    ensures meaning { E.meaning tree.new.engine ≡ E.meaning tree.old.engine }
+    ensures steady { E.fixed tree.new.engine ≡ E.fixed tree.old.engine }
+{
+    if !tree.copy(link.from, link.from_slot, link.to, link.to_slot) {
+        return false;
+    }
+    let end = tree.callback(link.to, Callback::Changed, link.to_slot, turns, ticks);
+    has_trapped(end)
+}
+
+// Whether a call trapped.
+fn has_trapped(end: CallEnd) -> bool
+    ensures { one_if result ≡ traps_of end }
+{
+    match end {
+        CallEnd::Done { .. } => false,
+        CallEnd::Trap { .. } => true,
+    }
+}

@@ -1,0 +1,103 @@
+//! The two ends of a link.
+ghost use Rattle.std.specs.Prelude.{◌≡◌, ◌||◌, not, is_none};
+ghost use Rattle.std.specs.Option.{option_map};
+ghost use Rattle.std.specs.Prelude.{slice_get};
+ghost use Rattle.sed_typed.specs.Classes.{slots};
+ghost use Rattle.sed_engine.specs.Code.{property_type};
+ghost use Rattle.comp_tree.specs.Application.{form_at as form_in, is_live as is_live_in, type_at};
+ghost use Rattle.comp_tree.specs.Held.{components_of};
+ghost use Rattle.comp_tree.specs.Links.{go_together as go_together_as, go_together_if_there, are_same_primitive as are_same_as, reads_as_int as reads_so};
+
+use comp_tree::Tree;
+use sed_engine::Engine;
+use sed_typed::{Schema, SlotForm, TypeNo};
+use sed_value::{Id, Prim, SlotType};
+
+/// Whether a component is live.
+pub fn is_live<E: Engine>(tree: &Tree<E>, id: Id) -> bool
+    ensures { result ≡ is_live_in (components_of E.Engine tree.now).by_id id.0 }
+{
+    match tree.find(id) {
+        Some(_) => true,
+        None => false,
+    }
+}
+
+/// The form of a slot of a component, where both are there.
+pub fn form_at<E: Engine>(tree: &Tree<E>, id: Id, slot: u8) -> Option<SlotForm>
+    ensures { result ≡ form_in (E.meaning tree.now.engine) (components_of E.Engine tree.now).by_id id.0 slot }
+{
+    match tree.find(id) {
+        Some(entry) => form_of(tree.schema(), entry.kind, slot),
+        None => None,
+    }
+}
+
+// The form of a slot of a class.
+fn form_of(schema: &Schema, kind: TypeNo, slot: u8) -> Option<SlotForm>
+    ensures { result ≡ option_map (λ s. s.form) (slice_get (slots schema.now.classes kind.0) slot) }
+{
+    match schema.classes.as_slice().get(usize::from(kind.0)) {
+        Some(class) => match class.slots.as_slice().get(usize::from(slot)) {
+            Some(info) => Some(info.form),
+            None => None,
+        },
+        None => None,
+    }
+}
+
+/// The type of a slot that is a property.
+pub fn type_of(form: Option<SlotForm>) -> Option<SlotType>
+    ensures { result ≡ property_type form }
+{
+    match form {
+        Some(SlotForm::Prop(kind)) => Some(kind),
+        Some(SlotForm::Action(_)) => None,
+        None => None,
+    }
+}
+
+/// Whether both are types, of which values of one may go to the other.
+pub fn go_together(from: Option<SlotType>, to: Option<SlotType>) -> bool
+    ensures { result ≡ go_together_if_there from to }
+{
+    match (from, to) {
+        (Some(from), Some(to)) => may_go(from, to),
+        _ => false,
+    }
+}
+
+// Whether values of one type may go to the other.
+fn may_go(from: SlotType, to: SlotType) -> bool
+    ensures { result ≡ go_together_as from to }
+{
+    match (from, to) {
+        (SlotType::Prim(from), SlotType::Prim(to)) => are_same(from, to),
+        (SlotType::Buf(from), SlotType::Buf(to)) => from == to,
+        _ => false,
+    }
+}
+
+// Whether two primitives are equal, or both are read as an int.
+fn are_same(from: Prim, to: Prim) -> bool
+    ensures { result ≡ are_same_as from to }
+{
+    match (from, to) {
+        (Prim::Bool, Prim::Bool) => true,
+        (Prim::Long, Prim::Long) => true,
+        _ => reads_as_int(from) && reads_as_int(to),
+    }
+}
+
+// Whether what is kept of it is read as an int.
+fn reads_as_int(kind: Prim) -> bool
+    ensures { result ≡ reads_so kind }
+{
+    match kind {
+        Prim::Byte => true,
+        Prim::Short => true,
+        Prim::Int => true,
+        Prim::Bool => false,
+        Prim::Long => false,
+    }
+}

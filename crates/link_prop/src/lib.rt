@@ -1,0 +1,12 @@
+//! The application: the tree of components and the links between their slots, over any engine.
+//!
+//! An `App` stands for an application. Each of its calls leaves what the command of its name is defined to leave, or gives
+//! the first refusal of its table and leaves all as it was. A call on the tree is the tree's own and leaves the links; no
+//! call lends the tree for writing, so no link is left at a component that is gone. Room for all links that there may be is
+//! taken when an application is made. Cycles, the application file, messages and events are to stand on it.
+#![tactic(auto)]
+
+pub mod app;
+mod ends;
+
+pub use app::App;
