@@ -1,6 +1,6 @@
 -- When an add is allowed, but for its data.
 use Rattle.std.proofs.Common.{ℕ, ◌≡◌, ◌≢◌, ◌<◌, ◌≤◌, Bool, true, false, not, List, [], ◌∷◌, ◌++◌, length, refl, sym, ◌∙◌, ap, subst, arith}
-use Rattle.std.specs.Prelude.{Option, Some, None, nat_le, slice_get, ◌&&◌}
+use Rattle.std.specs.Prelude.{Option, Some, None, nat_le}
 use Rattle.std.specs.Option.{option_and_then, option_map, option_map_or}
 use Rattle.std.specs.List.{list_any}
 use Rattle.std.specs.Str.{bytes_eq}
@@ -10,10 +10,8 @@ use Rattle.sed_value.specs.Names.{is_name}
 use Rattle.sed_value.specs.declared.id.Id.{Id}
 use Rattle.sed_value.specs.declared.refusal.Refusal.{Refusal}
 use Rattle.sed_value.specs.declared.refusal.Refusal.TheVariants.{AbstractType, BadName, BadValue, BufferTooLong, ComponentLimit, DataFull, NameTaken, NoComponent, NoType, TooDeep, TooManyChildren}
-use Rattle.sed_typed.specs.declared.schema.ClassInfo.{ClassInfo}
 use Rattle.sed_typed.specs.Classes.{reached, slots}
 use Rattle.sed_typed.specs.Schemas.{type_at as class_numbered}
-use Rattle.sed_typed.specs.SysTypes.{app_type, component_type}
 use Rattle.sed_engine.specs.Code.{Meaning, Places}
 use Rattle.node_table.specs.declared.node.Node.{Node}
 use Rattle.comp_tree.specs.Allowed.{IsKindToAdd, IsNewChild, MayAdd, child_rows, kind_rows}
@@ -21,7 +19,7 @@ use Rattle.comp_tree.specs.Application.{Component, Components, children_of, grea
 use Rattle.comp_tree.specs.Held.{Nodes, by_id_of, component_of, name_in, parent_in}
 use Rattle.comp_tree.specs.Order.{depth, most_levels}
 use Rattle.comp_tree.specs.Read.{refusal_after, types_in}
-use Rattle.comp_tree.specs.Refusals.{config_types, config_types_of, first_refusal, is_abstract_class, is_child_named, is_for_components, is_sys_type, passes_limit, refusals_of_add}
+use Rattle.comp_tree.specs.Refusals.{config_types, config_types_of, first_refusal, is_abstract_class, is_child_named, is_for_components, passes_limit, refusals_of_add}
 use Rattle.comp_tree.specs.Values.{are_bad_values, have_long_buffer}
 use Rattle.comp_tree.proofs.ConfigLemmas.{types_are_config}
 use Rattle.comp_tree.proofs.EditLemmas.{children_is, first_refusal-append, name_is, or_else}
@@ -41,35 +39,6 @@ module _ (m : Meaning) (kit number : ℕ) where
   pub no_such_kind : class_numbered m.schema.classes kit number ≡ None → first_refusal (kind_rows m kit number) ≡ Some NoType
   unfolding kind_by
   no_such_kind e = kind_is None e
-
-  module _ (class : ℕ) (is : class_numbered m.schema.classes kit number ≡ Some class) where
-    kind_of : (fit abstract : Bool) → is_for_components m class ≡ fit → is_abstract_class m class ≡ abstract → first_refusal (kind_rows m kit number) ≡ first_refusal ((not fit, NoType) ∷ (abstract, AbstractType) ∷ [])
-    unfolding kind_by
-    kind_of fit abstract e f =
-        kind_is (Some class) is ∙ ap (λ (b : Bool). first_refusal ((not b, NoType) ∷ (is_abstract_class m class, AbstractType) ∷ [])) e
-        ∙ ap (λ (b : Bool). first_refusal ((not fit, NoType) ∷ (b, AbstractType) ∷ [])) f
-
-    pub kind_unfit : is_for_components m class ≡ false → first_refusal (kind_rows m kit number) ≡ Some NoType
-    kind_unfit e = kind_of false (is_abstract_class m class) e refl
-
-    pub kind_abstract : is_for_components m class ≡ true → is_abstract_class m class ≡ true → first_refusal (kind_rows m kit number) ≡ Some AbstractType
-    kind_abstract e f = kind_of true true e f
-
-    made : (r : Option ClassInfo) (a b : Bool) → ((option_map_or (λ (c : ClassInfo). c.is_component) r false && a) && b) ≡ true → option_map_or (λ (c : ClassInfo). c.is_abstract) r false ≡ false
-        → option_map_or (λ (c : ClassInfo). c.is_component && not c.is_abstract) r false ≡ true
-    made None a b e f = absurd (let never = e in cc)
-    made (Some c) a b e f = made_by c.is_component c.is_abstract e f
-      where
-        made_by : (x y : Bool) → ((x && a) && b) ≡ true → y ≡ false → (x && not y) ≡ true
-        made_by true y e f = ap not f
-        made_by false y e f = absurd (let never = e in cc)
-
-    pub kind_allowed : is_for_components m class ≡ true → is_abstract_class m class ≡ false → IsKindToAdd m kit number class
-    kind_allowed e f = record {
-      class_is = is;
-      creatable = made (slice_get m.schema.classes class) (not (is_sys_type m component_type class)) (not (is_sys_type m app_type class)) e f;
-      allowed = kind_of true false e f;
-    }
 
 -- ---- the place among the parent's children
 
