@@ -4,7 +4,10 @@ use Rattle.sed_engine.specs.Stops as stops
 use Rattle.sed_engine.specs.Statements as flow
 use Rattle.sed_cells.specs.Places.{Plan}
 use Rattle.walk_steps.specs.declared.word.Stop.{Stop}
-use Rattle.walk_steps.specs.Seen.{seen, stop_seen}
+use Rattle.sed_engine.specs.Expressions.{Called}
+use Rattle.walk_steps.specs.declared.word.Word.{Word}
+use Rattle.walk_steps.specs.Seen.{seen, stop_seen, ends}
+use Rattle.walk_steps.specs.Stored.{Stored, shared_of}
 use Rattle.sed_walk.specs.declared.ends.Flow.{Flow}
 use Rattle.sed_walk.specs.declared.ends.Flow.TheVariants.{Next, Break, Continue, Return}
 use Rattle.sed_walk.specs.declared.ends.Round.{Round}
@@ -35,3 +38,7 @@ rounds_seen plan class (Err stop) = Err (stop_seen stop)
 abbrev pub LeavesFewer : Result Round Stop → ℕ → ℕ → Type 0
 LeavesFewer (Ok Again) left before = left < before
 LeavesFewer r left before = Unit {0}
+
+-- what a call came to
+abbrev pub came_to : Plan → ℕ → Result Word Stop → Stored → Called
+came_to plan class r s = record { result = ends plan class r; shared = shared_of plan class s }

@@ -9,15 +9,21 @@ use Rattle.sed_engine.specs.Values.{Val, Nothing, truth}
 use Rattle.sed_engine.specs.Operators.{arithmetic_of, given}
 use Rattle.sed_engine.specs.State.{State, End, gives, answers, then_do}
 use Rattle.sed_engine.specs.Steps.{choose, take_turn}
-use Rattle.sed_engine.specs.Places.{fetch, put}
+use Rattle.sed_engine.specs.Places.{Target, fetch, put}
 use Rattle.sed_engine.specs.Expressions.{Setting, eval, locate, put_all, call}
 use Rattle.sed_engine.specs.Statements.{Flow, Round, Again, Over, after_body, eval_or}
 
--- a compound assignment
+-- what is computed of the old value and an operand is stored, and the old or the stored value given
+abbrev pub put_computed : Update → Target → Val → Val → State → End Val
+put_computed u target old x s =
+    then_do (answers (arithmetic_of u.arithmetic u.width old x) s)
+    (λ v s1. then_do (put target v s1) (λ new s2. gives (given u.gives old new) s2))
+
+-- a compound assignment: the target, its old value, the operand, and then the store
 abbrev pub update_with : Setting → Update → Place → Expr → State → End Val
 update_with w u place e s =
-    then_do (locate w place s) (λ target s1. then_do (fetch target s1) (λ old s2. then_do (eval w e s2) (λ x s3.
-    then_do (answers (arithmetic_of u.arithmetic u.width old x) s3) (λ v s4. then_do (put target v s4) (λ new s5. gives (given u.gives old new) s5)))))
+    then_do (locate w place s)
+    (λ target s1. then_do (fetch target s1) (λ old s2. then_do (eval w e s2) (λ x s3. put_computed u target old x s3)))
 
 -- a call whose arguments go into a frame from a local on
 abbrev pub call_from : Setting → ℕ → ℕ → List (State → End Val) → List Val → State → End Val

@@ -50,7 +50,9 @@ pub fn method_of(program: &Program, number: usize) -> Option<&Method>
 
 /// The place of the label of a value, which is an int.
 pub fn start_of(labels: &[Label], value: Word) -> Result<usize, Stop>
-    ensures { (plan : Planned) (class : ℕ) → as_it_is result ≡ map_ok (λ n. place_of_label labels.now n) (whole IntWidth (seen plan class value)) }
+    ensures { (plan : Planned) (class : ℕ) →
+        as_it_is result
+        ≡ map_ok (λ n. place_of_label labels.now n) (whole IntWidth (seen plan class value)) }
 {
     match value {
         Word::Int(number) => Ok(label_of(labels, number)),

@@ -1,12 +1,13 @@
 //! Calls of methods.
 ghost use Rattle.std.specs.Prelude.{◌≡◌, ◌≤◌, ◌<◌, map};
-ghost use Rattle.sed_engine.specs.Expressions.{Called, eval as eval_of, put_all, invoke as invoke_of};
+ghost use Rattle.sed_engine.specs.Expressions.{eval as eval_of, put_all, invoke as invoke_of};
 ghost use Rattle.sed_engine.specs.Root.{calls_with, run_method as run_method_of};
 ghost use Rattle.sed_cells.specs.Places.{classes_in};
 ghost use Rattle.walk_steps.specs.Seen.{seen, ends, framed};
 ghost use Rattle.walk_steps.specs.Stored.{ended, state_of, shared_of};
 ghost use Rattle.walk_steps.specs.Targets.{setting_of};
 ghost use Rattle.sed_walk.specs.Forms.{call_from};
+ghost use Rattle.sed_walk.specs.Flows.{came_to};
 
 use crate::bodies::{is_frame_of, method_of};
 use crate::ends::answer_of;
@@ -33,7 +34,10 @@ pub(crate) fn eval_call(
 ) -> Result<Word, Stop>
     requires within { class < classes_in plan.now }
     requires first { first ≤ 1 }
-    ensures end { let w = setting_of plan.now class frames in ended plan.now class (ends plan.now class result) store.new locals.new ≡ call_from w first method (map (eval_of w) args.now) (map (seen plan.now class) frame.old) (state_of plan.now class store.old locals.old) }
+    ensures end { let w = setting_of plan.now class frames in
+        ended plan.now class (ends plan.now class result) store.new locals.new
+        ≡ call_from w first method (map (eval_of w) args.now) (map (seen plan.now class) frame.old)
+        (state_of plan.now class store.old locals.old) }
     ensures turns { store.new.turns ≤ store.old.turns }
 {
     eval_args(plan, class, frames, first, args, frame, store, locals)?;
@@ -54,7 +58,10 @@ pub(crate) fn eval_invoke(
     locals: &mut [Word],
 ) -> Result<Word, Stop>
     requires { class < classes_in plan.now }
-    ensures end { let w = setting_of plan.now class frames in ended plan.now class (ends plan.now class result) store.new locals.new ≡ invoke_of w (seen plan.now class receiver) method (map (eval_of w) args.now) (state_of plan.now class store.old locals.old) }
+    ensures end { let w = setting_of plan.now class frames in
+        ended plan.now class (ends plan.now class result) store.new locals.new
+        ≡ invoke_of w (seen plan.now class receiver) method (map (eval_of w) args.now)
+        (state_of plan.now class store.old locals.old) }
     ensures turns { store.new.turns ≤ store.old.turns }
 {
     let mut frame = locals::frame_of(receiver);
@@ -80,7 +87,10 @@ pub(crate) fn eval_args(
 ) -> Result<(), Stop>
     requires within { class < classes_in plan.now }
     requires first { first ≤ 1 }
-    ensures end { let w = setting_of plan.now class frames in ended plan.now class (framed plan.now class result frame.new) store.new locals.new ≡ put_all first (map (eval_of w) args.now) (map (seen plan.now class) frame.old) (state_of plan.now class store.old locals.old) }
+    ensures end { let w = setting_of plan.now class frames in
+        ended plan.now class (framed plan.now class result frame.new) store.new locals.new
+        ≡ put_all first (map (eval_of w) args.now) (map (seen plan.now class) frame.old)
+        (state_of plan.now class store.old locals.old) }
     ensures turns { store.new.turns ≤ store.old.turns }
 {
     for (at, arg) in args.iter().enumerate() {
@@ -92,7 +102,7 @@ pub(crate) fn eval_args(
 
 /// Runs a method by its number on a frame, which tells of no more frames than are left.
 #[cycle(walk)]
-#[tactic(auto, using(crate::proofs::Rounds::calls_out, crate::proofs::Rounds::calls_in, crate::proofs::Rows::body_within, crate::proofs::Rows::less_left))]
+#[tactic(auto, using(crate::proofs::Rounds::calls_out, crate::proofs::Rows::body_within, crate::proofs::Rows::less_left))]
 pub fn call(
     plan: &Plan,
     class: usize,
@@ -102,7 +112,9 @@ pub fn call(
     store: &mut Store,
 ) -> Result<Word, Stop>
     requires { class < classes_in plan.now }
-    ensures end { (let c : Called = record { result = ends plan.now class result; shared = shared_of plan.now class store.new } in c) ≡ calls_with plan.now.program class frames method (map (seen plan.now class) frame.old) (shared_of plan.now class store.old) }
+    ensures end { came_to plan.now class result store.new
+        ≡ calls_with plan.now.program class frames method (map (seen plan.now class) frame.old)
+        (shared_of plan.now class store.old) }
     ensures turns { store.new.turns ≤ store.old.turns }
 {
     if frames == 0 {
@@ -125,7 +137,9 @@ fn run(
     store: &mut Store,
 ) -> Result<Word, Stop>
     requires { class < classes_in plan.now }
-    ensures end { (let c : Called = record { result = ends plan.now class result; shared = shared_of plan.now class store.new } in c) ≡ run_method_of (setting_of plan.now class frames) (Some method.now) (map (seen plan.now class) frame.old) (shared_of plan.now class store.old) }
+    ensures end { came_to plan.now class result store.new
+        ≡ run_method_of (setting_of plan.now class frames) (Some method.now) (map (seen plan.now class) frame.old)
+        (shared_of plan.now class store.old) }
     ensures turns { store.new.turns ≤ store.old.turns }
 {
     if !is_frame_of(method, frame) {

@@ -21,7 +21,6 @@ use walk_steps::{Stop, Store, Target, Word, locals, reach};
 
 /// The value of an expression.
 #[cycle(walk)]
-#[tactic(auto, using(crate::proofs::Rows::evals_hidden, crate::proofs::Rows::heights_hidden, crate::proofs::Rows::meanings_hidden, crate::proofs::Rows::links_hidden))]
 pub fn eval(
     plan: &Plan,
     class: usize,
@@ -31,7 +30,8 @@ pub fn eval(
     locals: &mut [Word],
 ) -> Result<Word, Stop>
     requires { class < classes_in plan.now }
-    ensures end { ended plan.now class (ends plan.now class result) store.new locals.new ≡ eval_of (setting_of plan.now class frames) e.now (state_of plan.now class store.old locals.old) }
+    ensures end { ended plan.now class (ends plan.now class result) store.new locals.new
+        ≡ eval_of (setting_of plan.now class frames) e.now (state_of plan.now class store.old locals.old) }
     ensures turns { store.new.turns ≤ store.old.turns }
 {
     match e {
@@ -111,7 +111,9 @@ fn eval_update(
     locals: &mut [Word],
 ) -> Result<Word, Stop>
     requires { class < classes_in plan.now }
-    ensures end { ended plan.now class (ends plan.now class result) store.new locals.new ≡ update_with (setting_of plan.now class frames) update place.now operand.now (state_of plan.now class store.old locals.old) }
+    ensures end { ended plan.now class (ends plan.now class result) store.new locals.new
+        ≡ update_with (setting_of plan.now class frames) update place.now operand.now
+        (state_of plan.now class store.old locals.old) }
     ensures turns { store.new.turns ≤ store.old.turns }
 {
     let target = locate(plan, class, frames, place, store, locals)?;
@@ -133,7 +135,8 @@ fn locate(
     locals: &mut [Word],
 ) -> Result<Target, Stop>
     requires { class < classes_in plan.now }
-    ensures end { ended plan.now class (targets plan.now class result) store.new locals.new ≡ locate_of (setting_of plan.now class frames) place.now (state_of plan.now class store.old locals.old) }
+    ensures end { ended plan.now class (targets plan.now class result) store.new locals.new
+        ≡ locate_of (setting_of plan.now class frames) place.now (state_of plan.now class store.old locals.old) }
     ensures turns { store.new.turns ≤ store.old.turns }
 {
     match place {
@@ -167,7 +170,9 @@ pub(crate) fn eval_or(
     locals: &mut [Word],
 ) -> Result<Word, Stop>
     requires { class < classes_in plan.now }
-    ensures end { ended plan.now class (ends plan.now class result) store.new locals.new ≡ eval_or_of (setting_of plan.now class frames) (seen plan.now class missing) e.now (state_of plan.now class store.old locals.old) }
+    ensures end { ended plan.now class (ends plan.now class result) store.new locals.new
+        ≡ eval_or_of (setting_of plan.now class frames) (seen plan.now class missing) e.now
+        (state_of plan.now class store.old locals.old) }
     ensures turns { store.new.turns ≤ store.old.turns }
 {
     match e {

@@ -27,7 +27,9 @@ pub(crate) fn eval_links(
     locals: &mut [Word],
 ) -> Result<Word, Stop>
     requires { class < classes_in plan.now }
-    ensures end { ended plan.now class (ends plan.now class result) store.new locals.new ≡ in_chain (map (link_of (setting_of plan.now class frames)) links.now) (seen plan.now class start) (state_of plan.now class store.old locals.old) }
+    ensures end { ended plan.now class (ends plan.now class result) store.new locals.new
+        ≡ in_chain (map (link_of (setting_of plan.now class frames)) links.now) (seen plan.now class start)
+        (state_of plan.now class store.old locals.old) }
     ensures turns { store.new.turns ≤ store.old.turns }
 {
     let mut value = start;
@@ -39,7 +41,6 @@ pub(crate) fn eval_links(
 
 // What is done with the value on the left.
 #[cycle(walk)]
-#[tactic(auto, using(crate::proofs::Rows::evals_hidden, crate::proofs::Rows::heights_hidden))]
 fn eval_link(
     plan: &Plan,
     class: usize,
@@ -50,7 +51,9 @@ fn eval_link(
     locals: &mut [Word],
 ) -> Result<Word, Stop>
     requires { class < classes_in plan.now }
-    ensures end { ended plan.now class (ends plan.now class result) store.new locals.new ≡ link_of (setting_of plan.now class frames) link.now (seen plan.now class value) (state_of plan.now class store.old locals.old) }
+    ensures end { ended plan.now class (ends plan.now class result) store.new locals.new
+        ≡ link_of (setting_of plan.now class frames) link.now (seen plan.now class value)
+        (state_of plan.now class store.old locals.old) }
     ensures turns { store.new.turns ≤ store.old.turns }
 {
     match link {

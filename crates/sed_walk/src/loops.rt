@@ -26,7 +26,8 @@ fn ask(
     locals: &mut [Word],
 ) -> Result<Word, Stop>
     requires { class < classes_in plan.now }
-    ensures end { ended plan.now class (ends plan.now class result) store.new locals.new ≡ asks_of (setting_of plan.now class frames) s.now (state_of plan.now class store.old locals.old) }
+    ensures end { ended plan.now class (ends plan.now class result) store.new locals.new
+        ≡ asks_of (setting_of plan.now class frames) s.now (state_of plan.now class store.old locals.old) }
     ensures turns { store.new.turns ≤ store.old.turns }
 {
     match s {
@@ -57,7 +58,8 @@ fn end_round(
     locals: &mut [Word],
 ) -> Result<Round, Stop>
     requires { class < classes_in plan.now }
-    ensures end { ended plan.now class (rounds_seen plan.now class result) store.new locals.new ≡ rest_of_round (setting_of plan.now class frames) s.now (state_of plan.now class store.old locals.old) }
+    ensures end { ended plan.now class (rounds_seen plan.now class result) store.new locals.new
+        ≡ rest_of_round (setting_of plan.now class frames) s.now (state_of plan.now class store.old locals.old) }
     ensures turns { store.new.turns ≤ store.old.turns }
 {
     match s {
@@ -89,7 +91,10 @@ fn run_round(
     locals: &mut [Word],
 ) -> Result<Round, Stop>
     requires { class < classes_in plan.now }
-    ensures end { let w = setting_of plan.now class frames in ended plan.now class (rounds_seen plan.now class result) store.new locals.new ≡ round_with (asks_of w s.now) (exec_of w body.now) (rest_of_round w s.now) (state_of plan.now class store.old locals.old) }
+    ensures end { let w = setting_of plan.now class frames in
+        ended plan.now class (rounds_seen plan.now class result) store.new locals.new
+        ≡ round_with (asks_of w s.now) (exec_of w body.now) (rest_of_round w s.now)
+        (state_of plan.now class store.old locals.old) }
     ensures turns { store.new.turns ≤ store.old.turns }
     ensures fewer { LeavesFewer result store.new.turns store.old.turns }
 {
@@ -118,7 +123,10 @@ pub(crate) fn run_rounds(
     locals: &mut [Word],
 ) -> Result<Flow, Stop>
     requires { class < classes_in plan.now }
-    ensures end { let w = setting_of plan.now class frames in ended plan.now class (flows plan.now class result) store.new locals.new ≡ rounds (round_with (asks_of w s.now) (exec_of w body.now) (rest_of_round w s.now)) (state_of plan.now class store.old locals.old) }
+    ensures end { let w = setting_of plan.now class frames in
+        ended plan.now class (flows plan.now class result) store.new locals.new
+        ≡ rounds (round_with (asks_of w s.now) (exec_of w body.now) (rest_of_round w s.now))
+        (state_of plan.now class store.old locals.old) }
     ensures turns { store.new.turns ≤ store.old.turns }
 {
     'rounds: loop {

@@ -1,12 +1,14 @@
 //! Root calls.
 ghost use Rattle.std.specs.Prelude.{◌≡◌, ◌<◌, ◌≤◌, ℕ, map};
 ghost use Rattle.sed_typed.specs.Classes.{slot_name as name_of_slot};
-ghost use Rattle.sed_engine.specs.Expressions.{Called};
-ghost use Rattle.sed_engine.specs.Root.{calls_with, start_root, root_method as method_of_root, method_at, callback_method as method_of_callback, argument_of, root_frame as frame_of_root, end_of, most_frames, callback_name};
+ghost use Rattle.sed_engine.specs.Root.{calls_with, start_root, root_method as method_of_root, method_at};
+ghost use Rattle.sed_engine.specs.Root.{callback_method as method_of_callback, argument_of};
+ghost use Rattle.sed_engine.specs.Root.{root_frame as frame_of_root, end_of, most_frames, callback_name};
 ghost use Rattle.sed_engine.specs.Values as val;
 ghost use Rattle.sed_cells.specs.Places.{Plan as Planned, classes_in};
 ghost use Rattle.walk_steps.specs.Seen.{seen, ends, as_it_is};
 ghost use Rattle.walk_steps.specs.Stored.{shared_of};
+ghost use Rattle.sed_walk.specs.Flows.{came_to};
 
 use crate::calls::call;
 use sed_cells::{Plan, find};
@@ -32,7 +34,10 @@ pub fn run(
     store: &mut Store,
 ) -> Result<Word, Stop>
     requires { class < classes_in plan.now }
-    ensures end { (let c : Called = record { result = ends plan.now class result; shared = shared_of plan.now class store.new } in c) ≡ start_root (calls_with plan.now.program class most_frames) (method_of_root plan.now.program class which) (argument_of argument.now) (shared_of plan.now class store.old) }
+    ensures end { came_to plan.now class result store.new
+        ≡ start_root (calls_with plan.now.program class most_frames) (method_of_root plan.now.program class which)
+        (argument_of argument.now)
+        (shared_of plan.now class store.old) }
     ensures turns { store.new.turns ≤ store.old.turns }
 {
     let method = root_method(plan.program(), class, which)?;

@@ -27,7 +27,8 @@ pub fn exec(
     locals: &mut [Word],
 ) -> Result<Flow, Stop>
     requires { class < classes_in plan.now }
-    ensures end { ended plan.now class (flows plan.now class result) store.new locals.new ≡ exec_of (setting_of plan.now class frames) s.now (state_of plan.now class store.old locals.old) }
+    ensures end { ended plan.now class (flows plan.now class result) store.new locals.new
+        ≡ exec_of (setting_of plan.now class frames) s.now (state_of plan.now class store.old locals.old) }
     ensures turns { store.new.turns ≤ store.old.turns }
 {
     match s {
@@ -82,7 +83,9 @@ fn exec_all(
     locals: &mut [Word],
 ) -> Result<Flow, Stop>
     requires { class < classes_in plan.now }
-    ensures end { ended plan.now class (flows plan.now class result) store.new locals.new ≡ in_order (map (exec_of (setting_of plan.now class frames)) all.now) (state_of plan.now class store.old locals.old) }
+    ensures end { ended plan.now class (flows plan.now class result) store.new locals.new
+        ≡ in_order (map (exec_of (setting_of plan.now class frames)) all.now)
+        (state_of plan.now class store.old locals.old) }
     ensures turns { store.new.turns ≤ store.old.turns }
 {
     for s in all {
@@ -110,7 +113,9 @@ fn run_switch(
     locals: &mut [Word],
 ) -> Result<Flow, Stop>
     requires { class < classes_in plan.now }
-    ensures end { let w = setting_of plan.now class frames in ended plan.now class (flows plan.now class result) store.new locals.new ≡ switch (eval_of w e.now) labels.now (map (exec_of w) all.now) (state_of plan.now class store.old locals.old) }
+    ensures end { let w = setting_of plan.now class frames in
+        ended plan.now class (flows plan.now class result) store.new locals.new
+        ≡ switch (eval_of w e.now) labels.now (map (exec_of w) all.now) (state_of plan.now class store.old locals.old) }
     ensures turns { store.new.turns ≤ store.old.turns }
 {
     let value = eval(plan, class, frames, e, store, locals)?;

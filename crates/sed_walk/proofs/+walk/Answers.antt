@@ -17,7 +17,7 @@ use Rattle.sed_engine.specs.Statements as flow
 use Rattle.sed_walk.specs.Flows.{flow_seen, rounds_seen, LeavesFewer}
 use Rattle.sed_typed.specs.declared.tree.Expr.{Expr}
 use Rattle.sed_typed.specs.declared.tree.Link.{Link}
-use Rattle.sed_walk.specs.Forms.{call_from, asks_of, rest_of_round, round_with}
+use Rattle.sed_walk.specs.Forms.{update_with, call_from, asks_of, rest_of_round, round_with}
 use Rattle.sed_walk.proofs.Rows.{evals_hidden, meanings_hidden, execs_hidden, heights_hidden, links_hidden, stmts_hidden}
 use Rattle.sed_engine.specs.Places.{field_spot}
 use Rattle.sed_engine.specs.Statements.{exec as exec_of, rounds, switch, follows, in_order, leaves}
@@ -167,6 +167,16 @@ calls::run-returns-in_err-flow-clause-end t c =
     let q : answer (Err x) ≡ run_method w (Some c.args.method.now) f s =
     body-runs w c.args.method.now f s c.is_frame_of.result (c.is_frame_of.ensures plan class) c.in-Some.body e c.if-not-is_frame_of.false c.in-Some.is c.in_err-flow.ensures.end in
     search (rules, q)
+
+pub expressions::eval-returns-in-Update-clause-end : goal.expressions::eval-returns-in-Update-clause-end
+expressions::eval-returns-in-Update-clause-end t c =
+    let plan = c.args.plan.now in
+    let class = c.args.class in
+    let w : Setting = setting_of plan class c.args.frames in
+    let s : State = state_of plan class c.args.store.now c.args.locals.now in
+    c.eval_update.ensures.end
+    ∙ ap (λ (e : Expr). update_with w c.in-Update.update c.in-Update.place e s) c.deref-in-Update.ensures
+    ∙ ap (λ (e : Expr). eval_of w e s) (sym c.in-Update.is)
 
 pub expressions::eval-returns-in-Call-clause-end : goal.expressions::eval-returns-in-Call-clause-end
 expressions::eval-returns-in-Call-clause-end t c =
