@@ -10,7 +10,7 @@ use Rattle.sed_value.specs.Names.{is_name}
 use Rattle.sed_value.specs.declared.id.Id.{Id}
 use Rattle.sed_value.specs.declared.refusal.Refusal.{Refusal}
 use Rattle.sed_value.specs.declared.refusal.Refusal.TheVariants.{AbstractType, BadName, BadValue, BufferTooLong, ComponentLimit, DataFull, NameTaken, NoComponent, NoType, TooDeep, TooManyChildren}
-use Rattle.sed_typed.specs.Classes.{reached, slots}
+use Rattle.sed_typed.specs.Classes.{reached}
 use Rattle.sed_typed.specs.Schemas.{type_at as class_numbered}
 use Rattle.sed_engine.specs.Code.{Meaning, Places}
 use Rattle.node_table.specs.declared.node.Node.{Node}
@@ -18,10 +18,9 @@ use Rattle.comp_tree.specs.Allowed.{IsKindToAdd, IsNewChild, MayAdd, child_rows,
 use Rattle.comp_tree.specs.Application.{Component, Components, children_of, greatest_depth, is_live, most_children, most_components, name_of, parent_of}
 use Rattle.comp_tree.specs.Held.{Nodes, by_id_of, component_of, name_in, parent_in}
 use Rattle.comp_tree.specs.Order.{depth, most_levels}
-use Rattle.comp_tree.specs.Read.{refusal_after, types_in}
+use Rattle.prop_values.specs.Read.{refusal_of_values}
 use Rattle.comp_tree.specs.Refusals.{config_types, config_types_of, first_refusal, is_abstract_class, is_child_named, is_for_components, passes_limit, refusals_of_add}
 use Rattle.comp_tree.specs.Values.{are_bad_values, have_long_buffer}
-use Rattle.comp_tree.proofs.ConfigLemmas.{types_are_config}
 use Rattle.comp_tree.proofs.EditLemmas.{children_is, first_refusal-append, name_is, or_else}
 use Rattle.comp_tree.proofs.HeldLemmas.{get-by_id}
 use Rattle.comp_tree.proofs.MapLemmas.{len-map_values}
@@ -170,22 +169,22 @@ module _ (m : Meaning) (a : Components) (parent kit number : ℕ) (name config :
       add_no_child refusal e = after_kind ∙ ap (λ r. or_else r (or_else (first_refusal value_rows) (first_refusal ((passes_limit m a kit number, DataFull) ∷ [])))) e
 
       module _ (new : List ℕ) (child : IsNewChild a.by_id parent name new) where
-        values_are : first_refusal value_rows ≡ refusal_after false (types_in (slots m.schema.classes class)) config
+        values_are : first_refusal value_rows ≡ refusal_of_values (config_types m class) config
         unfolding value_rows
         values_are =
-            ap (λ r. refusal_after false (option_map_or (config_types m) r []) config) kind.class_is ∙ ap (λ types. refusal_after false types config) (types_are_config m class)
+            ap (λ r. refusal_of_values (option_map_or (config_types m) r []) config) kind.class_is
 
-        after_child : first_refusal (refusals_of_add m a parent kit number name config) ≡ or_else (refusal_after false (types_in (slots m.schema.classes class)) config) (first_refusal ((passes_limit m a kit number, DataFull) ∷ []))
+        after_child : first_refusal (refusals_of_add m a parent kit number name config) ≡ or_else (refusal_of_values (config_types m class) config) (first_refusal ((passes_limit m a kit number, DataFull) ∷ []))
         unfolding or_else
         after_child =
             after_kind ∙ ap (λ r. or_else r (or_else (first_refusal value_rows) (first_refusal ((passes_limit m a kit number, DataFull) ∷ [])))) child.allowed
             ∙ ap (λ r. or_else r (first_refusal ((passes_limit m a kit number, DataFull) ∷ []))) values_are
 
-        pub add_bad_values : (refusal : Refusal) → refusal_after false (types_in (slots m.schema.classes class)) config ≡ Some refusal → first_refusal (refusals_of_add m a parent kit number name config) ≡ Some refusal
+        pub add_bad_values : (refusal : Refusal) → refusal_of_values (config_types m class) config ≡ Some refusal → first_refusal (refusals_of_add m a parent kit number name config) ≡ Some refusal
         unfolding or_else
         add_bad_values refusal e = after_child ∙ ap (λ r. or_else r (first_refusal ((passes_limit m a kit number, DataFull) ∷ []))) e
 
-        pub may_add : refusal_after false (types_in (slots m.schema.classes class)) config ≡ None → MayAdd m a parent kit number name config class new
+        pub may_add : refusal_of_values (config_types m class) config ≡ None → MayAdd m a parent kit number name config class new
         unfolding or_else
         may_add good = record {
           kind = kind;

@@ -1,25 +1,24 @@
 -- What a slot holds is of its type, and may be stored where the types go together.
-use Rattle.std.proofs.Common.{ℕ, ◌≡◌, Bool, true, false, not, refl, sym, ◌∙◌, ap, subst}
-use Rattle.std.specs.Prelude.{Option, Some, None, IsTrue, IsSome, IsSomeAnd, IfSome, is_some, List, [], ◌∷◌, map, ◌&&◌, ◌||◌, nat_le, nat_lt, length, if◌then◌else◌, ◌==◌}
+use Rattle.std.proofs.Common.{ℕ, ◌≡◌, Bool, true, false, refl, sym, ◌∙◌, ap, subst}
+use Rattle.std.specs.Prelude.{Option, Some, None, IsTrue, IsSome, IsSomeAnd, IfSome, is_some, [], ◌∷◌, map, ◌&&◌, ◌||◌, if◌then◌else◌}
 use Rattle.std.specs.Option.{option_and_then, option_map, option_map_or}
 use Rattle.std.specs.FinMap as finite
-use Rattle.std.specs.List.{list_all, list_any}
+use Rattle.std.specs.List.{list_any}
 use Rattle.std.specs.Str.{bytes_eq}
 use Rattle.std.proofs.lemmas.Bool.{eqb-true}
 use Rattle.std.proofs.lemmas.Slice.Eq.{bytes_eq-Decides}
-use Rattle.sed_value.specs.Value.{are_bytes, goes_to, is_of_type, reads_as_int}
+use Rattle.sed_value.specs.Value.{goes_to, is_of_type, reads_as_int}
 use Rattle.sed_value.specs.declared.slot_type.Primitive.{Primitive}
 use Rattle.sed_value.specs.declared.slot_type.Primitive.TheVariants.{Bool as BoolType, Byte as ByteType, Short as ShortType, Int as IntType, Long as LongType}
 use Rattle.sed_value.specs.declared.slot_type.SlotType.{SlotType}
 use Rattle.sed_value.specs.declared.slot_type.SlotType.TheVariants.{Prim, Buf}
 use Rattle.sed_value.specs.declared.value.Value.{Value}
 use Rattle.sed_value.specs.declared.value.Value.TheVariants.{Nothing}
-use Rattle.sed_value.specs.declared.value.Value.TheVariants as kept
 use Rattle.sed_typed.specs.declared.program.FieldForm.{FieldForm}
 use Rattle.sed_typed.specs.Contents.{Contents, Path, value_at}
 use Rattle.sed_engine.specs.Code.{Meaning, Object, Places, may_store, property_type, slot_form, slot_path, slot_type, slot_value}
-use Rattle.sed_engine.specs.Fits.{Fits, all_kept, form_at, form_of, is_kept, keeps}
-use Rattle.sed_engine.specs.Whole.{HasTables, IsObject, IsWhole, field_form}
+use Rattle.sed_engine.specs.Fits.{all_kept, form_at, form_of, is_kept, keeps}
+use Rattle.sed_engine.specs.Whole.{HasTables, IsObject, field_form}
 use Rattle.node_table.specs.declared.node.Node.{Node}
 use Rattle.comp_tree.specs.Application.{ById, Component, object_of, type_at, value_at as component_value}
 use Rattle.comp_tree.specs.Held.{IsPlaced, Nodes, by_id_of, component_of}

@@ -11,13 +11,6 @@ use Rattle.comp_tree.specs.Refusals.{ids_of}
 abbrev pub so_far : List ℕ → List ℕ → Option (List ℕ)
 so_far ids left = option_map (λ (rest : List ℕ). ids ++ rest) (ids_of left)
 
-pub none_yet : (left : List ℕ) → so_far [] left ≡ ids_of left
-none_yet left = by_rest (ids_of left)
-  where
-    by_rest : (r : Option (List ℕ)) → option_map (λ (rest : List ℕ). [] ++ rest) r ≡ r
-    by_rest None = refl
-    by_rest (Some rest) = refl
-
 two_bytes : (a b : ℕ) → number_of (a ∷ b ∷ []) ≡ a * 256 + b
 two_bytes a b = omega arith
 

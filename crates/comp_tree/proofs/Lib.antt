@@ -8,11 +8,8 @@ pub mod NodeTrees
 pub mod HeldLemmas
 pub mod TreeLemmas
 pub mod RunLemmas
-pub mod ReadLemmas
 pub mod IdsLemmas
 pub mod MatchLemmas
-pub mod SchemaLemmas
-pub mod ConfigLemmas
 pub mod EditLemmas
 pub mod AllowedLemmas
 pub mod AddLemmas

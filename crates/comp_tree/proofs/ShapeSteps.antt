@@ -212,9 +212,6 @@ module _ (live : ℕ → Bool) (parent : ℕ → Option ℕ) (children : ℕ →
         go more (Some y) is e =
             ap (option_and_then (up_by parent' n)) (parent_others x (old_apart x (tree.known x y is)) ∙ is) ∙ more y e
 
-    at_apart : at ≢ new
-    at_apart = old_apart at (rooted_live live parent children tree steps at rooted)
-
     in_new : (x above : ℕ) → In x (children above) → In x (children' above)
     in_new x above h = elim (cases_eq above at) [
       | inl same ↦ subst (λ (k : ℕ). In x (children' k)) (sym same) (subst (In x) (sym children_at) (in_left x (children at) (new ∷ []) (subst (λ (k : ℕ). In x (children k)) same h)))

@@ -8,20 +8,17 @@ use Rattle.std.specs.Cmp.{nat_cmp_total}
 use Rattle.sed_value.specs.declared.id.Id.{Id}
 use Rattle.sed_value.specs.declared.refusal.Refusal.{Refusal}
 use Rattle.sed_value.specs.declared.refusal.Refusal.TheVariants.{NoComponent, NoSlot, WrongKindOfSlot}
-use Rattle.sed_value.specs.declared.value.Value.{Value}
-use Rattle.sed_value.specs.declared.value.Value.TheVariants.{Nothing}
 use Rattle.sed_value.specs.declared.slot_type.SlotType.{SlotType}
 use Rattle.sed_typed.specs.declared.schema.SlotForm.{SlotForm}
 use Rattle.sed_typed.specs.declared.schema.SlotForm.TheVariants.{Prop, Action}
 use Rattle.sed_typed.specs.Schemas.{type_at as class_numbered}
 use Rattle.sed_typed.specs.SysTypes.{app_type}
-use Rattle.sed_engine.specs.declared.engine.Engine.{Ghosts}
-use Rattle.sed_engine.specs.Code.{Meaning, Object, Places, data_of, is_property, property_type, slot_form, slot_value}
+use Rattle.sed_engine.specs.Code.{Meaning, Object, Places, data_of, is_property, property_type, slot_form}
 use Rattle.comp_tree.specs.declared.entry.Entry.{Entry}
 use Rattle.node_table.specs.declared.node.Node.{Node}
-use Rattle.comp_tree.specs.Application.{ById, Component, children_of, data_size_of, object_of, value_at}
+use Rattle.comp_tree.specs.Application.{ById, Component, children_of, data_size_of, object_of}
 use Rattle.comp_tree.specs.Edits.{app_class, app_component}
-use Rattle.comp_tree.specs.Held.{Held, Nodes, IsPlaced, IsPropertyOf, by_id_of, component_of, components_of, contents_at}
+use Rattle.comp_tree.specs.Held.{Nodes, IsPlaced, by_id_of, component_of, contents_at}
 use Rattle.comp_tree.specs.Refusals.{first_refusal, refusals_of_read}
 use Rattle.comp_tree.specs.Told.{IsEntry}
 use Rattle.comp_tree.proofs.HeldLemmas.{get-by_id, by_id-put, component_with, placed_add}
@@ -114,19 +111,6 @@ module _ (m : Meaning) (live : Places) (nodes : Nodes) (was : IsPlaced m live no
   component_there =
       at_some (map.get live n.place.0) (object_of (component_of live n)) (λ o. option_map object_of (map.get (by_id_of live nodes) id) ≡ Some o) kept_here
       (ap (option_map object_of) (component_is m live nodes id n found))
-
--- what an engine gives for a property is the value of the component
-value_in : (m : Meaning) (slot : ℕ) (v : Value) (r : Option Component) (o : Object) → option_map object_of r ≡ Some o → v ≡ slot_value m o slot → v ≡ option_map_or (λ (c : Component). slot_value m (object_of c) slot) r Nothing
-value_in m slot v None o e is = absurd (let no = ap is_some e in cc)
-value_in m slot v (Some c) o e is = is ∙ ap (λ x. slot_value m x slot) (let same : o ≡ object_of c = cc in same)
-
-pub value_told : {E : Type 0} (g : Ghosts E) (h : Held E) (id slot place : ℕ) (v : Value) → IsPropertyOf g h id slot place → IfSome (map.get (g.live h.engine) place) (λ o. v ≡ slot_value (g.meaning h.engine) o slot) → v ≡ value_at (g.meaning h.engine) (components_of g h).by_id id slot
-value_told g h id slot place v p told =
-    by_object (map.get (g.live h.engine) place) p.component told
-  where
-    by_object : (r : Option Object) → IsSomeAnd r (λ o. option_map object_of (map.get (components_of g h).by_id id) ≡ Some o) → IfSome r (λ o. v ≡ slot_value (g.meaning h.engine) o slot) → v ≡ value_at (g.meaning h.engine) (components_of g h).by_id id slot
-    by_object None c t = absurd c
-    by_object (Some o) c t = value_in (g.meaning h.engine) slot v (map.get (components_of g h).by_id id) o c t
 
 -- ---- the App
 

@@ -1,15 +1,15 @@
 -- What an add asks before it asks for room: the type, the place among the parent's children, and the values.
-use Rattle.std.specs.Prelude.{ℕ, ◌≡◌, ◌<◌, Bool, false, not, nat_le, IsTrue, List, [], ◌∷◌, length, Some, None}
+use Rattle.std.specs.Prelude.{ℕ, ◌≡◌, ◌<◌, Bool, not, nat_le, IsTrue, List, [], ◌∷◌, length, Some, None}
 use Rattle.std.specs.FinMap as map
 use Rattle.sed_value.specs.Names.{is_name}
 use Rattle.sed_value.specs.declared.refusal.Refusal.{Refusal}
 use Rattle.sed_value.specs.declared.refusal.Refusal.TheVariants.{AbstractType, BadName, ComponentLimit, DataFull, NameTaken, NoType, TooDeep, TooManyChildren}
-use Rattle.sed_typed.specs.Classes.{slots}
 use Rattle.sed_typed.specs.Schemas.{type_at as class_numbered}
 use Rattle.sed_engine.specs.Code.{Meaning, is_creatable}
 use Rattle.comp_tree.specs.Application.{ById, Components, children_of, greatest_depth, is_live, most_children, most_components}
 use Rattle.comp_tree.specs.Order.{depth}
-use Rattle.comp_tree.specs.Read.{refusal_after, types_in}
+use Rattle.prop_values.specs.Properties.{config_types}
+use Rattle.prop_values.specs.Read.{refusal_of_values}
 use Rattle.comp_tree.specs.Refusals.{first_refusal, has_no_type, is_abstract_type, is_child_named, passes_limit, refusals_of_add}
 
 -- the rows of an add that ask for the type
@@ -49,5 +49,5 @@ pub record MayAdd (m : Meaning) (a : Components) (parent kit number : ℕ) (name
   pub kind : IsKindToAdd m kit number class
   pub live : IsTrue (is_live a.by_id parent)
   pub child : IsNewChild a.by_id parent name new
-  pub good : refusal_after false (types_in (slots m.schema.classes class)) config ≡ None
+  pub good : refusal_of_values (config_types m class) config ≡ None
   pub refused : first_refusal (refusals_of_add m a parent kit number name config) ≡ first_refusal ((passes_limit m a kit number, DataFull) ∷ [])

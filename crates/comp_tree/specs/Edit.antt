@@ -15,7 +15,7 @@ use Rattle.comp_tree.specs.Links.{with_link, without_link, without_links_at}
 use Rattle.comp_tree.specs.Order.{least_free, subtree}
 use Rattle.comp_tree.specs.Parts.{part_of, text, u1}
 use Rattle.comp_tree.specs.Refusals.{first_refusal, refusals_of_add, refusals_of_clear, refusals_of_delete, refusals_of_invoke, refusals_of_link, refusals_of_part, refusals_of_read, refusals_of_rename, refusals_of_reorder, refusals_of_unlink, refusals_of_write}
-use Rattle.comp_tree.specs.Values.{spelling_of}
+use Rattle.prop_values.specs.Values.{spelling_of}
 
 pub data Command : Type 0 where
   Add : (parent kit number : ℕ) (name config : List ℕ) → Command

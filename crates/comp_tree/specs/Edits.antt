@@ -1,11 +1,10 @@
 -- What each command leaves of the components, where nothing refuses it.
-use Rattle.std.specs.Prelude.{ℕ, ℤ, ◌==◌, not, if◌then◌else◌, List, [], ◌∷◌, ◌++◌, filter, slice_get, codes, Option, Some, None}
+use Rattle.std.specs.Prelude.{ℕ, ℤ, ◌==◌, not, if◌then◌else◌, List, [], ◌∷◌, ◌++◌, filter, codes, Option, Some, None}
 use Rattle.std.specs.List.{list_any, zip}
 use Rattle.std.specs.Option.{option_map_or}
 use Rattle.std.specs.FinMap as map
 use Rattle.std.specs.Ordering.{nat_cmp}
 use Rattle.sed_value.specs.declared.value.Value.{Value}
-use Rattle.sed_value.specs.declared.value.Value.TheVariants.{Nothing}
 use Rattle.sed_typed.specs.declared.number.SlotNo.{SlotNo}
 use Rattle.sed_typed.specs.Contents.{Contents}
 use Rattle.sed_typed.specs.Schemas.{type_at as class_numbered}
@@ -17,9 +16,10 @@ use Rattle.comp_tree.specs.Application.{ById, Component, Components, change_at, 
 use Rattle.comp_tree.specs.Calls.{Call, Ran, call_each, run_at}
 use Rattle.comp_tree.specs.Links.{has_changed, store}
 use Rattle.comp_tree.specs.Order.{least_free, subtree}
-use Rattle.comp_tree.specs.Parts.{config_slots, with_slots}
-use Rattle.comp_tree.specs.Refusals.{config_types, ids_of, invoke_types, write_types}
-use Rattle.comp_tree.specs.Values.{taken}
+pub use Rattle.prop_values.specs.Properties.{first_of}
+use Rattle.prop_values.specs.Properties.{config_slots, config_types, with_slots}
+use Rattle.prop_values.specs.Values.{taken}
+use Rattle.comp_tree.specs.Refusals.{ids_of, invoke_types, write_types}
 
 -- ---- parts of a component that change
 
@@ -37,10 +37,6 @@ without_child id c = with_children (filter (λ child. not (child == id)) c.child
 
 abbrev pub without_fault : Component → Component
 without_fault c = record { class = c.class; name = c.name; parent = c.parent; children = c.children; contents = c.contents; fault = 0 }
-
--- the first of several values, where there is one
-abbrev pub first_of : List Value → Value
-first_of values = option_map_or (λ v. v) (slice_get values 0) Nothing
 
 -- ---- add
 

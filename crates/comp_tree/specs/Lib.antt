@@ -2,7 +2,6 @@ pub mod Mapped
 pub mod Application
 pub mod Order
 pub mod Values
-pub mod Same
 pub mod Parts
 pub mod Calls
 pub mod Links
@@ -14,5 +13,4 @@ pub mod Whole
 pub mod Shape
 pub mod Held
 pub mod Told
-pub mod Read
 pub mod Allowed

@@ -11,7 +11,7 @@ use Rattle.sed_engine.specs.declared.call.Callback.TheVariants.{Changed}
 use Rattle.sed_engine.specs.Code.{Meaning, with_slot}
 use Rattle.comp_tree.specs.Application.{Component, Components, Link, change_at, object_of, value_at, with_components}
 use Rattle.comp_tree.specs.Calls.{Call, Counted, then_run}
-use Rattle.comp_tree.specs.Same.{is_same_value}
+use Rattle.prop_values.specs.Same.{is_same_value}
 
 -- ---- which slots go together
 

@@ -1,43 +1,19 @@
 -- The parts of a component as bytes, and what of an application is kept in a file.
-use Rattle.std.specs.Prelude.{ℕ, ◌==◌, ◌&&◌, Bool, true, false, not, if◌then◌else◌, List, [], ◌∷◌, ◌++◌, length, slice_get, map, filter, Option, Some, None}
+use Rattle.std.specs.Prelude.{ℕ, ◌==◌, if◌then◌else◌, List, [], ◌∷◌, ◌++◌, length, slice_get, map, Option, Some, None}
 use Rattle.std.specs.Option.{option_map_or}
-use Rattle.std.specs.List.{enumerate_from, flat_map, fold}
+use Rattle.std.specs.List.{flat_map}
 use Rattle.std.specs.Int.{bytes_high_first}
 use Rattle.sed_value.specs.declared.value.Value.{Value}
 use Rattle.sed_typed.specs.declared.schema.ClassInfo.{ClassInfo}
-use Rattle.sed_typed.specs.declared.schema.SlotForm.{SlotForm}
-use Rattle.sed_typed.specs.declared.schema.SlotForm.TheVariants.{Prop, Action}
-use Rattle.sed_typed.specs.declared.schema.SlotInfo.{SlotInfo}
-use Rattle.sed_typed.specs.Classes.{slots}
 use Rattle.sed_typed.specs.Contents.{Contents}
-use Rattle.sed_engine.specs.Code.{Meaning, Object, new_object, slot_value, with_slot}
+use Rattle.sed_engine.specs.Code.{Meaning, new_object, slot_value}
 pub use Rattle.link_table.specs.Links.{links_at}
+pub use Rattle.prop_values.specs.Properties.{is_property_form, is_config, is_runtime, slots_that, config_slots, runtime_slots, with_slots}
 use Rattle.comp_tree.specs.Mapped.{map_values}
 use Rattle.comp_tree.specs.Application.{Application, ById, Component, Link, object_of}
-use Rattle.comp_tree.specs.Values.{spelling_of_all}
+use Rattle.prop_values.specs.Values.{spelling_of_all}
 
 -- ---- the properties of a class
-
-abbrev pub is_property_form : SlotForm → Bool
-is_property_form (Prop t) = true
-is_property_form (Action a) = false
-
--- a property that the application file keeps, and one that it does not; at an action the mark means nothing
-abbrev pub is_config : SlotInfo → Bool
-is_config s = is_property_form s.form && s.config
-
-abbrev pub is_runtime : SlotInfo → Bool
-is_runtime s = is_property_form s.form && not s.config
-
--- the numbers of the slots of a class that are of a sort, in their order
-abbrev pub slots_that : (SlotInfo → Bool) → Meaning → ℕ → List ℕ
-slots_that is m class = map (λ (e : ℕ × SlotInfo). e.0) (filter (λ (e : ℕ × SlotInfo). is e.1) (enumerate_from 0 (slots m.schema.classes class)))
-
-abbrev pub config_slots : Meaning → ℕ → List ℕ
-config_slots m class = slots_that is_config m class
-
-abbrev pub runtime_slots : Meaning → ℕ → List ℕ
-runtime_slots m class = slots_that is_runtime m class
 
 abbrev pub values_in : Meaning → Component → List ℕ → List Value
 values_in m c numbers = map (slot_value m (object_of c)) numbers
@@ -97,10 +73,6 @@ part_of m links id c letter =
     else None
 
 -- ---- what is kept
-
--- an object with values in slots, one after another in the order of the slots
-abbrev pub with_slots : Meaning → List (ℕ × Value) → Object → Object
-with_slots m values o = fold (λ o (e : ℕ × Value). with_slot m o e.0 e.1) o values
 
 -- the contents of a new object, but with a component's values in the config slots
 abbrev pub kept_contents : Meaning → Component → Contents

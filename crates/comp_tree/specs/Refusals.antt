@@ -1,35 +1,29 @@
 -- When a command is refused. Each table has a row for each refusal: its condition, and its name. The refusals stand in the
 -- order of their rows, and the first whose condition holds is given. Want of memory stands in none, for it may come
 -- wherever no refusal of an add or of a new link does.
-use Rattle.std.specs.Prelude.{ℕ, ◌==◌, ◌||◌, ◌&&◌, ◌+◌, ◌*◌, Bool, true, false, not, is_none, nat_le, nat_lt, if◌then◌else◌, List, [], ◌∷◌, length, slice_get, Option, Some, None, count_by}
-use Rattle.std.specs.List.{filter_map, list_all, list_any}
+use Rattle.std.specs.Prelude.{ℕ, ◌==◌, ◌||◌, ◌&&◌, ◌+◌, ◌*◌, Bool, true, false, not, is_none, nat_le, nat_lt, List, [], ◌∷◌, length, slice_get, Option, Some, None, count_by}
+use Rattle.std.specs.List.{list_all, list_any}
 use Rattle.std.specs.Option.{option_map, option_map_or, option_to_list}
 use Rattle.std.specs.FinMap as map
 use Rattle.std.specs.Str.{bytes_eq}
 use Rattle.sed_value.specs.Names.{is_name}
 use Rattle.sed_value.specs.declared.refusal.Refusal.{Refusal}
 use Rattle.sed_value.specs.declared.refusal.Refusal.TheVariants.{AbstractType, AppItself, BadName, BadValue, BufferTooLong, ComponentLimit, DataFull, Faulted, LinkLimit, LinksAtComponent, LinkTypesDiffer, NameTaken, NoComponent, NoLink, NoSlot, NotTheChildren, NoType, TargetLinked, TooDeep, TooManyChildren, WrongKindOfSlot}
-use Rattle.sed_value.specs.declared.slot_type.Primitive.TheVariants as prim
 use Rattle.sed_value.specs.declared.slot_type.SlotType.{SlotType}
-use Rattle.sed_value.specs.declared.slot_type.SlotType.TheVariants.{Prim}
 use Rattle.sed_typed.specs.declared.schema.ActionArg.{ActionArg}
-use Rattle.sed_typed.specs.declared.schema.ActionArg.TheVariants.{Void, Bool as BoolArg, Int as IntArg, Long as LongArg}
 use Rattle.sed_typed.specs.declared.schema.ClassInfo.{ClassInfo}
 use Rattle.sed_typed.specs.declared.schema.SlotForm.{SlotForm}
 use Rattle.sed_typed.specs.declared.schema.SlotForm.TheVariants.{Prop, Action}
 use Rattle.sed_typed.specs.Schemas.{type_at as class_numbered}
 use Rattle.sed_typed.specs.SysTypes.{app_type, component_type}
-use Rattle.sed_engine.specs.Code.{Meaning, slot_type}
+use Rattle.sed_engine.specs.Code.{Meaning}
+pub use Rattle.prop_values.specs.Properties.{config_types, argument_types}
+pub use Rattle.prop_values.specs.Rows.{first_refusal}
 use Rattle.comp_tree.specs.Application.{ById, Components, Link, children_of, data_size_of, fault_of, form_at, greatest_depth, is_live, most_children, most_components, most_links, most_links_at_component, name_of, parent_of, type_at}
 use Rattle.comp_tree.specs.Links.{go_together_if_there, has_target, is_same_link}
 use Rattle.comp_tree.specs.Order.{depth}
-use Rattle.comp_tree.specs.Parts.{config_slots, links_at}
-use Rattle.comp_tree.specs.Values.{are_bad_values, have_long_buffer}
-
--- the first refusal whose condition holds
-abbrev pub first_refusal : List (Bool × Refusal) → Option Refusal
-first_refusal [] = None
-first_refusal (row ∷ rows) = if row.0 then Some row.1 else first_refusal rows
+use Rattle.comp_tree.specs.Parts.{links_at}
+use Rattle.prop_values.specs.Values.{are_bad_values, have_long_buffer}
 
 -- ---- the conditions
 
@@ -61,23 +55,13 @@ abbrev pub is_other_child_named : ById → ℕ → List ℕ → Bool
 is_other_child_named all id name =
     option_map_or (λ parent. list_any (λ child. not (child == id) && bytes_eq (name_of all child) name) (children_of all parent)) (parent_of all id) false
 
--- the types of the values that an add gives: those of the config properties, in the order of the slots
-abbrev pub config_types : Meaning → ℕ → List SlotType
-config_types m class = filter_map (slot_type m class) (config_slots m class)
-
+-- the types of the values that an add gives
 abbrev pub config_types_of : Meaning → ℕ → ℕ → List SlotType
 config_types_of m kit number = option_map_or (config_types m) (class_numbered m.schema.classes kit number) []
 
 abbrev pub passes_limit : Meaning → Components → ℕ → ℕ → Bool
 passes_limit m a kit number =
     option_map_or (λ class. nat_lt a.limit (data_size_of m a.by_id + m.data_size class)) (class_numbered m.schema.classes kit number) false
-
--- the type of an action's argument, if it has one
-abbrev pub argument_types : ActionArg → List SlotType
-argument_types Void = []
-argument_types BoolArg = Prim prim.Bool ∷ []
-argument_types IntArg = Prim prim.Int ∷ []
-argument_types LongArg = Prim prim.Long ∷ []
 
 abbrev pub action_argument : Option SlotForm → Option ActionArg
 action_argument None = None

@@ -1,5 +1,5 @@
 //! Where a component may be added.
-ghost use Rattle.std.specs.Prelude.{◌≡◌, ◌<◌, ◌≤◌, IsTrue, IsSome, MatchResult, length, Some, None};
+ghost use Rattle.std.specs.Prelude.{◌≡◌, ◌<◌, IsSome, MatchResult, length, Some, None};
 ghost use Rattle.std.specs.FinMap as map;
 ghost use Rattle.std.specs.List.{list_any};
 ghost use Rattle.std.specs.Option.{option_map};

@@ -9,14 +9,12 @@
 //! tree is made. Links and cycles are to stand on it.
 #![tactic(auto)]
 
-mod config;
 pub mod entry;
 mod joining;
 mod leaving;
 mod order;
 mod siblings;
 pub mod tree;
-mod values;
 
 pub use entry::Entry;
 pub use node_table::{MOST_CHILDREN, MOST_COMPONENTS};

@@ -1,8 +1,7 @@
 //! The tree.
-ghost use Rattle.std.specs.Prelude.{◌≡◌, ◌<◌, ◌≤◌, ◌+◌, ℕ, IsTrue, IsSome, IfSome, IsSomeAnd, IfOk, OnOk, OnErr, MatchOption, MatchResult, Some, None, Ok, Err, length, slice_get, codes, []};
+ghost use Rattle.std.specs.Prelude.{◌≡◌, ◌<◌, ◌≤◌, IsSome, IsSomeAnd, IfOk, OnOk, OnErr, MatchOption, MatchResult, Some, None, Ok, Err, length, slice_get, codes, []};
 ghost use Rattle.std.specs.FinMap as map;
 ghost use Rattle.std.specs.Option.{option_map};
-ghost use Rattle.sed_typed.specs.Classes.{slots};
 ghost use Rattle.sed_typed.specs.Schemas.{type_at as class_numbered};
 ghost use Rattle.sed_typed.specs.SysTypes.{app_type as app_number};
 ghost use Rattle.comp_tree.specs.Application.{children_of, value_at};
@@ -19,6 +18,7 @@ mod running;
 
 use crate::entry::Entry;
 use node_table::{Children, Node, Nodes};
+use prop_values::form_of;
 use sed_engine::{AddRefusal, Engine, Place};
 use sed_typed::{Schema, SlotForm, SlotNo, TypeNo};
 use sed_value::{Id, Name, Refusal, SlotBuf};
@@ -143,19 +143,6 @@ impl<E: Engine> Tree<E> {
             Some(SlotForm::Action(_)) => Err(Refusal::WrongKindOfSlot),
             None => Err(Refusal::NoSlot),
         }
-    }
-}
-
-// The form of a slot of a class.
-fn form_of(schema: &Schema, kind: TypeNo, slot: u8) -> Option<SlotForm>
-    ensures { result ≡ option_map (λ s. s.form) (slice_get (slots schema.now.classes kind.0) slot) }
-{
-    match schema.classes.as_slice().get(usize::from(kind.0)) {
-        Some(class) => match class.slots.as_slice().get(usize::from(slot)) {
-            Some(info) => Some(info.form),
-            None => None,
-        },
-        None => None,
     }
 }
 

@@ -2,7 +2,6 @@
 ghost use Rattle.std.specs.Prelude.{◌≡◌, ◌≢◌, ◌↔◌, ◌<◌, ◌≤◌, ◌+◌, ◌++◌, ◌∷◌, [], false, IsTrue, IsSome, IfErr, IfOk, IfSome, OnOk, OnErr, MatchResult, length, Some, None, Err};
 ghost use Rattle.std.specs.FinMap as map;
 ghost use Rattle.sed_engine.specs.Code.{is_creatable};
-ghost use Rattle.sed_typed.specs.Classes.{slots};
 ghost use Rattle.sed_value.specs.declared.refusal.Refusal.TheVariants.{OutOfMemory};
 ghost use Rattle.comp_tree.specs.Allowed.{HasRoom, MayAdd};
 ghost use Rattle.comp_tree.specs.Application.{data_size_of, is_live, most_children, with_components};
@@ -10,14 +9,14 @@ ghost use Rattle.node_table.specs.Changed.{with_children};
 ghost use Rattle.comp_tree.specs.Edit.{class_or_none};
 ghost use Rattle.comp_tree.specs.Edits.{added, after_add};
 ghost use Rattle.comp_tree.specs.Order.{least_free};
-ghost use Rattle.comp_tree.specs.Read.{refusal_after, types_in};
 ghost use Rattle.comp_tree.specs.Refusals.{config_types, first_refusal, refusals_of_add};
 ghost use Rattle.comp_tree.specs.Values.{taken};
+ghost use Rattle.prop_values.specs.Read.{refusal_of_values};
 
-use crate::config::{config_refusal, store_config};
 use crate::joining::{kind_to_add, new_child};
 use crate::tree::Tree;
 use node_table::{Children, Node, Nodes};
+use prop_values::{config_refusal, store_config};
 use sed_engine::{AddRefusal, Callback, Engine, Place};
 use sed_typed::TypeNo;
 use sed_value::{Id, Name, Refusal};
@@ -115,7 +114,7 @@ impl<E: Engine> Tree<E> {
         requires creatable { IsTrue (is_creatable (E.meaning self.old.engine) kind.0) }
         requires live { IsTrue (is_live (components_of E.Engine self.old).by_id parent.0) }
         requires room { HasRoom (components_of E.Engine self.old).by_id parent.0 }
-        requires good { refusal_after false (types_in (slots (E.meaning self.old.engine).schema.classes kind.0)) config.now ≡ None }
+        requires good { refusal_of_values (config_types (E.meaning self.old.engine) kind.0) config.now ≡ None }
         ensures id { IfOk result (λ id. id.0 ≡ least_free (components_of E.Engine self.old).by_id) }
         ensures fresh { IfOk result (λ id. map.get (components_of E.Engine self.old).by_id id.0 ≡ None) }
         ensures live { IfOk result (λ id. IsTrue (is_live (components_of E.Engine self.new).by_id id.0)) }

@@ -1,22 +1,19 @@
 //! Names, order and values of components that are live.
-ghost use Rattle.std.specs.Prelude.{◌≡◌, ◌≤◌, not, IsTrue, IsSome, IsSomeAnd, OnOk, OnErr, IfOk, MatchResult, Some, None};
+ghost use Rattle.std.specs.Prelude.{◌≡◌, ◌≤◌, not, IsTrue, IsSomeAnd, OnOk, OnErr, IfOk, MatchResult, Some, None};
 ghost use Rattle.std.specs.FinMap as map;
 ghost use Rattle.sed_engine.specs.Code.{may_call, may_store, slot_type};
 ghost use Rattle.sed_wire.specs.Spelling.{can_be_held};
-ghost use Rattle.comp_tree.specs.Application.{type_at};
-ghost use Rattle.comp_tree.specs.Calls.{Ran};
 ghost use Rattle.comp_tree.specs.Edit.{is_save};
 ghost use Rattle.comp_tree.specs.Edits.{after_invoke, after_rename, after_reorder, after_write, first_of};
 ghost use Rattle.comp_tree.specs.Links.{has_changed, store as stored};
-ghost use Rattle.comp_tree.specs.Read.{AreTaken};
 ghost use Rattle.comp_tree.specs.Refusals.{first_refusal, invoke_types, refusals_of_invoke, refusals_of_read, refusals_of_rename, refusals_of_reorder, refusals_of_write, write_types};
 ghost use Rattle.comp_tree.specs.Values.{taken};
 ghost use Rattle.sed_engine.specs.declared.call.Root.TheVariants.{Action as ActionRoot};
 
 use crate::order::{new_order, reorder_node};
 use crate::siblings::{new_name, rename_node};
-use crate::tree::{Tree, form_of};
-use crate::values::{are_same, one_argument, one_value};
+use crate::tree::Tree;
+use prop_values::{are_same, form_of, one_argument, one_value};
 use sed_engine::{CallEnd, Callback, Engine, Root};
 use sed_typed::{SlotForm, SlotNo};
 use sed_value::{Id, Refusal, SlotBuf, SlotType, Value};

@@ -1,14 +1,13 @@
-use Rattle.std.proofs.Common.{◌≡◌, ◌<◌, ℕ, None, false, refl, sym, ap, subst, ◌∙◌}
+use Rattle.std.proofs.Common.{◌≡◌, ◌<◌, ℕ, None, refl, sym, ap, subst, ◌∙◌}
 use Rattle.std.specs.Prelude.{IsSomeAnd, IsTrue}
 use Rattle.std.specs.FinMap as map
 use Rattle.sed_engine.specs.Code.{is_creatable, new_object}
-use Rattle.sed_typed.specs.Classes.{slots}
 use Rattle.comp_tree.specs.Allowed.{HasRoom}
 use Rattle.comp_tree.specs.Application.{with_components}
 use Rattle.comp_tree.specs.Edits.{added}
 use Rattle.comp_tree.specs.Held.{Held, IsHeld, by_id_of, components_of}
 use Rattle.comp_tree.specs.Order.{least_free}
-use Rattle.comp_tree.specs.Read.{refusal_after, types_in}
+use Rattle.prop_values.specs.Read.{refusal_of_values}
 use Rattle.comp_tree.specs.Refusals.{config_types}
 use Rattle.comp_tree.specs.Values.{taken}
 use Rattle.comp_tree.proofs.AddLemmas.{few_children, free_pushed, grown_held, grown_is, grown_live, least_is, len_same, live_two}
@@ -71,8 +70,8 @@ store_config-requires-clause-live g c =
 
 pub store_config-requires-clause-good : goal.store_config-requires-clause-good
 store_config-requires-clause-good g c =
-    subst (λ m. refusal_after false (types_in (slots m.schema.classes c.args.kind.0)) c.args.config.now ≡ None) (sym c.in-Ok.ensures.meaning)
-    (subst (λ (x : Held _). refusal_after false (types_in (slots (g.E.Engine.meaning x.engine).schema.classes c.args.kind.0)) c.args.config.now ≡ None) (sym c.self.view_is) c.requires.good)
+    subst (λ m. refusal_of_values (config_types m c.args.kind.0) c.args.config.now ≡ None) (sym c.in-Ok.ensures.meaning)
+    (subst (λ (x : Held _). refusal_of_values (config_types (g.E.Engine.meaning x.engine) c.args.kind.0) c.args.config.now ≡ None) (sym c.self.view_is) c.requires.good)
 
 pub push_child-requires-clause-live : goal.push_child-requires-clause-live
 push_child-requires-clause-live g c =

@@ -1,13 +1,11 @@
-use Rattle.std.proofs.Common.{◌≡◌, false, Some, is_some, sym, ap, subst, ◌∙◌}
+use Rattle.std.proofs.Common.{◌≡◌, Some, is_some, sym, ap, subst, ◌∙◌}
 use Rattle.sed_value.specs.declared.refusal.Refusal.TheVariants.{NoComponent}
-use Rattle.sed_typed.specs.Classes.{slots}
 use Rattle.comp_tree.specs.Allowed.{MayAdd}
 use Rattle.comp_tree.specs.Held.{Held, components_of}
-use Rattle.comp_tree.specs.Read.{CanBeHeld, refusal_after, types_in}
+use Rattle.sed_engine.specs.Whole.{KeepsLimits}
 use Rattle.comp_tree.specs.Refusals.{first_refusal, refusals_of_add}
 use Rattle.comp_tree.proofs.AllowedLemmas.{add_bad_values, add_no_child, add_no_kind, add_no_parent, may_add}
 use Rattle.comp_tree.proofs.EditLemmas.{live_same}
-use Rattle.comp_tree.proofs.SchemaLemmas.{can_hold}
 use Rattle.comp_tree.proofs.tree.Tree.may_add.Goals as goal
 
 pub returns-in_default : goal.returns-in_default
@@ -33,7 +31,7 @@ returns-in-Err-new_child g c =
 
 pub config_refusal-requires : goal.config_refusal-requires
 config_refusal-requires g c =
-    subst (λ s. CanBeHeld (slots s.classes c.in-Ok.kind.0)) (sym c.schema-2.ensures.same) (can_hold (g.E.Engine.meaning c.self.inside.engine).schema c.schema-2.ensures.whole.tables.limits c.in-Ok.kind.0)
+    subst KeepsLimits (sym c.schema-2.ensures.same) c.schema-2.ensures.whole.tables.limits
 
 pub returns-in-Some-config_refusal : goal.returns-in-Some-config_refusal
 returns-in-Some-config_refusal g c =
@@ -41,7 +39,7 @@ returns-in-Some-config_refusal g c =
     let h : Held _ = record { engine = i.engine; nodes = i.nodes } in
     subst (λ (x : Held _). first_refusal (refusals_of_add (g.E.Engine.meaning x.engine) (components_of g.E.Engine x) c.args.parent.0 c.args.kit c.args.number c.args.name.now c.args.config.now) ≡ Some c.in-Some-config_refusal.refusal) c.self.view_is
     (add_bad_values (g.E.Engine.meaning i.engine) (components_of g.E.Engine h) c.args.parent.0 c.args.kit c.args.number c.args.name.now c.args.config.now (live_same (g.E.Engine.live i.engine) i.nodes c.args.parent.0 ∙ ap is_some (sym c.in-Some.ensures)) c.in-Ok.kind.0 (c.in-Ok.ensures (g.E.Engine.meaning i.engine) (sym c.schema.ensures.same)) c.in-Ok-new_child.name (c.in-Ok-new_child.ensures (g.E.Engine.live i.engine)) c.in-Some-config_refusal.refusal
-    (ap (λ s. refusal_after false (types_in (slots s.classes c.in-Ok.kind.0)) c.args.config.now) (sym c.schema-2.ensures.same) ∙ sym c.in-Some-config_refusal.ensures))
+    (sym (c.in-Some-config_refusal.ensures (g.E.Engine.meaning i.engine) (sym c.schema-2.ensures.same))))
 
 pub returns-in-None : goal.returns-in-None
 returns-in-None g c =
@@ -49,4 +47,4 @@ returns-in-None g c =
     let h : Held _ = record { engine = i.engine; nodes = i.nodes } in
     subst (λ (x : Held _). MayAdd (g.E.Engine.meaning x.engine) (components_of g.E.Engine x) c.args.parent.0 c.args.kit c.args.number c.args.name.now c.args.config.now c.in-Ok.kind.0 c.in-Ok-new_child.name) c.self.view_is
     (may_add (g.E.Engine.meaning i.engine) (components_of g.E.Engine h) c.args.parent.0 c.args.kit c.args.number c.args.name.now c.args.config.now (live_same (g.E.Engine.live i.engine) i.nodes c.args.parent.0 ∙ ap is_some (sym c.in-Some.ensures)) c.in-Ok.kind.0 (c.in-Ok.ensures (g.E.Engine.meaning i.engine) (sym c.schema.ensures.same)) c.in-Ok-new_child.name (c.in-Ok-new_child.ensures (g.E.Engine.live i.engine))
-    (ap (λ s. refusal_after false (types_in (slots s.classes c.in-Ok.kind.0)) c.args.config.now) (sym c.schema-2.ensures.same) ∙ sym c.in-None.ensures))
+    (sym (c.in-None.ensures (g.E.Engine.meaning i.engine) (sym c.schema-2.ensures.same))))

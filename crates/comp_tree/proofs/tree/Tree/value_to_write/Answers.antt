@@ -3,7 +3,6 @@ use Rattle.comp_tree.specs.Held.{components_of}
 use Rattle.comp_tree.specs.Edits.{first_of}
 use Rattle.comp_tree.proofs.EditLemmas.{write_allowed, write_may, write_refused, write_takes, write_unread}
 use Rattle.comp_tree.proofs.MatchLemmas.{match_more}
-use Rattle.comp_tree.proofs.ReadLemmas.{goes_there}
 use Rattle.comp_tree.proofs.tree.Tree.value_to_write.Goals as goal
 
 pub returns-in-Err-clause-refused : goal.returns-in-Err-clause-refused
@@ -17,8 +16,8 @@ returns-clause-taken g c =
 
 pub returns-clause-may : goal.returns-clause-may
 returns-clause-may g c =
-    match_more c.one_value.result c.one_value.ensures.of_type
-    (λ v of. write_may (g.E.Engine.meaning c.args.self.now.engine) (components_of g.E.Engine c.args.self.now).by_id c.args.id.0 c.args.slot c.args.bytes.now c.in-Ok.kind v _ c.in-Ok.ensures.found (goes_there c.in-Ok.kind v of)) (λ e is. tt)
+    match_more c.one_value.result c.one_value.ensures.goes
+    (λ v goes. write_may (g.E.Engine.meaning c.args.self.now.engine) (components_of g.E.Engine c.args.self.now).by_id c.args.id.0 c.args.slot c.args.bytes.now c.in-Ok.kind v _ c.in-Ok.ensures.found goes) (λ e is. tt)
 
 pub returns-clause-refused : goal.returns-clause-refused
 returns-clause-refused g c =

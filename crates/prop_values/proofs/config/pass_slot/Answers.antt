@@ -1,9 +1,9 @@
 use Rattle.std.proofs.Common.{◌+◌, Err, drop, ap, subst, ◌∙◌}
 use Rattle.sed_typed.specs.Classes.{slots}
 use Rattle.sed_wire.specs.Faults.{StandsAfter}
-use Rattle.comp_tree.specs.Read.{types_in}
-use Rattle.comp_tree.proofs.ConfigLemmas.{after_bad_truth, after_long, after_read, after_short, after_some_slot, asked_next, good_none, next_slot}
-use Rattle.comp_tree.proofs.config.pass_slot.Goals as goal
+use Rattle.prop_values.specs.Read.{types_in}
+use Rattle.prop_values.proofs.ConfigLemmas.{after_bad_truth, after_long, after_read, after_short, after_some_slot, asked_next, good_none, next_slot}
+use Rattle.prop_values.proofs.config.pass_slot.Goals as goal
 
 pub returns-in_default : goal.returns-in_default
 returns-in_default c =

@@ -22,10 +22,10 @@ use Rattle.sed_wire.specs.Faults.{IsTooLong, contents_length, size_of}
 use Rattle.sed_wire.specs.Number.{number_of}
 use Rattle.sed_wire.specs.Reading.{Reads}
 use Rattle.sed_wire.specs.Spelling.{Spells}
-use Rattle.comp_tree.specs.Edits.{first_of}
-use Rattle.comp_tree.specs.Read.{AreTaken, IsArgument, IsBadArgument, IsRefusedValue}
-use Rattle.comp_tree.specs.Refusals.{argument_types, first_refusal}
-use Rattle.comp_tree.specs.Values.{are_bad_values, is_bad_truth, is_too_long, taken, value_of, values_of}
+use Rattle.prop_values.specs.Properties.{argument_types, first_of}
+use Rattle.prop_values.specs.Rows.{first_refusal}
+use Rattle.prop_values.specs.Read.{AreTaken, IsArgument, IsBadArgument, IsRefusedValue}
+use Rattle.prop_values.specs.Values.{are_bad_values, is_bad_truth, is_too_long, taken, value_of, values_of}
 
 -- ---- a value that is found
 
@@ -36,9 +36,6 @@ pub record IsFound (slot : SlotType) (v : Value) (bytes : List ℕ) : Type 0 whe
   pub good : is_bad_truth v ≡ false
   pub short : is_too_long slot v ≡ false
   pub goes : IsTrue (goes_to slot v)
-
-front_of : (a b : List ℕ) (n : ℕ) → length a ≡ n → take n (a ++ b) ≡ a
-front_of a b n e = ap (λ (k : ℕ). take k (a ++ b)) (sym e) ∙ take-append_seam a b
 
 rest_of : (a b : List ℕ) (n : ℕ) → length a ≡ n → drop n (a ++ b) ≡ b
 rest_of a b n e = ap (λ (k : ℕ). drop k (a ++ b)) (sym e) ∙ drop-append_seam a b
@@ -178,9 +175,6 @@ module _ (t : SlotType) (bytes new : List ℕ) where
   pub more_is_bad : (v : Value) → Reads (Spells t) v bytes new → (new ≡ [] → ⊥) → IsRefusedValue (t ∷ []) bytes BadValue
   more_is_bad v r some =
       none_is_bad (t ∷ []) bytes (values_read t [] v bytes new r ∙ ap (option_map (λ values. v ∷ values)) (left_over new some))
-
-pub short_is_bad : (t : SlotType) (bytes : List ℕ) → length bytes < size_of t bytes → IsRefusedValue (t ∷ []) bytes BadValue
-short_is_bad t bytes few = none_is_bad (t ∷ []) bytes (values_short t [] bytes few)
 
 pub above_two : (truth : ℕ) → 2 < truth → is_bad_truth (Truth (number_of (truth ∷ []))) ≡ true
 above_two truth above =

@@ -1,7 +1,7 @@
 use Rattle.std.proofs.Common.{◌≡◌, false, drop}
 use Rattle.sed_typed.specs.Classes.{slots}
-use Rattle.comp_tree.specs.Read.{refusal_after, types_in}
-use Rattle.comp_tree.proofs.config.config_refusal.Given as goal
+use Rattle.prop_values.specs.Read.{refusal_after, types_in}
+use Rattle.prop_values.proofs.config.pass_slots.Given as goal
 
 -- what the slots from this one on leave to be refused is what all of them do
 abbrev pub invariant-loop-slot : goal.invariant-loop-slot

@@ -2,9 +2,9 @@ use Rattle.std.proofs.Common.{◌≡◌, ◌≤◌, ◌+◌, false, drop, length
 use Rattle.std.specs.Prelude.{IfSome}
 use Rattle.std.specs.FinMap as map
 use Rattle.sed_typed.specs.Classes.{slots}
-use Rattle.comp_tree.specs.Read.{StoresSlot, refusal_after, types_in}
-use Rattle.comp_tree.proofs.ConfigLemmas.{StoredSoFar, stored_all, stored_class, stored_more, stored_none}
-use Rattle.comp_tree.proofs.config.store_config.Goals as goal
+use Rattle.prop_values.specs.Read.{StoresSlot, refusal_after, refusal_of_values, types_in}
+use Rattle.prop_values.proofs.ConfigLemmas.{StoredSoFar, stored_all, stored_class, stored_more, stored_none, types_are_config}
+use Rattle.prop_values.proofs.config.store_config.Goals as goal
 
 pub loop-slot-init : goal.loop-slot-init
 loop-slot-init g c =
@@ -12,7 +12,7 @@ loop-slot-init g c =
     let all = slots m.schema.classes c.args.kind.0 in
     let l = g.E.Engine.live c.args.engine.now in
     record {
-      good = ap (refusal_after false (types_in all)) c.new-reader.ensures ∙ c.requires.good;
+      good = ap (refusal_after false (types_in all)) c.new-reader.ensures ∙ ap (λ types. refusal_of_values types c.args.bytes.now) (sym (types_are_config m c.args.kind.0)) ∙ c.requires.good;
       stored = subst (λ bytes. IfSome (map.get l c.args.place.0) (λ o. StoredSoFar m l l c.args.place.0 o 0 all c.args.bytes.now bytes)) (sym c.new-reader.ensures)
           (stored_none m l c.args.place.0 all c.args.bytes.now);
       meaning = refl;

@@ -2,9 +2,9 @@ use Rattle.std.proofs.Common.{refl, sym, subst}
 use Rattle.std.specs.Prelude.{MatchResult}
 use Rattle.sed_typed.specs.declared.schema.ActionArg.TheVariants.{Bool as BoolArg, Int as IntArg, Long as LongArg}
 use Rattle.sed_value.specs.declared.slot_type.Primitive.TheVariants.{Bool as BoolType, Int as IntType, Long as LongType}
-use Rattle.comp_tree.specs.Read.{IsArgument, IsBadArgument}
-use Rattle.comp_tree.proofs.ReadLemmas.{argument_is}
-use Rattle.comp_tree.proofs.values.one_argument.Goals as goal
+use Rattle.prop_values.specs.Read.{IsArgument, IsBadArgument}
+use Rattle.prop_values.proofs.ReadLemmas.{argument_is}
+use Rattle.prop_values.proofs.values.one_argument.Goals as goal
 
 pub returns-in-Bool : goal.returns-in-Bool
 returns-in-Bool c =

@@ -2,9 +2,9 @@ use Rattle.std.proofs.Common.{◌≡◌, false, drop}
 use Rattle.std.specs.Prelude.{IfSome, None}
 use Rattle.std.specs.FinMap as map
 use Rattle.sed_typed.specs.Classes.{slots}
-use Rattle.comp_tree.specs.Read.{refusal_after, types_in}
-use Rattle.comp_tree.proofs.ConfigLemmas.{StoredSoFar}
-use Rattle.comp_tree.proofs.config.store_config.Given as goal
+use Rattle.prop_values.specs.Read.{refusal_after, types_in}
+use Rattle.prop_values.proofs.ConfigLemmas.{StoredSoFar}
+use Rattle.prop_values.proofs.config.store_config.Given as goal
 
 -- the slots before this one have their values, and nothing that is left is refused
 abbrev pub invariant-loop-slot : goal.invariant-loop-slot

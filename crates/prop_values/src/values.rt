@@ -1,9 +1,9 @@
 //! Values that are read from bytes.
 ghost use Rattle.std.specs.Prelude.{◌≡◌, ◌∷◌, [], IsTrue, MatchResult};
-ghost use Rattle.sed_value.specs.Value.{is_of_type};
+ghost use Rattle.sed_value.specs.Value.{goes_to, is_of_type};
 ghost use Rattle.sed_wire.specs.Spelling.{can_be_held};
-ghost use Rattle.comp_tree.specs.Read.{AreTaken, IsArgument, IsBadArgument, IsRefusedValue};
-ghost use Rattle.comp_tree.specs.Same.{is_same_value};
+ghost use Rattle.prop_values.specs.Read.{AreTaken, IsArgument, IsBadArgument, IsRefusedValue};
+ghost use Rattle.prop_values.specs.Same.{is_same_value};
 
 use sed_typed::ActionArg;
 use sed_value::{Prim, Refusal, SlotType, Value};
@@ -14,6 +14,7 @@ pub fn one_value(slot: SlotType, bytes: &[u8]) -> Result<Value, Refusal>
     requires { IsTrue (can_be_held slot) }
     ensures taken { MatchResult result (λ value. AreTaken (slot ∷ []) bytes.now (value ∷ [])) (IsRefusedValue (slot ∷ []) bytes.now) }
     ensures of_type { MatchResult result (λ value. IsTrue (is_of_type slot value)) (λ _. Unit) }
+    ensures goes { MatchResult result (λ value. IsTrue (goes_to slot value)) (λ _. Unit) }
 {
     let mut reader = Reader::new(bytes);
     match reader.value(slot) {

@@ -6,11 +6,11 @@ use Rattle.sed_typed.specs.Classes.{slots}
 use Rattle.sed_engine.specs.Code.{may_store, with_slot}
 use Rattle.sed_wire.specs.Faults.{StandsAfter}
 use Rattle.sed_wire.specs.Spelling.{can_be_held}
-use Rattle.comp_tree.specs.Read.{config_type_of, types_in}
-use Rattle.comp_tree.proofs.ConfigLemmas.{after_read, after_some_slot, asked_next, config_may, good_none, next_slot, stores_none, stores_value, unread_is_no_good}
-use Rattle.comp_tree.proofs.MatchLemmas.{and_more, if_some}
-use Rattle.comp_tree.proofs.SchemaLemmas.{can_hold}
-use Rattle.comp_tree.proofs.config.store_slot.Goals as goal
+use Rattle.prop_values.specs.Read.{config_type_of, types_in}
+use Rattle.prop_values.proofs.ConfigLemmas.{after_read, after_some_slot, asked_next, config_may, good_none, next_slot, stores_none, stores_value, unread_is_no_good}
+use Rattle.prop_values.proofs.MatchLemmas.{and_more, if_some}
+use Rattle.prop_values.proofs.SchemaLemmas.{can_hold}
+use Rattle.prop_values.proofs.config.store_slot.Goals as goal
 
 pub returns-in_default-clause-good : goal.returns-in_default-clause-good
 returns-in_default-clause-good g c =

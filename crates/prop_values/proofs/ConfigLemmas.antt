@@ -22,12 +22,12 @@ use Rattle.sed_wire.specs.Reading.{Reads}
 use Rattle.sed_wire.specs.Spelling.{Spells}
 use Rattle.sed_value.specs.Value.{goes_to, is_of_type}
 use Rattle.sed_engine.specs.Code.{Meaning, Object, Places, may_store, property_type, slot_type, with_slot}
-use Rattle.comp_tree.specs.Parts.{config_slots, is_config, is_property_form, with_slots}
-use Rattle.comp_tree.specs.Read.{StoresSlot, config_type_of, numbers_in, refusal_after, stored_from, types_in}
-use Rattle.comp_tree.specs.Refusals.{config_types, first_refusal}
-use Rattle.comp_tree.specs.Values.{are_bad_values, is_bad_truth, is_too_long, taken, value_of, values_of}
-use Rattle.comp_tree.proofs.ReadLemmas.{above_two, found, goes_there, long_is, values_next, values_read, values_short}
-use Rattle.comp_tree.proofs.MapLemmas.{get_put, put_same, put_twice}
+use Rattle.prop_values.specs.Properties.{config_slots, config_types, is_config, is_property_form, with_slots}
+use Rattle.prop_values.specs.Rows.{first_refusal}
+use Rattle.prop_values.specs.Read.{StoresSlot, config_type_of, numbers_in, refusal_after, stored_from, types_in}
+use Rattle.prop_values.specs.Values.{are_bad_values, is_bad_truth, is_too_long, taken, value_of, values_of}
+use Rattle.prop_values.proofs.ReadLemmas.{above_two, found, goes_there, long_is, values_next, values_read, values_short}
+use Rattle.prop_values.proofs.MapLemmas.{get_put, put_same, put_twice}
 
 -- ---- slots, one after another
 

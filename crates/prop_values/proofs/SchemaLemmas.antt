@@ -13,8 +13,8 @@ use Rattle.sed_typed.specs.declared.schema.SlotForm.TheVariants.{Prop, Action}
 use Rattle.sed_typed.specs.declared.schema.SlotInfo.{SlotInfo}
 use Rattle.sed_typed.specs.Classes.{slots}
 use Rattle.sed_engine.specs.Code.{property_type}
-use Rattle.comp_tree.specs.Parts.{is_property_form}
-use Rattle.comp_tree.specs.Read.{CanBeHeld, config_type_of}
+use Rattle.prop_values.specs.Properties.{is_property_form}
+use Rattle.prop_values.specs.Read.{CanBeHeld, config_type_of}
 use Rattle.sed_engine.specs.Whole.{HasBufSize, KeepsLimits}
 use Rattle.sed_wire.specs.Spelling.{can_be_held}
 

@@ -11,10 +11,9 @@ use Rattle.sed_value.specs.declared.refusal.Refusal.TheVariants.{BadValue, Buffe
 use Rattle.sed_value.specs.declared.slot_type.SlotType.{SlotType}
 use Rattle.sed_value.specs.declared.value.Value.{Value}
 use Rattle.sed_engine.specs.Code.{Meaning, Object, Places, is_argument, property_type}
-use Rattle.comp_tree.specs.Edits.{first_of}
-use Rattle.comp_tree.specs.Parts.{is_config, with_slots}
-use Rattle.comp_tree.specs.Refusals.{argument_types, first_refusal}
-use Rattle.comp_tree.specs.Values.{are_bad_values, have_long_buffer, taken}
+use Rattle.prop_values.specs.Properties.{argument_types, first_of, is_config, with_slots}
+use Rattle.prop_values.specs.Rows.{first_refusal}
+use Rattle.prop_values.specs.Values.{are_bad_values, have_long_buffer, taken}
 
 -- the bytes are these values of the types, and none is refused
 pub record AreTaken (types : List SlotType) (bytes : List ℕ) (values : List Value) : Type 0 where
@@ -22,10 +21,12 @@ pub record AreTaken (types : List SlotType) (bytes : List ℕ) (values : List Va
   pub good : are_bad_values types bytes ≡ false
   pub short : have_long_buffer types bytes ≡ false
 
--- the first refusal of values of these types
+-- the first refusal of values of these types, if there is one
+abbrev pub refusal_of_values : List SlotType → List ℕ → Option Refusal
+refusal_of_values types bytes = first_refusal ((are_bad_values types bytes, BadValue) ∷ (have_long_buffer types bytes, BufferTooLong) ∷ [])
+
 abbrev pub IsRefusedValue : List SlotType → List ℕ → Refusal → Type 0
-IsRefusedValue types bytes refusal =
-    first_refusal ((are_bad_values types bytes, BadValue) ∷ (have_long_buffer types bytes, BufferTooLong) ∷ []) ≡ Some refusal
+IsRefusedValue types bytes refusal = refusal_of_values types bytes ≡ Some refusal
 
 -- the bytes are this argument of an action
 pub record IsArgument (arg : ActionArg) (bytes : List ℕ) (value : Value) : Type 0 where

@@ -1,15 +1,15 @@
 //! The config values of a new component.
-ghost use Rattle.std.specs.Prelude.{◌≡◌, ◌+◌, ◌<◌, [], false, IsTrue, IfSome, IsSomeAnd, Some, None, drop, length, slice_get};
+ghost use Rattle.std.specs.Prelude.{◌≡◌, ◌+◌, ◌<◌, [], false, IfSome, IsSomeAnd, Some, None, drop, length, slice_get};
 ghost use Rattle.std.specs.FinMap as map;
 ghost use Rattle.std.specs.List.{zip};
 ghost use Rattle.std.specs.Option.{option_and_then};
 ghost use Rattle.sed_typed.specs.Classes.{slots};
 ghost use Rattle.sed_value.specs.declared.refusal.Refusal.TheVariants.{BadValue};
-ghost use Rattle.sed_wire.specs.Spelling.{can_be_held};
-ghost use Rattle.comp_tree.specs.Parts.{config_slots, with_slots};
-ghost use Rattle.comp_tree.specs.Read.{CanBeHeld, PassesSlot, StoresSlot, config_type_of, refusal_after, types_in};
-ghost use Rattle.comp_tree.specs.Refusals.{config_types};
-ghost use Rattle.comp_tree.specs.Values.{taken};
+ghost use Rattle.sed_engine.specs.Code.{Meaning};
+ghost use Rattle.sed_engine.specs.Whole.{KeepsLimits};
+ghost use Rattle.prop_values.specs.Properties.{config_slots, config_types, with_slots};
+ghost use Rattle.prop_values.specs.Read.{CanBeHeld, PassesSlot, StoresSlot, config_type_of, refusal_after, refusal_of_values, types_in};
+ghost use Rattle.prop_values.specs.Values.{taken};
 
 use sed_engine::{Engine, Place};
 use sed_typed::{Schema, SlotForm, SlotInfo, SlotNo, TypeNo};
@@ -19,6 +19,14 @@ use sed_wire::{Reader, ValueFault};
 /// The first refusal of the values that bytes give the config properties of a class, if there is
 /// one.
 pub fn config_refusal(schema: &Schema, kind: TypeNo, bytes: &[u8]) -> Option<Refusal>
+    requires { KeepsLimits schema.now }
+    ensures { (m : Meaning) → m.schema ≡ schema.now → result ≡ refusal_of_values (config_types m kind.0) bytes.now }
+{
+    pass_slots(schema, kind, bytes)
+}
+
+// The same, of the slots one after another.
+fn pass_slots(schema: &Schema, kind: TypeNo, bytes: &[u8]) -> Option<Refusal>
     requires { CanBeHeld (slots schema.now.classes kind.0) }
     ensures { result ≡ refusal_after false (types_in (slots schema.now.classes kind.0)) bytes.now }
 {
@@ -71,7 +79,7 @@ fn pass_slot(
     }
 }
 
-/// How many slots a class has.
+// How many slots a class has.
 fn slot_count(schema: &Schema, kind: TypeNo) -> usize
     ensures { result ≡ length (slots schema.now.classes kind.0) }
 {
@@ -108,7 +116,7 @@ fn type_if_config(info: &SlotInfo) -> Option<SlotType>
 /// the slots.
 pub fn store_config<E: Engine>(engine: &mut E, place: Place, kind: TypeNo, bytes: &[u8])
     requires live { IsSomeAnd (map.get (E.live engine.old) place.0) (λ o. o.class ≡ kind.0) }
-    requires good { refusal_after false (types_in (slots (E.meaning engine.old).schema.classes kind.0)) bytes.now ≡ None }
+    requires good { refusal_of_values (config_types (E.meaning engine.old) kind.0) bytes.now ≡ None }
     ensures stored { IfSome (map.get (E.live engine.old) place.0) (λ o. E.live engine.new ≡ map.insert (E.live engine.old) place.0 (with_slots (E.meaning engine.old) (zip (config_slots (E.meaning engine.old) kind.0) (taken (config_types (E.meaning engine.old) kind.0) bytes.now)) o)) }
     ensures meaning { E.meaning engine.new ≡ E.meaning engine.old }
     ensures statics { E.statics engine.new ≡ E.statics engine.old }

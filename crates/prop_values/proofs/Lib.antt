@@ -1,0 +1,5 @@
+pub mod MapLemmas
+pub mod MatchLemmas
+pub mod ReadLemmas
+pub mod SchemaLemmas
+pub mod ConfigLemmas

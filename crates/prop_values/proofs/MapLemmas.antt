@@ -1,0 +1,38 @@
+-- Finite maps: what is there after something is put.
+use Rattle.std.proofs.Common.{◌≡◌, ◌≢◌, ℕ, refl, arith, inl, inr, true, false, sym, ◌∙◌, ap}
+use Rattle.std.specs.Prelude.{Some}
+use Rattle.std.specs.FinMap as finite
+use Rattle.std.specs.FinMap.{FinMap}
+use Rattle.std.specs.Ordering.{nat_cmp, eq_by_cmp}
+use Rattle.std.specs.Cmp.{nat_cmp_total}
+use Rattle.std.proofs.lemmas.Bool.{cases_eq}
+use Rattle.std.proofs.lemmas.Bool.Decides.{nat_tests}
+
+tied_same : (a : ℕ) → eq_by_cmp nat_cmp a a ≡ true
+tied_same a = grind (arith, nat_tests)
+
+tied_apart : (a b : ℕ) → a ≢ b → eq_by_cmp nat_cmp a b ≡ false
+tied_apart a b ne = grind (arith, nat_tests)
+
+module _ {V : Type 0} where
+  pub get_put : (m : FinMap nat_cmp V) (k : ℕ) (x : V) → finite.get (finite.insert m k x) k ≡ Some x
+  get_put m k x = finite.get-insert nat_cmp_total m k x k ∙ rw (tied_same k) refl
+
+  get_beside : (m : FinMap nat_cmp V) (k : ℕ) (x : V) (q : ℕ) → q ≢ k → finite.get (finite.insert m k x) q ≡ finite.get m q
+  get_beside m k x q ne = finite.get-insert nat_cmp_total m k x q ∙ rw (tied_apart q k ne) refl
+
+  -- to put what is there changes nothing
+  pub put_same : (m : FinMap nat_cmp V) (k : ℕ) (x : V) → finite.get m k ≡ Some x → finite.insert m k x ≡ m
+  put_same m k x e = finite.same_map nat_cmp_total finite.nat_cmp-IsAntisymmetric _ _ (λ q. elim (cases_eq q k) [
+    | inl is ↦ ap (finite.get (finite.insert m k x)) is ∙ get_put m k x ∙ sym e ∙ ap (finite.get m) (sym is)
+    | inr ne ↦ get_beside m k x q ne
+  ])
+
+  -- what is put twice stands as it was put last
+  pub put_twice : (m : FinMap nat_cmp V) (k : ℕ) (x y : V) → finite.insert (finite.insert m k x) k y ≡ finite.insert m k y
+  put_twice m k x y = finite.same_map nat_cmp_total finite.nat_cmp-IsAntisymmetric _ _ (λ q. elim (cases_eq q k) [
+    | inl is ↦
+        ap (finite.get (finite.insert (finite.insert m k x) k y)) is ∙ get_put (finite.insert m k x) k y
+        ∙ sym (ap (finite.get (finite.insert m k y)) is ∙ get_put m k y)
+    | inr ne ↦ get_beside (finite.insert m k x) k y q ne ∙ get_beside m k x q ne ∙ sym (get_beside m k y q ne)
+  ])
