@@ -112,7 +112,7 @@ has_parent nodes tree id there ne none = let w = tree.within id there in go w.0 
     go zero up = ne (let same : id ≡ 0 = cc in same)
     go (suc n) up = let no : ◌≡◌ {A = Option ℕ} None (Some 0) = sym (ap (option_and_then (up_by (parent_in nodes) n)) none) ∙ up in cc
 
-parent_is : (live : Places) (nodes : Nodes) (id : ℕ) → parent_of (by_id_of live nodes) id ≡ parent_in nodes id
+pub parent_is : (live : Places) (nodes : Nodes) (id : ℕ) → parent_of (by_id_of live nodes) id ≡ parent_in nodes id
 parent_is live nodes id = ap (λ r. option_and_then (λ (c : Component). c.parent) r) (get-by_id live nodes id) ∙ by_node (map.get nodes id)
   where
     by_node : (r : Option Node) → option_and_then (λ (c : Component). c.parent) (option_map (component_of live) r) ≡ option_and_then (λ (n : Node). option_map (λ (i : Id). i.0) n.parent) r

@@ -14,4 +14,5 @@ pub mod EditLemmas
 pub mod AllowedLemmas
 pub mod AddLemmas
 pub mod DeleteLemmas
+pub mod LoadLemmas
 pub mod FitLemmas

@@ -14,7 +14,7 @@ use Rattle.std.proofs.lemmas.Bool.Decides.{nat_tests}
 tied_same : (a : ℕ) → eq_by_cmp nat_cmp a a ≡ true
 tied_same a = grind (arith, nat_tests)
 
-tied_apart : (a b : ℕ) → a ≢ b → eq_by_cmp nat_cmp a b ≡ false
+pub tied_apart : (a b : ℕ) → a ≢ b → eq_by_cmp nat_cmp a b ≡ false
 tied_apart a b ne = grind (arith, nat_tests)
 
 module _ {V : Type 0} where

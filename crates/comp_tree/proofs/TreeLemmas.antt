@@ -130,7 +130,7 @@ no_data m live none =
     let entries : map.entries live ≡ [] = no_entries (map.entries live) (sym (map.len-entries live) ∙ ap map.len none ∙ map.len-empty nat_cmp Object) in
     ap (λ (es : List (ℕ × Object)). sum_by (λ (o : Object). m.data_size o.class) (map_list (λ e. e.1) es)) entries
 
-no_size : (m : Meaning) (all : ById) → all ≡ map.empty → data_size_of m all ≡ 0
+pub no_size : (m : Meaning) (all : ById) → all ≡ map.empty → data_size_of m all ≡ 0
 no_size m all none =
     let entries : map.entries all ≡ [] = no_entries (map.entries all) (sym (map.len-entries all) ∙ ap map.len none ∙ map.len-empty nat_cmp Component) in
     ap (λ (es : List (ℕ × Component)). sum_by (λ (c : Component). m.data_size c.class) (map_list (λ e. e.1) es)) entries

@@ -14,3 +14,4 @@ pub mod Shape
 pub mod Held
 pub mod Told
 pub mod Allowed
+pub mod Loads

@@ -12,10 +12,13 @@
 pub mod entry;
 mod joining;
 mod leaving;
+pub mod loaded;
+mod loading;
 mod order;
 mod siblings;
 pub mod tree;
 
 pub use entry::Entry;
+pub use loaded::Loaded;
 pub use node_table::{MOST_CHILDREN, MOST_COMPONENTS};
 pub use tree::Tree;

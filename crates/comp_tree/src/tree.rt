@@ -11,6 +11,7 @@ ghost use Rattle.comp_tree.specs.Refusals.{first_refusal, refusals_of_read};
 ghost use Rattle.comp_tree.specs.Told.{IsEntry, IsGreatest};
 
 mod adding;
+mod building;
 mod copying;
 mod editing;
 mod removing;
