@@ -8,7 +8,7 @@ use Rattle.sed_typed.specs.Schemas.{type_at as class_numbered}
 use Rattle.sed_typed.specs.SysTypes.{app_type}
 use Rattle.sed_engine.specs.Code.{Meaning}
 use Rattle.sed_engine.specs.Fits.{Fits}
-use Rattle.comp_tree.specs.Application.{Application, ById, Component, Link, children_of, data_size_of, is_live, most_children, most_components, most_links, most_links_at_component, name_of, type_at}
+use Rattle.comp_tree.specs.Application.{Application, ById, Component, Link, children_of, data_size_of, is_live, most_children, most_components, most_links, most_links_at_component, name_of, parent_of, type_at}
 use Rattle.comp_tree.specs.Links.{go_together_if_there, is_before}
 use Rattle.comp_tree.specs.Order.{depth_first}
 use Rattle.comp_tree.specs.Parts.{links_at}
@@ -39,8 +39,8 @@ pub record Whole (m : Meaning) (a : Application) : Type 0 where
   -- from the App down each component is reached, once, within the levels that a tree may have
   pub reached : (id : ℕ) → IsTrue (is_live a.components.by_id id) ↔ Contains (depth_first a.components.by_id) id
   pub once : IsDistinct nat_eq (depth_first a.components.by_id)
-  -- a component is among the children of its parent, and of no other
-  pub parents : Each a.components.by_id (λ id c. (up : ℕ) → (c.parent ≡ Some up) ↔ Contains (children_of a.components.by_id up) id)
+  -- a component is among the children of its parent, and of no other; nothing else is among anybody's children
+  pub parents : (id up : ℕ) → (parent_of a.components.by_id id ≡ Some up) ↔ Contains (children_of a.components.by_id up) id
   pub app : IsSomeAnd (map.get a.components.by_id 0) (IsApp m)
   pub others : Each a.components.by_id (λ id c. 0 < id → IsOther m c)
   pub names : Each a.components.by_id (λ id c. IsTrue (is_name c.name))

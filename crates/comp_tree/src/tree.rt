@@ -16,6 +16,7 @@ mod copying;
 mod editing;
 mod removing;
 mod running;
+mod subtree;
 
 use crate::entry::Entry;
 use node_table::{Children, Node, Nodes};

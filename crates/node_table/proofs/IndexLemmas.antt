@@ -339,6 +339,13 @@ module _ {T : Type 0} (most : ℕ) (index : List (Option ℕ)) (slab : Slab T) (
       let size = was.size in
       omega arith
 
+  -- an id that has a node is that of a place
+  pub id_fits : (id : ℕ) → IsSome (finite.get (by_number (kept index slab)) id) → id < most
+  id_fits id live = elim (cases_lt id (length index)) [
+    | inl lt ↦ let size = was.size in omega arith
+    | inr le ↦ absurd (let none = ap is_some (node_at index slab id ∙ ap (kept_at slab) (get_or-eq_default index None le)) in let no : false ≡ true = sym none ∙ live in cc)
+  ]
+
   pub kept_there : (id : ℕ) → IsSome (get_or index id None) → IsSome (finite.get (by_number (kept index slab)) id)
   kept_there id here = elim (get_or index id None) as (λ r. get_or index id None ≡ r → IsSome r → IsSome (finite.get (by_number (kept index slab)) id)) [
     | None ↦ λ e empty. absurd (let t = empty in cc)

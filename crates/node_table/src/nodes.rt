@@ -70,10 +70,11 @@ impl Nodes {
         }
     }
 
-    /// Whether a node has this id.
+    /// Whether a node has this id. There are at most 4,096, and each id that a node has is below it.
     pub fn contains(&self, id: Id) -> bool
         ensures same { result ≡ is_some (map.get self.now id.0) }
         ensures few { map.len self.now ≤ most_components }
+        ensures bound { (other : ℕ) → IsSome (map.get self.now other) → other < most_components }
     {
         key_at(&self.index, id).is_some()
     }

@@ -1,7 +1,8 @@
-use Rattle.std.proofs.Common.{None, is_some, ap, subst, ◌∙◌, ◌≤◌}
+use Rattle.std.proofs.Common.{None, is_some, sym, ap, subst, ◌∙◌, ◌≤◌}
 use Rattle.std.proofs.Math.ListN.{get_or}
 use Rattle.std.specs.FinMap as map
-use Rattle.node_table.proofs.IndexLemmas.{few_kept, live_at}
+use Rattle.std.specs.Prelude.{IsSome}
+use Rattle.node_table.proofs.IndexLemmas.{few_kept, id_fits, live_at}
 use Rattle.node_table.proofs.nodes.Nodes.contains.Goals as goal
 
 pub returns-clause-same : goal.returns-clause-same
@@ -11,3 +12,7 @@ returns-clause-same c =
 
 pub returns-clause-few : goal.returns-clause-few
 returns-clause-few c = subst (λ m. map.len m ≤ 4096) c.self.view_is (few_kept 4096 c.self.inside.index.items c.self.inside.slab c.self.invariant.indexed)
+
+pub returns-clause-bound : goal.returns-clause-bound
+returns-clause-bound c = λ other live.
+    id_fits 4096 c.self.inside.index.items c.self.inside.slab c.self.invariant.indexed other (subst (λ m. IsSome (map.get m other)) (sym c.self.view_is) live)
