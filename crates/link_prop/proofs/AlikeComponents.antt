@@ -55,28 +55,36 @@ class_there : (o : Option Component) → IsTrue (is_some o) → (k : ℕ) × (op
 class_there None h = absurd (let k : false ≡ true = h in cc)
 class_there (Some c) h = (c.class, refl)
 
+-- a link whose two ends are of the classes that they were
+module _ (m : Meaning) (before after : ById) where
+  type_stays : (id slot : ℕ) → class_at after id ≡ class_at before id → type_at m after id slot ≡ type_at m before id slot
+  type_stays id slot same =
+      ap property_type
+      (form_by_class m (map.get after id) slot ∙ ap (option_and_then (λ k. slot_form m k slot)) same
+      ∙ sym (form_by_class m (map.get before id) slot))
+
+  pub live_with_class : (id : ℕ) → class_at after id ≡ class_at before id → IsTrue (is_live before id) → IsTrue (is_live after id)
+  live_with_class id same live =
+      there_by_class (map.get after id) ∙ ap is_some same ∙ sym (there_by_class (map.get before id)) ∙ live
+
+  pub link_with_classes : (l : Link) → class_at after l.from ≡ class_at before l.from → class_at after l.to ≡ class_at before l.to → IsLink m before l → IsLink m after l
+  link_with_classes l from to is = record {
+    from = live_with_class l.from from is.from;
+    to = live_with_class l.to to is.to;
+    typed = rw (type_stays l.from l.from_slot from, type_stays l.to l.to_slot to) is.typed;
+  }
+
 module _ (m : Meaning) (before after : ById) (keeps : KeepsClasses before after) where
   stays_at : (id : ℕ) → IsTrue (is_live before id) → class_at after id ≡ class_at before id
   stays_at id live =
       let k : (k : ℕ) × (class_at before id ≡ Some k) = class_there (map.get before id) live in
       keeps id k.0 k.1 ∙ sym k.1
 
-  type_stays : (id slot : ℕ) → IsTrue (is_live before id) → type_at m after id slot ≡ type_at m before id slot
-  type_stays id slot live =
-      ap property_type
-      (form_by_class m (map.get after id) slot ∙ ap (option_and_then (λ k. slot_form m k slot)) (stays_at id live)
-      ∙ sym (form_by_class m (map.get before id) slot))
-
   pub live_stays : (id : ℕ) → IsTrue (is_live before id) → IsTrue (is_live after id)
-  live_stays id live =
-      there_by_class (map.get after id) ∙ ap is_some (stays_at id live) ∙ sym (there_by_class (map.get before id)) ∙ live
+  live_stays id live = live_with_class m before after id (stays_at id live) live
 
   pub link_stays : (l : Link) → IsLink m before l → IsLink m after l
-  link_stays l is = record {
-    from = live_stays l.from is.from;
-    to = live_stays l.to is.to;
-    typed = rw (type_stays l.from l.from_slot is.from, type_stays l.to l.to_slot is.to) is.typed;
-  }
+  link_stays l is = link_with_classes m before after l (stays_at l.from is.from) (stays_at l.to is.to) is
 
   pub links_stay : (links : List Link) → AreLinked m before links → AreLinked m after links
   links_stay links are = record { typed = λ k d lt. link_stays _ (are.typed k d lt); at_each = are.at_each }
@@ -95,10 +103,10 @@ tied_same n = grind (arith, nat_tests)
 tied_apart : (n k : ℕ) → n ≢ k → eq_by_cmp nat_cmp n k ≡ false
 tied_apart n k ne = grind (arith, nat_tests)
 
-put_at : (all : ById) (id : ℕ) (d : Component) → map.get (map.insert all id d) id ≡ Some d
+pub put_at : (all : ById) (id : ℕ) (d : Component) → map.get (map.insert all id d) id ≡ Some d
 put_at all id d = map.get-insert nat_cmp_total all id d id ∙ rw (tied_same id) refl
 
-put_beside : (all : ById) (id : ℕ) (d : Component) (q : ℕ) → q ≢ id → map.get (map.insert all id d) q ≡ map.get all q
+pub put_beside : (all : ById) (id : ℕ) (d : Component) (q : ℕ) → q ≢ id → map.get (map.insert all id d) q ≡ map.get all q
 put_beside all id d q ne = map.get-insert nat_cmp_total all id d q ∙ rw (tied_apart q id ne) refl
 
 pub alike_put : (all : ById) (id : ℕ) (c d : Component) → map.get all id ≡ Some c → d.class ≡ c.class → AreAlike all (map.insert all id d)

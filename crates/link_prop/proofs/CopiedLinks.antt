@@ -41,27 +41,32 @@ module _ (m : Meaning) (turns : ℕ) (moment : ℤ) where
   alike_copies (l ∷ links) s =
       alike_more s.left.by_id (copy_along m turns moment s l).left.by_id _ (alike_copy s l) (alike_copies links (copy_along m turns moment s l))
 
--- the copies along the first links
+-- the copies along the first links, however many calls have trapped before
 pub record CopiedSoFar (m : Meaning) (turns : ℕ) (moment : ℤ) (start now : Components) (links : List Link) (n traps : ℕ) : Type 0 where
-  pub far : fold (copy_along m turns moment) (record { left = start; traps = 0 }) (take n links) ≡ (let s : Counted = record { left = now; traps = traps } in s)
+  pub far : (before : ℕ) → fold (copy_along m turns moment) (record { left = start; traps = before }) (take n links) ≡ (let s : Counted = record { left = now; traps = before + traps } in s)
   pub few : traps ≤ n
 
 module _ (m : Meaning) (turns : ℕ) (moment : ℤ) (start now : Components) (links : List Link) (n traps : ℕ) (was : CopiedSoFar m turns moment start now links n traps) where
   pub linked_now : (d : Link) → n < length links → All (IsLink m start.by_id) links → IsLink m now.by_id (slice_index_or links n d)
   linked_now d lt typed =
       link_stays m start.by_id now.by_id
-      (λ id k e. ap (λ (s : Counted). class_at s.left.by_id id) (sym was.far) ∙ alike_copies m turns moment (take n links) (record { left = start; traps = 0 }) id ∙ e)
+      (λ id k e. ap (λ (s : Counted). class_at s.left.by_id id) (sym (was.far 0)) ∙ alike_copies m turns moment (take n links) (record { left = start; traps = 0 }) id ∙ e)
       (slice_index_or links n d) (typed n d lt)
 
   pub copied_more : (d : Link) (after : Components) (r : Bool) → n < length links
       → ((k : ℕ) → copy_along m turns moment (record { left = now; traps = k }) (slice_index_or links n d) ≡ (let s : Counted = record { left = after; traps = k + one_if r } in s))
       → CopiedSoFar m turns moment start after links (n + 1) (traps + one_if r)
   copied_more d after r lt each = record {
-    far = fold_more (copy_along m turns moment) (record { left = start; traps = 0 }) links n d lt
-        ∙ ap (λ (s : Counted). copy_along m turns moment s (slice_index_or links n d)) was.far ∙ each traps;
+    far = λ before.
+        fold_more (copy_along m turns moment) (record { left = start; traps = before }) links n d lt
+        ∙ ap (λ (s : Counted). copy_along m turns moment s (slice_index_or links n d)) (was.far before) ∙ each (before + traps)
+        ∙ ap (λ (k : ℕ). (let s : Counted = record { left = after; traps = k } in s)) (grouped before);
     few = one_more r;
   }
     where
+      grouped : (before : ℕ) → (before + traps) + one_if r ≡ before + (traps + one_if r)
+      grouped before = omega arith
+
       one_more : (r : Bool) → traps + one_if r ≤ n + 1
       one_more true = omega (arith, was.few)
       one_more false = omega (arith, was.few)

@@ -1,3 +1,4 @@
 pub mod AlikeComponents
 pub mod ChangedLinks
 pub mod CopiedLinks
+pub mod DeletedLinks

@@ -10,6 +10,7 @@ ghost use Rattle.comp_tree.specs.Refusals.{first_refusal, refusals_of_clear, ref
 
 mod commands;
 mod copying;
+mod deleting;
 mod linking;
 
 use comp_tree::Tree;

@@ -23,7 +23,8 @@ impl<E: Engine> App<E> {
     pub fn copy_into(&mut self, id: Id, turns: u32, ticks: i64) -> u32
         requires some_turns { 1 ≤ turns }
         requires most_turns { turns ≤ 1000000 }
-        ensures copied { (let s : Counted = record { left = components_of E.Engine self.new.tree; traps = result } in s) ≡ copied_into (E.meaning self.old.tree.engine) self.old.links turns ticks (record { left = components_of E.Engine self.old.tree; traps = 0 }) id.0 }
+        ensures copied { (before : ℕ) → copied_into (E.meaning self.old.tree.engine) self.old.links turns ticks (record { left = components_of E.Engine self.old.tree; traps = before }) id.0 ≡ (let s : Counted = record { left = components_of E.Engine self.new.tree; traps = before + result } in s) }
+        ensures few { result ≤ most_links }
         ensures links { self.new.links ≡ self.old.links }
         ensures meaning { E.meaning self.new.tree.engine ≡ E.meaning self.old.tree.engine }
         ensures steady { E.fixed self.new.tree.engine ≡ E.fixed self.old.tree.engine }
@@ -39,7 +40,8 @@ fn copy_all<E: Engine>(tree: &mut Tree<E>, links: &[LinkRec], turns: u32, ticks:
     requires few { length links.now ≤ most_links }
     requires some_turns { 1 ≤ turns }
     requires most_turns { turns ≤ 1000000 }
-    ensures copied { (let s : Counted = record { left = components_of E.Engine tree.new; traps = result } in s) ≡ fold (copy_along (E.meaning tree.old.engine) turns ticks) (record { left = components_of E.Engine tree.old; traps = 0 }) links.now }
+    ensures copied { (before : ℕ) → fold (copy_along (E.meaning tree.old.engine) turns ticks) (record { left = components_of E.Engine tree.old; traps = before }) links.now ≡ (let s : Counted = record { left = components_of E.Engine tree.new; traps = before + result } in s) }
+    ensures few { result ≤ length links.now }
     ensures meaning { E.meaning tree.new.engine ≡ E.meaning tree.old.engine }
     ensures steady { E.fixed tree.new.engine ≡ E.fixed tree.old.engine }
 {

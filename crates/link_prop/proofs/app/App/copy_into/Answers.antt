@@ -1,4 +1,4 @@
-use Rattle.std.proofs.Common.{◌≤◌, length, List, sym, ap, subst, w64, to_z, of_z}
+use Rattle.std.proofs.Common.{ℕ, ◌≤◌, length, List, sym, ap, subst, w64, to_z, of_z, arith}
 use Rattle.std.specs.List.{All}
 use Rattle.link_table.specs.Link.{Link, most_links}
 use Rattle.comp_tree.specs.Calls.{Counted}
@@ -23,5 +23,13 @@ invariant_of-self g c =
     let m = g.E.Engine.meaning c.self.inside.tree.engine in
     let start = components_of g.E.Engine c.self.inside.tree in
     linked_if m (g.E.Engine.meaning c.copy_all.new.tree.engine) start (components_of g.E.Engine c.copy_all.new.tree) c.self.inside.links
-    c.self.invariant c.copy_all.ensures.meaning _ (ap (λ (s : Counted). s.left) c.copy_all.ensures.copied)
+    c.self.invariant c.copy_all.ensures.meaning _ (sym (ap (λ (s : Counted). s.left) (c.copy_all.ensures.copied 0)))
     (alike_copies m c.args.turns (to_z w64 (of_z w64 c.args.ticks)) c.into_component.result.now (record { left = start; traps = 0 }))
+
+pub returns-clause-few : goal.returns-clause-few
+returns-clause-few g c =
+    no_more c.copy_all.ensures.few
+    (subst (λ (links : List Link). length links ≤ most_links) (sym c.into_component.ensures) (few_into c.args.id.0 c.self.inside.links c.len-few.ensures.most))
+  where
+    no_more : {a b c : ℕ} → a ≤ b → b ≤ c → a ≤ c
+    no_more p q = omega arith
