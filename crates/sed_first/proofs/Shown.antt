@@ -22,7 +22,8 @@ all_of-snoc : {A B : Type 0} (shown : A → Option B) (front : List A) (x : A)
     → all_of shown (front ++ x ∷ []) ≡ (all_of shown front >>= λ ys. shown x >>= λ y. Some (ys ++ y ∷ []))
 all_of-snoc shown [] x = refl
 all_of-snoc {A} {B} shown (a ∷ front) x =
-    ap (λ (o : Option (List B)). shown a >>= λ b. o >>= λ bs. Some (b ∷ bs)) (all_of-snoc shown front x) ∙ later (shown a) (shown x) (all_of shown front)
+    ap (λ (o : Option (List B)). shown a >>= λ b. o >>= λ bs. Some (b ∷ bs)) (all_of-snoc shown front x)
+    ∙ later (shown a) (shown x) (all_of shown front)
 
 pub one_more : {A B : Type 0} (shown : A → Option B) (xs : List A) (i : ℕ) (x : A) (ys : List B) (y : B)
     → i < length xs → x ≡ get_or xs i x → shown x ≡ Some y → all_of shown (take i xs) ≡ Some ys
@@ -30,7 +31,8 @@ pub one_more : {A B : Type 0} (shown : A → Option B) (xs : List A) (i : ℕ) (
 one_more {A} {B} shown xs i x ys y within is shows so_far =
     let front : take (i + 1) xs ≡ take i xs ++ x ∷ [] =
     ap (λ (n : ℕ). take n xs) (add-one i) ∙ take-suc xs i x within ∙ ap (λ (a : A). take i xs ++ a ∷ []) (sym is) in
-    let there : (all_of shown (take i xs) >>= λ bs. shown x >>= λ b. Some (bs ++ b ∷ [])) ≡ Some (ys ++ y ∷ []) = rw (so_far, shows) refl in
+    let there : (all_of shown (take i xs) >>= λ bs. shown x >>= λ b. Some (bs ++ b ∷ [])) ≡ Some (ys ++ y ∷ []) =
+    rw (so_far, shows) refl in
     ap (all_of shown) front ∙ all_of-snoc shown (take i xs) x ∙ there
 
 none_behind : {B : Type 0} (o : Option B) → (o >>= λ b. ◌>>=◌ {A = List B} None (λ bs. Some (b ∷ bs))) ≡ None
@@ -45,14 +47,17 @@ shows_none {A} {B} shown (a ∷ xs) zero x within is none =
     rw here refl
 shows_none {A} {B} shown (a ∷ xs) (suc i) x within is none =
     let less : i < length xs = omega arith in
-    ap (λ (o : Option (List B)). shown a >>= λ b. o >>= λ bs. Some (b ∷ bs)) (shows_none shown xs i x less is none) ∙ none_behind (shown a)
+    ap (λ (o : Option (List B)). shown a >>= λ b. o >>= λ bs. Some (b ∷ bs)) (shows_none shown xs i x less is none)
+    ∙ none_behind (shown a)
 
 few : {B : Type 0} (len most : ℕ) (o p : Option B) → len ≤ most → cond (nat_le len most) o p ≡ o
 few len most o p less = let e : nat_le len most ≡ true = grind (arith, nat_tests) in rw e refl
 
 pub refused : {A B : Type 0} (shown : A → Option B) (most : ℕ) (xs : List A) (i : ℕ) (x : A) (refusal : FirstRefusal)
-    → length xs ≤ most → i < length xs → x ≡ get_or xs i x → Answers (Err refusal) (shown x) → Answers (Err refusal) (at_most most shown xs)
-refused shown most xs i x NotFirst less within is none = few (length xs) most (all_of shown xs) None less ∙ shows_none shown xs i x within is none
+    → length xs ≤ most → i < length xs → x ≡ get_or xs i x → Answers (Err refusal) (shown x)
+    → Answers (Err refusal) (at_most most shown xs)
+refused shown most xs i x NotFirst less within is none = few (length xs) most (all_of shown xs) None less
+    ∙ shows_none shown xs i x within is none
 refused shown most xs i x Memory less within is free = tt
 
 pub items_again : (trees : List Tree) → row_items (row trees) ≡ trees

@@ -170,7 +170,9 @@ is_empty (x ∷ xs) = false
 
 -- `override void execute()`
 abbrev pub is_execute : Member → Bool
-is_execute m = is_empty m.facets && (is_one is_override_word m.modifiers && (is_void m.kind.base m.kind.size && bytes_eq m.name.bytes (codes "execute")))
+is_execute m = is_empty m.facets
+    && (is_one is_override_word m.modifiers
+    && (is_void m.kind.base m.kind.size && bytes_eq m.name.bytes (codes "execute")))
 
 abbrev pub execute_of : Member → Option (List FirstAssign)
 execute_of m = if is_execute m then body_of m.form else None

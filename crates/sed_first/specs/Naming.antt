@@ -40,4 +40,5 @@ is_known_assignment props a = is_slot props a.target && list_all (is_known_term 
 
 -- the class and its properties have names of their own, and the assignments name slots
 abbrev pub is_well_named : First → Bool
-is_well_named f = not (is_type_of_sys f.class) && (have_own_names f.props && list_all (is_known_assignment f.props) f.body)
+is_well_named f = not (is_type_of_sys f.class)
+    && (have_own_names f.props && list_all (is_known_assignment f.props) f.body)

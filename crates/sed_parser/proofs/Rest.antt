@@ -15,7 +15,8 @@ at_end-drop (t ∷ ts) (suc at) within =
 pub ruleset ends = at_end-drop
 
 -- within brackets each token goes on
-pub goes_inside : (inside : Bool) (ts : List Token) (at : ℕ) → inside ≡ true → at < length ts → next_goes inside (drop at ts) ≡ true
+pub goes_inside : (inside : Bool) (ts : List Token) (at : ℕ) → inside ≡ true → at < length ts
+    → next_goes inside (drop at ts) ≡ true
 goes_inside inside [] at is within = absurd (omega arith)
 goes_inside inside (t ∷ ts) zero is within = rw is refl
 goes_inside inside (t ∷ ts) (suc at) is within =

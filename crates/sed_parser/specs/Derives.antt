@@ -9,7 +9,7 @@ use Rattle.sed_parser.specs.Classes.{classes}
 abbrev pub Derives : List Token → TheUnit → Type 0
 Derives tokens u = classes.holds u.classes tokens []
 
--- Read from left to right, the classes go on up to this token and not with it. Where the tokens end too early, it is the
--- number of all.
+-- Read from left to right, the classes go on up to this token and not with it. Where the tokens end too early, it is
+-- the number of all.
 unfoldable pub FaultsAt : List Token → ℕ → Type 0
 FaultsAt tokens n = (n ≤ length tokens) × (classes.reads tokens ≡ Stuck (drop n tokens))

@@ -1,7 +1,7 @@
 -- The grammar of expressions.
 --
--- `inside` is true within `( )` and `[ ]`. Outside of them a token that is the first on its line goes on with an expression
--- only behind an operator or a `,` that ended the line before, or where it is `.`, `&&`, `||`, `?` or `:`.
+-- `inside` is true within `( )` and `[ ]`. Outside of them a token that is the first on its line goes on with an
+-- expression only behind an operator or a `,` that ended the line before, or where it is `.`, `&&`, `||`, `?` or `:`.
 --
 -- An expression has a level: 13 any expression, 12 `? :` and what binds tighter, 11 to 2 the binary operators, 1 prefix
 -- operators and casts, 0 what stands behind a primary.

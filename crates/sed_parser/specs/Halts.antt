@@ -1,5 +1,5 @@
--- What a step of the parser answers, by what a rule reads: the value, with the tokens behind it left. Or a fault where reading
--- gets stuck, with the tokens left from there on. Want of memory is free.
+-- What a step of the parser answers, by what a rule reads: the value, with the tokens behind it left. Or a fault where
+-- reading gets stuck, with the tokens left from there on. Want of memory is free.
 use Rattle.std.specs.Prelude.{◌≡◌, List, Result, Ok, Err}
 use Rattle.sed_lexer.specs.Token.{Token}
 use Rattle.sed_parser.specs.Reading.{Reading, Found, Stuck}

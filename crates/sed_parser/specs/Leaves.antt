@@ -1,6 +1,7 @@
 -- The grammar of names, literals, types, facets, modifiers, parameters and initial values.
 use Rattle.std.specs.Prelude.{ℕ, List, Option, Some, None, codes}
 use Rattle.sed_value.specs.declared.slot_type.Primitive.{Primitive as Prim}
+use Rattle.sed_lexer.specs.declared.kind.TokenKind.{TokenKind}
 use Rattle.sed_units.specs.declared.leaves.Ident.{Ident}
 use Rattle.sed_units.specs.declared.leaves.Literal.{Literal}
 use Rattle.sed_units.specs.declared.leaves.TypeName.{TypeName}
@@ -21,7 +22,7 @@ use Rattle.sed_units.specs.declared.operators.AssignOp.{AssignOp}
 use Rattle.sed_units.specs.declared.operators.PrefixOp.{PrefixOp}
 use Rattle.sed_units.specs.declared.operators.UpdateOp.{UpdateOp}
 use Rattle.sed_parser.specs.Rule.{Rule, give, look, token, when, must, ◌>>=◌, ◌>>◌}
-use Rattle.sed_units.specs.Words.{mark_of, key_of, ident_of, literal_of, integer_of, prim_of, modifier_of, binary_of, assignment_of, update_of, prefix_of}
+use Rattle.sed_units.specs.Words.{mark_of, key_of, ident_of, literal_of, integer_of, prim_of, modifier_of, binary_of, at_level, assignment_of, update_of, prefix_of}
 use Rattle.sed_parser.specs.Next.{start_of, next_mark, next_key, next_literal, next_prim, may_end}
 
 unfoldable pub mark : List ℕ → Rule (Unit {0})
@@ -39,24 +40,28 @@ literal = token literal_of
 unfoldable pub integer : Rule Literal
 integer = token integer_of
 
-unfoldable pub prim : Rule Prim
-prim = token (λ t. prim_of t.kind t.bytes)
+-- one token that is something by a table
+unfoldable pub of_told : {A : Type 0} → (TokenKind → List ℕ → Option A) → Rule A
+of_told told = token (λ t. told t.kind t.bytes)
 
-unfoldable pub modifier_word : Rule ModifierWord
-modifier_word = token (λ t. modifier_of t.kind t.bytes)
+abbrev pub prim : Rule Prim
+prim = of_told prim_of
+
+abbrev pub modifier_word : Rule ModifierWord
+modifier_word = of_told modifier_of
+
+abbrev pub assignment : Rule AssignOp
+assignment = of_told assignment_of
+
+abbrev pub update : Rule UpdateOp
+update = of_told update_of
+
+abbrev pub prefix : Rule PrefixOp
+prefix = of_told prefix_of
 
 -- a binary operator of a level
 unfoldable pub binary : ℕ → Rule BinaryOp
-binary level = token (λ t. binary_of level t.kind t.bytes)
-
-unfoldable pub assignment : Rule AssignOp
-assignment = token (λ t. assignment_of t.kind t.bytes)
-
-unfoldable pub update : Rule UpdateOp
-update = token (λ t. update_of t.kind t.bytes)
-
-unfoldable pub prefix : Rule PrefixOp
-prefix = token (λ t. prefix_of t.kind t.bytes)
+binary level = token (λ t. at_level level (binary_of t.kind t.bytes))
 
 -- the place where the next token begins
 abbrev pub place : Rule ℕ

@@ -1,6 +1,8 @@
 pub mod Phrase
 pub mod Reading
+pub mod ReadingFacts
 pub mod Rule
+pub mod ManyFacts
 pub mod Many
 pub mod Halts
 pub mod Next

@@ -1,8 +1,9 @@
 -- What is next: tests of the tokens from a place on.
-use Rattle.std.specs.Prelude.{ℕ, Bool, true, false, ◌||◌, ◌&&◌, List, [], ◌∷◌, drop, codes}
+use Rattle.std.specs.Prelude.{ℕ, Bool, true, false, ◌||◌, ◌&&◌, List, [], ◌∷◌, Option, None, drop, codes}
 use Rattle.std.specs.Str.{bytes_eq}
 use Rattle.sed_lexer.specs.Token.{Token}
-use Rattle.sed_units.specs.Words.{is_some, is_mark, is_key, is_id, literal_kind, prim_of, modifier_of, binary_of, assignment_of, update_of, prefix_of, goes}
+use Rattle.sed_lexer.specs.declared.kind.TokenKind.{TokenKind}
+use Rattle.sed_units.specs.Words.{is_some, is_mark, is_key, is_id, literal_kind, prim_of, modifier_of, binary_of, at_level, assignment_of, update_of, prefix_of, goes}
 
 -- the place of the next token in the text, and 0 at the end
 abbrev pub start_of : List Token → ℕ
@@ -21,33 +22,32 @@ abbrev pub next_id : List Token → Bool
 next_id [] = false
 next_id (t ∷ ts) = is_id t.kind
 
+-- what the next token is by a table
+abbrev pub next_as : {A : Type 0} → (TokenKind → List ℕ → Option A) → List Token → Option A
+next_as told [] = None
+next_as told (t ∷ ts) = told t.kind t.bytes
+
 abbrev pub next_literal : List Token → Bool
-next_literal [] = false
-next_literal (t ∷ ts) = is_some (literal_kind t.kind t.bytes)
+next_literal tokens = is_some (next_as literal_kind tokens)
 
 abbrev pub next_prim : List Token → Bool
-next_prim [] = false
-next_prim (t ∷ ts) = is_some (prim_of t.kind t.bytes)
+next_prim tokens = is_some (next_as prim_of tokens)
 
 abbrev pub next_modifier : List Token → Bool
-next_modifier [] = false
-next_modifier (t ∷ ts) = is_some (modifier_of t.kind t.bytes)
+next_modifier tokens = is_some (next_as modifier_of tokens)
 
+-- a binary operator of this level
 abbrev pub next_binary : ℕ → List Token → Bool
-next_binary level [] = false
-next_binary level (t ∷ ts) = is_some (binary_of level t.kind t.bytes)
+next_binary level tokens = is_some (at_level level (next_as binary_of tokens))
 
 abbrev pub next_assignment : List Token → Bool
-next_assignment [] = false
-next_assignment (t ∷ ts) = is_some (assignment_of t.kind t.bytes)
+next_assignment tokens = is_some (next_as assignment_of tokens)
 
 abbrev pub next_update : List Token → Bool
-next_update [] = false
-next_update (t ∷ ts) = is_some (update_of t.kind t.bytes)
+next_update tokens = is_some (next_as update_of tokens)
 
 abbrev pub next_prefix : List Token → Bool
-next_prefix [] = false
-next_prefix (t ∷ ts) = is_some (prefix_of t.kind t.bytes)
+next_prefix tokens = is_some (next_as prefix_of tokens)
 
 -- the next token goes on with an expression
 abbrev pub next_goes : Bool → List Token → Bool

@@ -1,7 +1,7 @@
 -- The grammar of statements.
 --
--- A statement in a method's own body has room for 64 constructs one within the other. A statement within a statement takes
--- one, and so does a pair of brackets.
+-- A statement in a method's own body has room for 64 constructs one within the other. A statement within a statement
+-- takes one, and so does a pair of brackets.
 use Rattle.std.specs.Prelude.{ℕ, zero, suc, Bool, true, false, not, ◌||◌, List, Option, Some, None, codes}
 use Rattle.sed_lexer.specs.Token.{Token}
 use Rattle.sed_units.specs.declared.leaves.Ident.{Ident}
@@ -12,7 +12,7 @@ use Rattle.sed_units.specs.declared.statements.ForFirst.{ForFirst}
 use Rattle.sed_units.specs.declared.statements.ForFirst.TheVariants as first
 use Rattle.sed_units.specs.Tree.{Tree, Absent, Part, row, optional}
 use Rattle.sed_units.specs.StatementTree.{local_tree, for_tree, case_tree}
-use Rattle.sed_parser.specs.Rule.{Rule, give, nothing, when, must, headed, ◌>>=◌, ◌>>◌}
+use Rattle.sed_parser.specs.Rule.{Rule, give, nothing, when, must, where_begins, ◌>>=◌, ◌>>◌}
 use Rattle.sed_parser.specs.Many.{many}
 use Rattle.sed_parser.specs.Next.{next_mark, next_key, next_first, may_end}
 use Rattle.sed_parser.specs.Leaves as part
@@ -77,7 +77,8 @@ return_statement room = do
 
 -- `return`, a local or an expression. What can be a local is one.
 unfoldable pub valued : ℕ → Rule Tree
-valued room = when (next_key (codes "return")) (return_statement room) (headed local_head (local_statement room) (expression_statement room))
+valued room = when (next_key (codes "return")) (return_statement room)
+    (where_begins local_head (local_statement room) (expression_statement room))
 
 -- a statement with no other one within it
 unfoldable pub plain : ℕ → Rule Tree
@@ -109,7 +110,8 @@ condition room = do
 
 -- a statement begins here: the row of statements does not end
 abbrev pub next_statement : List Token → Bool
-next_statement tokens = not (next_mark (codes "}") tokens || (next_key (codes "case") tokens || next_key (codes "default") tokens))
+next_statement tokens = not (next_mark (codes "}") tokens
+    || (next_key (codes "case") tokens || next_key (codes "default") tokens))
 
 unfoldable pub statements : Rule Tree → Rule (List Tree)
 statements within = many next_statement within
@@ -177,7 +179,7 @@ for_first room = when (next_mark (codes ";"))
     (do
       part.mark (codes ";")
       give first.Nothing)
-    (headed local_head (for_local room) (for_evaluate room))
+    (where_begins local_head (for_local room) (for_evaluate room))
 
 -- `for (FIRST;`
 unfoldable pub for_start : ℕ → Rule ForFirst

@@ -5,12 +5,6 @@
 
 mod boxed;
 mod halt;
-mod parse_classes;
-mod parse_expressions;
-mod parse_leaves;
-mod parse_nesting;
-mod parse_statements;
-mod parse_steps;
 mod parser;
 mod parsing;
 

@@ -6,18 +6,22 @@ ghost use Rattle.sed_parser.specs.Next as next;
 ghost use Rattle.sed_parser.specs.Reading.{further};
 ghost use Rattle.sed_parser.specs.Halts.{Gives};
 
+mod classes;
+mod expressions;
+mod leaves;
+mod nesting;
+mod statements;
+mod steps;
+
 use crate::halt::Halt;
 use sed_lexer::{TokenKind, Tokens};
-use sed_units::{
-    AssignOp, BinaryOp, Ident, Literal, LiteralKind, ModifierWord, PrefixOp, UpdateOp,
-    assignment_of, binary_of, leads_on, literal_kind, modifier_of, prefix_of, prim_of, update_of,
-};
+use sed_units::{BinaryOp, Ident, Literal, LiteralKind, OfToken, leads_on};
 use sed_value::{Items, Prim};
 use std::alloc::Global;
 use std::marker::Model;
 
-/// The tokens from a place on. A step that faults leaves the parser at the token that it could not pass, and a step over one
-/// token where it was.
+/// The tokens from a place on. A step that faults leaves the parser at the token that it could not pass, and a step
+/// over one token where it was.
 #[derive(Drop)]
 pub struct Parser<'a> {
     tokens: &'a Tokens,
@@ -138,53 +142,24 @@ impl<'a> Parser<'a> {
                 && self.tokens.bytes(self.at) == b"}".as_slice())
     }
 
-    pub fn is_literal(&self) -> bool
-        ensures { result ≡ next.next_literal self.now }
+    /// What the next token is, if it is one of these.
+    pub fn peek<T: OfToken>(&self) -> Option<T>
+        ensures { result ≡ next.next_as T.told self.now }
     {
-        self.at < self.tokens.len()
-            && literal_kind(self.tokens.kind(self.at), self.tokens.bytes(self.at)).is_some()
+        if self.at == self.tokens.len() {
+            return None;
+        }
+        T::of(self.tokens.kind(self.at), self.tokens.bytes(self.at))
     }
 
-    pub fn is_prim(&self) -> bool
-        ensures { result ≡ next.next_prim self.now }
-    {
-        self.at < self.tokens.len()
-            && prim_of(self.tokens.kind(self.at), self.tokens.bytes(self.at)).is_some()
-    }
-
-    pub fn is_modifier(&self) -> bool
-        ensures { result ≡ next.next_modifier self.now }
-    {
-        self.at < self.tokens.len()
-            && modifier_of(self.tokens.kind(self.at), self.tokens.bytes(self.at)).is_some()
-    }
-
+    /// Whether the next token is a binary operator of a level.
     pub fn is_binary(&self, level: usize) -> bool
         ensures { result ≡ next.next_binary level self.now }
     {
-        self.at < self.tokens.len()
-            && binary_of(level, self.tokens.kind(self.at), self.tokens.bytes(self.at)).is_some()
-    }
-
-    pub fn is_assignment(&self) -> bool
-        ensures { result ≡ next.next_assignment self.now }
-    {
-        self.at < self.tokens.len()
-            && assignment_of(self.tokens.kind(self.at), self.tokens.bytes(self.at)).is_some()
-    }
-
-    pub fn is_update(&self) -> bool
-        ensures { result ≡ next.next_update self.now }
-    {
-        self.at < self.tokens.len()
-            && update_of(self.tokens.kind(self.at), self.tokens.bytes(self.at)).is_some()
-    }
-
-    pub fn is_prefix(&self) -> bool
-        ensures { result ≡ next.next_prefix self.now }
-    {
-        self.at < self.tokens.len()
-            && prefix_of(self.tokens.kind(self.at), self.tokens.bytes(self.at)).is_some()
+        match self.peek::<BinaryOp>() {
+            Some(op) => op.level() == level,
+            None => false,
+        }
     }
 
     /// Whether the token behind the next one is a primitive type.
@@ -199,7 +174,7 @@ impl<'a> Parser<'a> {
             tokens: self.tokens,
             at: self.at + 1,
         };
-        behind.is_prim()
+        behind.peek::<Prim>().is_some()
     }
 
     /// Passes a mark with these bytes.
@@ -255,7 +230,8 @@ impl<'a> Parser<'a> {
         if self.at == self.tokens.len() {
             return Err(Halt::Fault);
         }
-        let Some(kind) = literal_kind(self.tokens.kind(self.at), self.tokens.bytes(self.at)) else {
+        let Some(kind) = LiteralKind::of(self.tokens.kind(self.at), self.tokens.bytes(self.at))
+        else {
             return Err(Halt::Fault);
         };
         let at = self.tokens.start(self.at);
@@ -287,34 +263,22 @@ impl<'a> Parser<'a> {
         })
     }
 
-    #[tactic(auto, unfolding(crate::specs::Leaves::prim))]
-    pub fn prim(&mut self) -> Result<Prim, Halt>
-        ensures { Gives result self.new (grammar.prim.reads self.old) }
+    /// Passes the next token, where it is one of these.
+    #[tactic(auto, unfolding(crate::specs::Leaves::of_told))]
+    pub fn take<T: OfToken>(&mut self) -> Result<T, Halt>
+        ensures { Gives result self.new ((grammar.of_told T.told).reads self.old) }
     {
         if self.at == self.tokens.len() {
             return Err(Halt::Fault);
         }
-        let Some(word) = prim_of(self.tokens.kind(self.at), self.tokens.bytes(self.at)) else {
+        let Some(found) = T::of(self.tokens.kind(self.at), self.tokens.bytes(self.at)) else {
             return Err(Halt::Fault);
         };
         self.at += 1;
-        Ok(word)
+        Ok(found)
     }
 
-    #[tactic(auto, unfolding(crate::specs::Leaves::modifier_word))]
-    pub fn modifier_word(&mut self) -> Result<ModifierWord, Halt>
-        ensures { Gives result self.new (grammar.modifier_word.reads self.old) }
-    {
-        if self.at == self.tokens.len() {
-            return Err(Halt::Fault);
-        }
-        let Some(word) = modifier_of(self.tokens.kind(self.at), self.tokens.bytes(self.at)) else {
-            return Err(Halt::Fault);
-        };
-        self.at += 1;
-        Ok(word)
-    }
-
+    /// Passes a binary operator of a level.
     #[tactic(auto, unfolding(crate::specs::Leaves::binary))]
     pub fn binary_op(&mut self, level: usize) -> Result<BinaryOp, Halt>
         ensures { Gives result self.new ((grammar.binary level).reads self.old) }
@@ -322,52 +286,12 @@ impl<'a> Parser<'a> {
         if self.at == self.tokens.len() {
             return Err(Halt::Fault);
         }
-        let Some(op) = binary_of(level, self.tokens.kind(self.at), self.tokens.bytes(self.at))
-        else {
+        let Some(op) = BinaryOp::of(self.tokens.kind(self.at), self.tokens.bytes(self.at)) else {
             return Err(Halt::Fault);
         };
-        self.at += 1;
-        Ok(op)
-    }
-
-    #[tactic(auto, unfolding(crate::specs::Leaves::assignment))]
-    pub fn assignment_op(&mut self) -> Result<AssignOp, Halt>
-        ensures { Gives result self.new (grammar.assignment.reads self.old) }
-    {
-        if self.at == self.tokens.len() {
+        if op.level() != level {
             return Err(Halt::Fault);
         }
-        let Some(op) = assignment_of(self.tokens.kind(self.at), self.tokens.bytes(self.at)) else {
-            return Err(Halt::Fault);
-        };
-        self.at += 1;
-        Ok(op)
-    }
-
-    #[tactic(auto, unfolding(crate::specs::Leaves::update))]
-    pub fn update_op(&mut self) -> Result<UpdateOp, Halt>
-        ensures { Gives result self.new (grammar.update.reads self.old) }
-    {
-        if self.at == self.tokens.len() {
-            return Err(Halt::Fault);
-        }
-        let Some(op) = update_of(self.tokens.kind(self.at), self.tokens.bytes(self.at)) else {
-            return Err(Halt::Fault);
-        };
-        self.at += 1;
-        Ok(op)
-    }
-
-    #[tactic(auto, unfolding(crate::specs::Leaves::prefix))]
-    pub fn prefix_op(&mut self) -> Result<PrefixOp, Halt>
-        ensures { Gives result self.new (grammar.prefix.reads self.old) }
-    {
-        if self.at == self.tokens.len() {
-            return Err(Halt::Fault);
-        }
-        let Some(op) = prefix_of(self.tokens.kind(self.at), self.tokens.bytes(self.at)) else {
-            return Err(Halt::Fault);
-        };
         self.at += 1;
         Ok(op)
     }

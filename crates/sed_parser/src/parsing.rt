@@ -20,8 +20,9 @@ pub enum ParseRefusal {
     Memory,
 }
 
-/// The unit that the tokens derive, or `Fault` where they derive none, unless memory runs out. The token of a fault is the
-/// one at which reading them by the grammar, from left to right, gets stuck, or the number of tokens where they end too early.
+/// The unit that the tokens derive, or `Fault` where they derive none, unless memory runs out. The token of a fault is
+/// the one at which reading them by the grammar, from left to right, gets stuck, or the number of tokens where they end
+/// too early.
 pub fn parse(alloc: Global, tokens: &Tokens) -> Result<Unit, ParseRefusal>
     ensures found { IfOk result (λ u. Derives tokens.now u) }
     // No other unit is derived.

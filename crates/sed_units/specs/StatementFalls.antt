@@ -9,7 +9,8 @@ use Rattle.sed_units.specs.declared.statements.Form.{Form}
 use Rattle.sed_units.specs.declared.statements.Form.TheVariants as form
 use Rattle.sed_units.specs.declared.statements.Case.TheDeep.{deep-Form}
 
-pub case_falls : (at : ℕ) (l : Option Tree) (body : List Tree) → most (λ t. tree_size t + 1) body ≤ tree_size (case_tree at l body)
+pub case_falls : (at : ℕ) (l : Option Tree) (body : List Tree)
+    → most (λ t. tree_size t + 1) body ≤ tree_size (case_tree at l body)
 case_falls at None body = omega (arith, row_falls body)
 case_falls at (Some e) body = omega (arith, row_falls body)
 

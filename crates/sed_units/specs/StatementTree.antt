@@ -19,7 +19,8 @@ first_tree (first.Evaluate e) = e
 
 abbrev pub for_tree : ℕ → ForHead → Tree → Tree
 for_tree at head s =
-    Part (label.For at) (Part label.Both (first_tree head.first) (optional head.condition)) (Part label.Both (optional head.last) s)
+    Part (label.For at) (Part label.Both (first_tree head.first) (optional head.condition))
+    (Part label.Both (optional head.last) s)
 
 abbrev pub form_tree : ℕ → Form → Tree
 form_tree at (form.Block ss) = Part (label.Block at) (row ss.items) Absent

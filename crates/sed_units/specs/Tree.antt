@@ -1,5 +1,5 @@
--- Trees of expressions and statements, without places in memory. A node has a label and two parts. A row of nodes is a chain
--- of parts, with `More` before each item.
+-- Trees of expressions and statements, without places in memory. A node has a label and two parts. A row of nodes is a
+-- chain of parts, with `More` before each item.
 use Rattle.std.specs.Prelude.{◌≡◌, ℕ, ◌+◌, List, [], ◌∷◌, Option, Some, None, refl}
 use Rattle.std.proofs.Common.{◌∙◌, ap}
 use Rattle.std.specs.Coded.{Coded, code_by, coded_list, coded_option}
@@ -42,9 +42,11 @@ built [] stack = stack
 built (None ∷ s) stack = built s (Absent ∷ stack)
 built (Some l ∷ s) stack = built s (joined l stack)
 
-pub built_again : (t : Tree) (rest : List (Option Label)) (stack : List Tree) → built (labels t rest) stack ≡ built rest (t ∷ stack)
+pub built_again : (t : Tree) (rest : List (Option Label)) (stack : List Tree)
+    → built (labels t rest) stack ≡ built rest (t ∷ stack)
 built_again Absent rest stack = refl
-built_again (Part l a b) rest stack = built_again a (labels b (Some l ∷ rest)) stack ∙ built_again b (Some l ∷ rest) (a ∷ stack)
+built_again (Part l a b) rest stack = built_again a (labels b (Some l ∷ rest)) stack
+    ∙ built_again b (Some l ∷ rest) (a ∷ stack)
 
 abbrev pub top : List Tree → Tree
 top [] = Absent
@@ -54,4 +56,5 @@ pub top_again : (t : Tree) → top (built (labels t []) []) ≡ t
 top_again t = ap top (built_again t [] [])
 
 abbrev pub tree_code : Coded Label → Coded Tree
-tree_code c = code_by (List (Option Label)) (coded_list (coded_option c)) (λ t. labels t []) (λ s. top (built s [])) top_again
+tree_code c = code_by (List (Option Label)) (coded_list (coded_option c)) (λ t. labels t []) (λ s. top (built s []))
+    top_again

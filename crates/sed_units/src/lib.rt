@@ -1,8 +1,8 @@
-//! Units of the language, as trees: classes, members, statements and expressions, and the words and marks that name their
-//! leaves.
+//! Units of the language, as trees: classes, members, statements and expressions, and the words and marks that name
+//! their leaves.
 //!
-//! The trees hold what a text says and where, and nothing of what it means. `specs/` sees each as a tree of labels, which
-//! the grammar and the checker speak of alike, and has the tables of words and operators.
+//! The trees hold what a text says and where, and nothing of what it means. `specs/` sees each as a tree of labels,
+//! which the grammar and the checker speak of alike, and has the tables of words and operators.
 #![tactic(auto)]
 
 mod classes;
@@ -11,7 +11,7 @@ mod label;
 mod leaves;
 mod operators;
 mod statements;
-mod tables;
+mod words;
 
 pub use classes::{Class, Member, MemberForm, Unit};
 pub use expressions::{Expr, Link, Node, Step};
@@ -22,6 +22,4 @@ pub use leaves::{
 };
 pub use operators::{AssignOp, BinaryOp, PrefixOp, UpdateOp};
 pub use statements::{Case, ForFirst, ForHead, Form, Local, Stmt};
-pub use tables::{
-    assignment_of, binary_of, leads_on, literal_kind, modifier_of, prefix_of, prim_of, update_of,
-};
+pub use words::{OfToken, leads_on};

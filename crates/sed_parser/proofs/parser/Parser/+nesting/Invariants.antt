@@ -1,5 +1,5 @@
 use Rattle.std.proofs.Common.{◌≡◌, ◌-◌, ◌+◌, ◌*◌, length}
-use Rattle.sed_parser.specs.Many.{many_at}
+use Rattle.sed_parser.specs.Reading.{many_at}
 use Rattle.sed_parser.specs.Statements.{inner, next_statement, case_of, next_case}
 use Rattle.sed_parser.proofs.Repeats.{with_front}
 use Rattle.sed_parser.proofs.parser.Parser.+nesting.Given as goal

@@ -1,5 +1,5 @@
 use Rattle.std.proofs.Common.{◌≡◌, ◌-◌, ◌+◌, ◌*◌, length}
-use Rattle.sed_parser.specs.Many.{many_at}
+use Rattle.sed_parser.specs.Reading.{many_at}
 use Rattle.sed_parser.specs.Next.{next_mark}
 use Rattle.std.specs.Prelude.{codes}
 use Rattle.sed_parser.specs.Expressions.{deeper, expression, access, next_access, operand, next_operand, next_argument}
@@ -58,15 +58,21 @@ decreases-assigned l = 100 * l.room + 88
 -- what was read so far and what is still read make all of it
 abbrev pub invariant-access_links-loop : goal.invariant-access_links-loop
 invariant-access_links-loop l =
-    with_front l.links.items (many_at (next_access l.inside) (access (deeper l.room) l.inside).reads (l.most - l.counter) l.self)
+    with_front l.links.items
+    (many_at (next_access l.inside) (access (deeper l.room) l.inside).reads (l.most - l.counter) l.self)
     ≡ many_at (next_access l.inside) (access (deeper l.room) l.inside).reads (length l.initial.self) l.initial.self
 
 abbrev pub invariant-operand_links-loop : goal.invariant-operand_links-loop
 invariant-operand_links-loop l =
-    with_front l.links.items (many_at (next_operand l.inside l.level) (operand l.level (expression l.room (l.level - 1) l.inside)).reads (l.most - l.counter) l.self)
-    ≡ many_at (next_operand l.inside l.level) (operand l.level (expression l.room (l.level - 1) l.inside)).reads (length l.initial.self) l.initial.self
+    with_front l.links.items
+    (many_at (next_operand l.inside l.level) (operand l.level (expression l.room (l.level - 1) l.inside)).reads
+    (l.most - l.counter) l.self)
+    ≡ many_at (next_operand l.inside l.level) (operand l.level (expression l.room (l.level - 1) l.inside)).reads
+    (length l.initial.self) l.initial.self
 
 abbrev pub invariant-more_arguments-loop : goal.invariant-more_arguments-loop
 invariant-more_arguments-loop l =
-    with_front l.args.items (many_at (next_mark (codes ",")) (next_argument (deeper l.room)).reads (l.most - l.counter) l.self)
-    ≡ with_front (l.initial.args.items) (many_at (next_mark (codes ",")) (next_argument (deeper l.room)).reads (length l.initial.self) l.initial.self)
+    with_front l.args.items
+    (many_at (next_mark (codes ",")) (next_argument (deeper l.room)).reads (l.most - l.counter) l.self)
+    ≡ with_front (l.initial.args.items)
+    (many_at (next_mark (codes ",")) (next_argument (deeper l.room)).reads (length l.initial.self) l.initial.self)

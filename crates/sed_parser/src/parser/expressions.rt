@@ -144,14 +144,15 @@ impl<'a> Parser<'a> {
     #[cycle(parsing)]
     #[tactic(auto, unfolding(crate::specs::Expressions::assigned))]
     fn assigned(&mut self, alloc: Global, room: usize, inside: bool) -> Result<Expr, Halt>
-        ensures { Gives result self.new ((grammar.assigned (grammar.deeper room) inside (grammar.expression room 12 inside)).reads self.old) }
+        ensures { Gives result self.new
+            ((grammar.assigned (grammar.deeper room) inside (grammar.expression room 12 inside)).reads self.old) }
     {
         let at = self.start();
         let target = self.expression(alloc, room, CONDITIONAL, inside)?;
-        if !(self.goes(inside) && self.is_assignment()) {
+        if !(self.goes(inside) && self.peek::<AssignOp>().is_some()) {
             return Ok(target);
         }
-        let op = self.assignment_op()?;
+        let op = self.take::<AssignOp>()?;
         let value = self.deeper(alloc, room, WHOLE, inside)?;
         assign(alloc, at, op, target, value)
     }
@@ -159,7 +160,8 @@ impl<'a> Parser<'a> {
     #[cycle(parsing)]
     #[tactic(auto, unfolding(crate::specs::Expressions::conditional))]
     fn conditional(&mut self, alloc: Global, room: usize, inside: bool) -> Result<Expr, Halt>
-        ensures { Gives result self.new ((grammar.conditional (grammar.deeper room) inside (grammar.expression room 11 inside)).reads self.old) }
+        ensures { Gives result self.new
+            ((grammar.conditional (grammar.deeper room) inside (grammar.expression room 11 inside)).reads self.old) }
     {
         let at = self.start();
         let first = self.expression(alloc, room, CONDITIONAL - 1, inside)?;
@@ -176,18 +178,19 @@ impl<'a> Parser<'a> {
     #[cycle(parsing)]
     #[tactic(auto, unfolding(crate::specs::Expressions::prefixed))]
     fn prefixed(&mut self, alloc: Global, room: usize, inside: bool) -> Result<Expr, Halt>
-        ensures { Gives result self.new ((grammar.prefixed (grammar.deeper room) inside (grammar.expression room 0 inside)).reads self.old) }
+        ensures { Gives result self.new
+            ((grammar.prefixed (grammar.deeper room) inside (grammar.expression room 0 inside)).reads self.old) }
     {
         let at = self.start();
-        if self.is_prefix() {
-            let op = self.prefix_op()?;
+        if self.peek::<PrefixOp>().is_some() {
+            let op = self.take::<PrefixOp>()?;
             self.onward(inside)?;
             let e = self.deeper(alloc, room, PREFIX, inside)?;
             return prefix(alloc, at, op, e);
         }
         if self.is_mark(b"(") && self.is_second_prim() {
             self.mark(b"(")?;
-            let kind = self.prim()?;
+            let kind = self.take::<Prim>()?;
             self.mark(b")")?;
             self.onward(inside)?;
             let e = self.deeper(alloc, room, PREFIX, inside)?;
@@ -207,7 +210,8 @@ impl<'a> Parser<'a> {
     ) -> Result<Expr, Halt>
         requires above { 1 < level }
         requires below { level < 12 }
-        ensures { Gives result self.new ((grammar.operands level inside (grammar.expression room (level - 1) inside)).reads self.old) }
+        ensures { Gives result self.new
+            ((grammar.operands level inside (grammar.expression room (level - 1) inside)).reads self.old) }
     {
         let at = self.start();
         let first = self.expression(alloc, room, level - 1, inside)?;
@@ -225,7 +229,8 @@ impl<'a> Parser<'a> {
     ) -> Result<Items<Link>, Halt>
         requires above { 1 < level }
         requires below { level < 12 }
-        ensures { Gives result self.new ((grammar.operand_links level inside (grammar.expression room (level - 1) inside)).reads self.old) }
+        ensures { Gives result self.new
+            ((grammar.operand_links level inside (grammar.expression room (level - 1) inside)).reads self.old) }
     {
         let mut links = Vec::new(alloc);
         let most = self.left();
@@ -253,7 +258,8 @@ impl<'a> Parser<'a> {
     ) -> Result<Link, Halt>
         requires above { 1 < level }
         requires below { level < 12 }
-        ensures { Gives result self.new ((grammar.operand level (grammar.expression room (level - 1) inside)).reads self.old) }
+        ensures { Gives result self.new
+            ((grammar.operand level (grammar.expression room (level - 1) inside)).reads self.old) }
     {
         let at = self.start();
         let op = self.binary_op(level)?;
@@ -272,8 +278,8 @@ impl<'a> Parser<'a> {
         let at = self.start();
         let first = self.primary(alloc, room, inside)?;
         let links = self.access_links(alloc, room, inside)?;
-        if self.goes(inside) && self.is_update() {
-            let op = self.update_op()?;
+        if self.goes(inside) && self.peek::<UpdateOp>().is_some() {
+            let op = self.take::<UpdateOp>()?;
             let e = chain(alloc, at, first, links)?;
             return update(alloc, at, op, e);
         }

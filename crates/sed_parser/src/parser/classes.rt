@@ -3,15 +3,16 @@ ghost use Rattle.std.specs.Prelude.{◌≡◌, Bool, true, false, not, List, ◌
 ghost use Rattle.sed_lexer.specs.Token.{Token};
 ghost use Rattle.sed_parser.specs.Classes as grammar;
 ghost use Rattle.sed_parser.specs.Leaves as part;
-ghost use Rattle.sed_parser.specs.Many.{many_at};
-ghost use Rattle.sed_parser.specs.Reading.{Reads};
+ghost use Rattle.sed_parser.specs.Reading.{many_at, Reads};
 ghost use Rattle.sed_parser.specs.Next as next;
 ghost use Rattle.sed_parser.specs.Statements as statements;
 ghost use Rattle.sed_parser.specs.Halts.{Gives, Makes};
 
 use crate::halt::Halt;
 use crate::parser::Parser;
-use sed_units::{Class, Facet, Init, Member, MemberForm, Modifier, Param, Stmt, TypeName};
+use sed_units::{
+    Class, Facet, Init, Member, MemberForm, Modifier, ModifierWord, Param, Stmt, TypeName,
+};
 use sed_value::Items;
 use std::alloc::Global;
 
@@ -53,7 +54,7 @@ impl Item for Modifier {
     ghost item_at = { part.modifier.reads };
 
     fn goes(parser: &Parser) -> bool {
-        parser.is_modifier()
+        parser.peek::<ModifierWord>().is_some()
     }
 
     fn read(_: Global, parser: &mut Parser) -> Result<Modifier, Halt> {

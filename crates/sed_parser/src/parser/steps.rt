@@ -5,7 +5,7 @@ ghost use Rattle.sed_parser.specs.Halts.{Gives};
 
 use crate::halt::Halt;
 use crate::parser::Parser;
-use sed_units::{Expr, Ident, Node};
+use sed_units::{Expr, Ident, LiteralKind, Node};
 use std::alloc::Global;
 
 impl<'a> Parser<'a> {
@@ -28,7 +28,7 @@ impl<'a> Parser<'a> {
     pub fn is_leaf(&self) -> bool
         ensures { result ≡ grammar.next_leaf self.now }
     {
-        self.is_literal() || self.is_key(b"this")
+        self.peek::<LiteralKind>().is_some() || self.is_key(b"this")
     }
 
     pub fn is_operand(&self, inside: bool, level: usize) -> bool
@@ -47,7 +47,7 @@ impl<'a> Parser<'a> {
     pub fn leaf(&mut self, alloc: Global) -> Result<Expr, Halt>
         ensures { Gives result self.new (grammar.leaf.reads self.old) }
     {
-        if self.is_literal() {
+        if self.peek::<LiteralKind>().is_some() {
             let literal = self.literal(alloc)?;
             return Ok(Expr {
                 at: literal.at,

@@ -1,7 +1,7 @@
 use Rattle.std.proofs.Common.{◌≡◌, ◌-◌, length}
-use Rattle.sed_parser.specs.Many.{many_at}
+use Rattle.sed_parser.specs.Reading.{many_at}
 use Rattle.sed_parser.proofs.Repeats.{with_front}
-use Rattle.sed_parser.proofs.parse_classes.all.Given as goal
+use Rattle.sed_parser.proofs.parser.classes.all.Given as goal
 
 -- what was read so far and what is still read make all of it
 abbrev pub invariant-loop : goal.invariant-loop

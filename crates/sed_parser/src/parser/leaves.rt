@@ -5,7 +5,11 @@ ghost use Rattle.sed_parser.specs.Halts.{Gives};
 
 use crate::halt::Halt;
 use crate::parser::Parser;
-use sed_units::{Base, Facet, Init, InitValue, Literal, Modifier, Param, Size, TypeName, TypeRef};
+use sed_units::{
+    Base, Facet, Init, InitValue, Literal, LiteralKind, Modifier, ModifierWord, Param, Size,
+    TypeName, TypeRef,
+};
+use sed_value::Prim;
 use std::alloc::Global;
 
 impl<'a> Parser<'a> {
@@ -50,8 +54,8 @@ impl<'a> Parser<'a> {
     fn base_of_type(&mut self, alloc: Global) -> Result<Base, Halt>
         ensures { Gives result self.new (grammar.base_of_type.reads self.old) }
     {
-        if self.is_prim() {
-            let word = self.prim()?;
+        if self.peek::<Prim>().is_some() {
+            let word = self.take::<Prim>()?;
             return Ok(Base::Primitive(word));
         }
         if self.is_key(b"void") {
@@ -119,7 +123,7 @@ impl<'a> Parser<'a> {
         ensures { Gives result self.new (grammar.modifier.reads self.old) }
     {
         let at = self.start();
-        let word = self.modifier_word()?;
+        let word = self.take::<ModifierWord>()?;
         Ok(Modifier { at, word })
     }
 
@@ -142,7 +146,7 @@ impl<'a> Parser<'a> {
             let value = self.literal(alloc)?;
             return Ok(InitValue::Minus(value));
         }
-        if self.is_literal() {
+        if self.peek::<LiteralKind>().is_some() {
             let value = self.literal(alloc)?;
             return Ok(InitValue::Literal(value));
         }
