@@ -9,4 +9,3 @@ pub mod SortKind
 pub mod OpenTerm
 pub mod Faults
 pub mod Forms
-pub mod Cases

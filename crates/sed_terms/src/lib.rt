@@ -9,7 +9,6 @@
 
 pub mod arguments;
 pub mod found;
-pub mod found_stmt;
 pub mod judged;
 mod kinds;
 pub mod laws;
@@ -20,7 +19,6 @@ pub mod sort;
 
 pub use arguments::Arguments;
 pub use found::Found;
-pub use found_stmt::{FoundCases, FoundStmt, FoundStmts};
 pub use judged::{Fault, Judged, broken, lesser, paired};
 pub use laws::{
     least_of_two_lists, rules_keep_the_least, trees_nest_as_their_terms,

@@ -7,7 +7,7 @@ ghost use Rattle.sed_terms.specs.Seen.{optional_term, stmt_term};
 ghost use Rattle.sed_terms.specs.Sorts.{is_value};
 ghost use Rattle.sed_terms.specs.Term.{Absent, Node, appended, leaf, optional, with_item};
 
-use crate::found::Found;
+use sed_terms::Found;
 use sed_typed::{Expr, Kind, Label, Stmt};
 use sed_value::Memory;
 use std::alloc::Global;
@@ -60,7 +60,7 @@ impl Model for FoundStmts {
 impl Model for FoundCases {
     ghost use Rattle.std.specs.Prelude.{◌≡◌, length, map};
     ghost use Rattle.sed_terms.specs.Term.{Term, term_code};
-    ghost use Rattle.sed_terms.specs.Cases.{cases_row};
+    ghost use Rattle.sed_stmt_terms.specs.Cases.{cases_row};
     ghost use Rattle.sed_terms.specs.Seen.{stmt_term};
     ghost use Rattle.sed_terms.specs.contracts.sign.Sign as s;
 
@@ -134,7 +134,7 @@ impl FoundStmt {
     }
 
     /// An expression whose value is not used.
-    #[tactic(auto, using(crate::proofs::Discarded::evaluating_is))]
+    #[tactic(auto, using(sed_terms::proofs::Discarded::evaluating_is))]
     pub fn evaluated(alloc: Global, e: Found) -> Result<FoundStmt, Memory>
         ensures { IfOk result (λ r. r ≡ forms.evaluating (forms.discarded e)) }
     {
