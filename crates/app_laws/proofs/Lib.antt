@@ -1,0 +1,14 @@
+pub mod PutComponents
+pub mod RootCalls
+pub mod Visits
+pub mod Refused
+pub mod Changes
+pub mod TakenValues
+pub mod Writes
+pub mod Names
+pub mod Trees
+pub mod Nodes
+pub mod Removed
+pub mod FreeIds
+pub mod Added
+pub mod EachCommand

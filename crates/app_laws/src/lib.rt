@@ -1,0 +1,11 @@
+//! Laws of applications: what keeps an application whole.
+//!
+//! `Whole` says what holds of every application. A law here says that something keeps it, under a whole code: it is the contract
+//! of a function that does nothing. Whoever opens a whole application and then edits and runs it has whole ones ever after.
+#![tactic(auto)]
+
+mod cycles;
+mod edits;
+
+pub use cycles::a_cycle_keeps_whole;
+pub use edits::an_edit_keeps_whole;
