@@ -52,6 +52,14 @@ impl Store {
         }
     }
 
+    /// Its cells, those of the component first.
+    pub fn into_cells(self) -> (Cells, Cells)
+        ensures own { result.0 ≡ self.own }
+        ensures statics { result.1 ≡ self.statics }
+    {
+        (self.own, self.statics)
+    }
+
     /// The turns left.
     pub fn turns(&self) -> u32
         ensures { result ≡ self.now.turns }
