@@ -1,0 +1,4 @@
+pub mod Live
+pub mod Sums
+pub mod Keeping
+pub mod Changes
