@@ -1,0 +1,14 @@
+pub mod Building
+pub mod Examples
+pub mod EighthByte
+pub mod OneWay
+pub mod FrontsOfFiles
+pub mod ValuesOneWay
+pub mod SlotValues
+pub mod RowsOneWay
+pub mod Children
+pub mod EntriesOfMaps
+pub mod FormedRows
+pub mod OneApplication
+pub mod OneReading
+pub mod WithinLimits

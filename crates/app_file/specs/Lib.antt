@@ -1,0 +1,6 @@
+pub mod Rows
+pub mod Text
+pub mod Formed
+pub mod Limits
+pub mod Reading
+pub mod Opens

@@ -1,0 +1,44 @@
+//! Laws of the texts of applications. Each is the contract of a function that does nothing.
+ghost use Rattle.std.specs.Prelude.{◌≡◌, ◌≤◌, ℕ, List, None};
+ghost use Rattle.sed_value.specs.declared.kit.KitRef.{KitRef};
+ghost use Rattle.sed_engine.specs.Code.{Meaning};
+ghost use Rattle.sed_engine.specs.Whole.{HasTables};
+ghost use Rattle.comp_tree.specs.Application.{Application, children_of, is_live, parent_of};
+ghost use Rattle.comp_tree.specs.Shape.{IsTree};
+ghost use Rattle.comp_tree.specs.Whole.{Whole};
+ghost use Rattle.app_file.specs.Formed.{IsFormed, IsWalkedOnce};
+ghost use Rattle.app_file.specs.Limits.{limit_passed};
+ghost use Rattle.app_file.specs.Reading.{CanBeTold, IsFront, IsReadAs, Reading, StandsFor};
+ghost use Rattle.app_file.specs.Text.{AppText, OldText};
+
+/// No bytes are a text of both kinds.
+pub fn texts_are_of_one_kind()
+    ensures { (m n : Meaning) (a b : Application) (bytes : List ℕ) → AppText m a bytes → OldText n b bytes → ⊥ }
+{}
+
+/// Bytes begin with one front at most: one version, one list of kits, and so one rest.
+pub fn fronts_are_one()
+    ensures { (version old : ℕ) (kits others : List KitRef) (bytes rest behind : List ℕ) → IsFront version kits bytes rest
+        → IsFront old others bytes behind → (version ≡ old) × (kits ≡ others) × (rest ≡ behind) }
+{}
+
+/// For one data limit a text stands for at most one kept application, whether or not it passes a limit.
+pub fn texts_stand_for_one()
+    ensures { (m : Meaning) (limit : ℕ) (bytes : List ℕ) (a b : Application) → HasTables m → CanBeTold m.schema
+        → StandsFor m limit bytes a → StandsFor m limit bytes b → a ≡ b }
+{}
+
+/// Bytes are read as one thing at most: as one application, or for one reason as none.
+pub fn bytes_are_read_as_one()
+    ensures { (m : Meaning) (limit : ℕ) (bytes : List ℕ) (one other : Reading) → HasTables m → CanBeTold m.schema
+        → IsReadAs m limit bytes one → IsReadAs m limit bytes other → one ≡ other }
+{}
+
+/// An application that is formed and passes no limit is a tree of at most 16 levels below the App, and it is whole
+/// where its depth-first list has each component once, as that of every tree has.
+pub fn what_passes_no_limit_is_whole()
+    ensures tree { (m : Meaning) (a : Application) → IsFormed m a → limit_passed m a ≡ None
+        → IsTree (is_live a.components.by_id) (parent_of a.components.by_id) (children_of a.components.by_id) }
+    ensures whole { (m : Meaning) (a : Application) → IsFormed m a → limit_passed m a ≡ None → 1 ≤ a.components.limit
+        → a.components.limit ≤ 4194304 → IsWalkedOnce a.components.by_id → Whole m a }
+{}
