@@ -1,0 +1,5 @@
+pub mod ByRow
+pub mod OneText
+pub mod Building
+pub mod Examples
+pub mod Refusing
