@@ -1,0 +1,4 @@
+pub mod Conversions
+pub mod Wants
+pub mod Pairs
+pub mod Values
