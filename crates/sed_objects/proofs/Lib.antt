@@ -1,0 +1,4 @@
+pub mod Rounds
+pub mod Inside
+pub mod Measures
+pub mod Found
