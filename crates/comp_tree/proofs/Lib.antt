@@ -16,3 +16,4 @@ pub mod AddLemmas
 pub mod DeleteLemmas
 pub mod LoadLemmas
 pub mod FitLemmas
+pub mod WalkedTrees

@@ -11,6 +11,7 @@
 
 pub mod entry;
 mod joining;
+pub mod laws;
 mod leaving;
 pub mod loaded;
 mod loading;
@@ -19,6 +20,7 @@ mod siblings;
 pub mod tree;
 
 pub use entry::Entry;
+pub use laws::trees_are_walked_once;
 pub use loaded::Loaded;
 pub use node_table::{MOST_CHILDREN, MOST_COMPONENTS};
 pub use tree::Tree;
