@@ -12,3 +12,4 @@ pub mod FormedRows
 pub mod OneApplication
 pub mod OneReading
 pub mod WithinLimits
+pub mod ToldRows

@@ -1,8 +1,8 @@
 -- A text stands for one application at most.
 use Rattle.std.proofs.Common.{◌≡◌, ℕ, inl, inr, Bool, true, false, cond, IsTrue, List, [], ◌∷◌, ◌++◌, refl, sym, subst, ◌∙◌, ap, append_assoc}
-use Rattle.std.specs.Prelude.{Option, Some, None, is_some, map as map_list, slice_get, nat_eq}
+use Rattle.std.specs.Prelude.{Option, Some, None, is_some, slice_get, nat_eq}
 use Rattle.std.specs.Option.{option_and_then, option_map, option_map_or}
-use Rattle.std.specs.List.{IsDistinct, flat_map, zip}
+use Rattle.std.specs.List.{IsDistinct, flat_map}
 use Rattle.std.specs.FinMap as map
 use Rattle.std.specs.FinMap.{find}
 use Rattle.std.specs.Cmp.{nat_cmp_total}
@@ -15,12 +15,14 @@ use Rattle.comp_tree.specs.Parts.{Kept, config_slots, kept_component, link_bytes
 use Rattle.app_file.specs.Formed.{IsFormed}
 use Rattle.app_file.specs.Reading.{StandsFor}
 use Rattle.app_file.specs.Rows.{Row, behind, row_of, rows_by, rows_of, sibling_behind}
+use Rattle.app_file.specs.Telling.{told_component}
 use Rattle.app_file.specs.Text.{IsTextOf, file_text, front_text, body_text, greatest_of, row_text}
 use Rattle.app_file.proofs.Children.{same_list}
 use Rattle.app_file.proofs.EighthByte.{of_one_kind}
 use Rattle.app_file.proofs.EntriesOfMaps.{get-map_values, tied_is}
 use Rattle.app_file.proofs.FormedRows.{contains_item, links_fit, rows_fit}
 use Rattle.app_file.proofs.OneWay.{same_front}
+use Rattle.app_file.proofs.ToldRows.{pairs}
 use Rattle.app_file.proofs.RowsOneWay.{AreNumbered, links_are_one, rows_are_one}
 
 some_is : {A : Type 0} (x y : A) → ◌≡◌ {A = Option A} (Some x) (Some y) → x ≡ y
@@ -48,23 +50,8 @@ row_at m all q = look_rows m (children_of all) (map.entries all) q ∙ ap (optio
 
 -- ---- a component from its row and its children
 
-rebuilt : Meaning → Row → List ℕ → Component
-rebuilt m r children = record {
-  class = r.class;
-  name = r.name;
-  parent = r.parent;
-  children = children;
-  contents = (with_slots m (zip (config_slots m r.class) r.config) (new_object m r.class)).contents;
-  fault = 0;
-}
-
-pairs : (f : ℕ → Value) (xs : List ℕ) → ◌≡◌ {A = List (ℕ × Value)} (map_list (λ x. (x, f x)) xs) (zip xs (map_list f xs))
-pairs f [] = refl
-pairs f (x ∷ xs) = ap (λ (rest : List (ℕ × Value)). (x, f x) ∷ rest) (pairs f xs)
-
-kept_is_rebuilt : (m : Meaning) (children : ℕ → List ℕ) (q : ℕ) (c : Component) → kept_component m c ≡ rebuilt m (row_of m children q c) c.children
-unfolding rebuilt
-kept_is_rebuilt m children q c =
+kept_is_told : (m : Meaning) (children : ℕ → List ℕ) (q : ℕ) (c : Component) → kept_component m c ≡ told_component m (row_of m children q c) c.children
+kept_is_told m children q c =
     ap (λ (values : List (ℕ × Value)). let k : Component = record {
       class = c.class;
       name = c.name;
@@ -135,9 +122,9 @@ module _ (m : Meaning) (a b : Application) (formed_a : IsFormed m a) (formed_b :
       → row_of m (children_of a.components.by_id) q c ≡ row_of m (children_of b.components.by_id) q d → c ≡ d
   same_component q c d got_c got_d row =
       let children = children_same q c d got_c got_d row in
-      kept_component_is m a q c kept_a got_c ∙ kept_is_rebuilt m (children_of a.components.by_id) q c
-      ∙ (λ i. rebuilt m (row i) (children i))
-      ∙ sym (kept_component_is m b q d kept_b got_d ∙ kept_is_rebuilt m (children_of b.components.by_id) q d)
+      kept_component_is m a q c kept_a got_c ∙ kept_is_told m (children_of a.components.by_id) q c
+      ∙ (λ i. told_component m (row i) (children i))
+      ∙ sym (kept_component_is m b q d kept_b got_d ∙ kept_is_told m (children_of b.components.by_id) q d)
 
   same_at : (q : ℕ) → map.get a.components.by_id q ≡ map.get b.components.by_id q
   same_at q = by_component (map.get a.components.by_id q) refl (map.get b.components.by_id q) refl

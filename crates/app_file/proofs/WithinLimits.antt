@@ -1,8 +1,8 @@
 -- What passes no limit.
 use Rattle.std.proofs.Common.{◌≡◌, ℕ, zero, suc, ◌<◌, ◌≤◌, ◌⊎◌, inl, inr, Bool, true, false, IsTrue, List, [], ◌∷◌, length, refl, sym, subst, ◌∙◌, ap, arith}
-use Rattle.std.specs.Prelude.{Option, Some, None, IfSome, is_some, nat_le, nat_lt, ◌==◌, if◌then◌else◌, ◌||◌, ◌↔◌, map as map_list}
+use Rattle.std.specs.Prelude.{Option, Some, None, IfSome, is_some, nat_eq, nat_le, nat_lt, ◌==◌, if◌then◌else◌, ◌||◌, ◌↔◌, map as map_list}
 use Rattle.std.specs.Option.{option_and_then}
-use Rattle.std.specs.List.{AllByRecursion, Contains, list_any}
+use Rattle.std.specs.List.{AllByRecursion, Contains, IsDistinct, list_any}
 use Rattle.std.specs.FinMap as map
 use Rattle.std.specs.Ordering.{nat_cmp, eq_by_cmp}
 use Rattle.std.proofs.lemmas.Bool.{cases_order}
@@ -11,11 +11,11 @@ use Rattle.std.proofs.lemmas.List.Elements.{recursion_from_All}
 use Rattle.sed_typed.specs.Classes.{reached}
 use Rattle.sed_engine.specs.Code.{Meaning}
 use Rattle.comp_tree.specs.Application.{Application, Component, Link, children_of, data_size_of, greatest_depth, is_live, most_children, most_components, most_links, most_links_at_component, parent_of}
-use Rattle.comp_tree.specs.Order.{depth}
+use Rattle.comp_tree.specs.Order.{depth, depth_first}
 use Rattle.comp_tree.specs.Parts.{links_at}
 use Rattle.comp_tree.specs.Shape.{IsTree, up_by}
 use Rattle.comp_tree.specs.Whole.{Each, IsLink, Whole}
-use Rattle.app_file.specs.Formed.{IsFormed, IsWalkedOnce}
+use Rattle.app_file.specs.Formed.{IsFormed}
 use Rattle.app_file.specs.Limits.{first_passed, limit_passed}
 use Rattle.app_file.proofs.EntriesOfMaps.{tied_is}
 
@@ -184,12 +184,13 @@ not_more : (most n : ℕ) → nat_lt most n ≡ false → n ≤ most
 not_more most n none = grind (arith, nat_tests)
 
 pub is_whole : (m : Meaning) (a : Application) → IsFormed m a → limit_passed m a ≡ None → 1 ≤ a.components.limit → a.components.limit ≤ 4194304
-    → IsWalkedOnce a.components.by_id → Whole m a
-is_whole m a formed none least most walked =
+    → ((id : ℕ) → IsTrue (is_live a.components.by_id id) ↔ Contains (depth_first a.components.by_id) id) → IsDistinct nat_eq (depth_first a.components.by_id)
+    → Whole m a
+is_whole m a formed none least most reached once =
     let passed = none_passed m a none in
     record {
-      reached = walked.reached;
-      once = walked.once;
+      reached = reached;
+      once = once;
       parents = λ id up. (formed.tree.up id up, formed.tree.down id up);
       app = formed.app;
       others = formed.others;

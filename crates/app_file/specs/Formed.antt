@@ -1,14 +1,13 @@
 -- What a file tells of an application before any limit is asked for.
-use Rattle.std.specs.Prelude.{ℕ, ◌≡◌, ◌↔◌, ◌<◌, ◌≤◌, Bool, IsTrue, IsSomeAnd, List, map as map_list, nat_eq, Option, Some, None}
+use Rattle.std.specs.Prelude.{ℕ, ◌≡◌, ◌<◌, ◌≤◌, Bool, IsTrue, IsSomeAnd, List, map as map_list, nat_eq, Option, Some, None}
 use Rattle.std.specs.List.{All, AllPairs, Contains, IsDistinct}
 use Rattle.std.specs.Str.{bytes_eq}
 use Rattle.std.specs.FinMap as map
 use Rattle.sed_value.specs.Names.{is_name}
 use Rattle.sed_engine.specs.Code.{Meaning}
 use Rattle.sed_engine.specs.Fits.{Fits}
-use Rattle.comp_tree.specs.Application.{Application, ById, children_of, is_live, name_of, parent_of}
+use Rattle.comp_tree.specs.Application.{Application, children_of, is_live, name_of, parent_of}
 use Rattle.comp_tree.specs.Links.{is_before}
-use Rattle.comp_tree.specs.Order.{depth_first}
 use Rattle.comp_tree.specs.Parts.{no_id}
 use Rattle.comp_tree.specs.Shape.{up_by}
 use Rattle.comp_tree.specs.Whole.{Each, IsApp, IsLink, IsOther}
@@ -23,11 +22,6 @@ pub record IsRooted (live : ℕ → Bool) (parent : ℕ → Option ℕ) (childre
   pub once : (above : ℕ) → IsDistinct nat_eq (children above)
   pub known : (id above : ℕ) → parent id ≡ Some above → IsTrue (live id)
   pub reached : (id : ℕ) → IsTrue (live id) → (n : ℕ) × (up_by parent n id ≡ Some 0)
-
--- the depth-first list has each component, once
-pub record IsWalkedOnce (all : ById) : Type 0 where
-  pub reached : (id : ℕ) → IsTrue (is_live all id) ↔ Contains (depth_first all) id
-  pub once : IsDistinct nat_eq (depth_first all)
 
 -- all that holds of an application but the limits
 pub record IsFormed (m : Meaning) (a : Application) : Type 0 where

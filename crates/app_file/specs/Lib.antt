@@ -3,4 +3,5 @@ pub mod Text
 pub mod Formed
 pub mod Limits
 pub mod Reading
+pub mod Telling
 pub mod Opens

@@ -4,12 +4,17 @@ ghost use Rattle.sed_value.specs.declared.kit.KitRef.{KitRef};
 ghost use Rattle.sed_engine.specs.Code.{Meaning};
 ghost use Rattle.sed_engine.specs.Whole.{HasTables};
 ghost use Rattle.comp_tree.specs.Application.{Application, children_of, is_live, parent_of};
+ghost use Rattle.comp_tree.specs.Parts.{kept_by_id};
 ghost use Rattle.comp_tree.specs.Shape.{IsTree};
 ghost use Rattle.comp_tree.specs.Whole.{Whole};
-ghost use Rattle.app_file.specs.Formed.{IsFormed, IsWalkedOnce};
+ghost use Rattle.app_file.specs.Formed.{IsFormed};
 ghost use Rattle.app_file.specs.Limits.{limit_passed};
 ghost use Rattle.app_file.specs.Reading.{CanBeTold, IsFront, IsReadAs, Reading, StandsFor};
+ghost use Rattle.app_file.specs.Rows.{Row, rows_of};
+ghost use Rattle.app_file.specs.Telling.{RowsAgree, told_by};
 ghost use Rattle.app_file.specs.Text.{AppText, OldText};
+
+use comp_tree::trees_are_walked_once;
 
 /// No bytes are a text of both kinds.
 pub fn texts_are_of_one_kind()
@@ -34,11 +39,20 @@ pub fn bytes_are_read_as_one()
         → IsReadAs m limit bytes one → IsReadAs m limit bytes other → one ≡ other }
 {}
 
-/// An application that is formed and passes no limit is a tree of at most 16 levels below the App, and it is whole
-/// where its depth-first list has each component once, as that of every tree has.
+/// An application that is formed and passes no limit is a tree of at most 16 levels below the App, and it is whole.
 pub fn what_passes_no_limit_is_whole()
     ensures tree { (m : Meaning) (a : Application) → IsFormed m a → limit_passed m a ≡ None
         → IsTree (is_live a.components.by_id) (parent_of a.components.by_id) (children_of a.components.by_id) }
     ensures whole { (m : Meaning) (a : Application) → IsFormed m a → limit_passed m a ≡ None → 1 ≤ a.components.limit
-        → a.components.limit ≤ 4194304 → IsWalkedOnce a.components.by_id → Whole m a }
+        → a.components.limit ≤ 4194304 → Whole m a }
+{
+    trees_are_walked_once();
+}
+
+/// Rows that agree with the children of each id tell of components that have just these rows, and that are as a file keeps them.
+pub fn rows_tell_of_components()
+    ensures rows { (m : Meaning) (children : ℕ → List ℕ) (rows : List Row) → RowsAgree m children rows
+        → rows_of m (told_by m children rows) ≡ rows }
+    ensures kept { (m : Meaning) (children : ℕ → List ℕ) (rows : List Row) → RowsAgree m children rows
+        → kept_by_id m (told_by m children rows) ≡ told_by m children rows }
 {}

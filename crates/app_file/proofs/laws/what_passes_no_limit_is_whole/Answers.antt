@@ -5,4 +5,6 @@ pub returns-clause-tree : goal.returns-clause-tree
 returns-clause-tree c = is_tree
 
 pub returns-clause-whole : goal.returns-clause-whole
-returns-clause-whole c = is_whole
+returns-clause-whole c = λ m a formed none least most.
+    let tree = is_tree m a formed none in
+    is_whole m a formed none least most (c.trees_are_walked_once.ensures.reached a.components.by_id tree) (c.trees_are_walked_once.ensures.once a.components.by_id tree)
