@@ -13,3 +13,4 @@ pub mod OneApplication
 pub mod OneReading
 pub mod WithinLimits
 pub mod ToldRows
+pub mod ToldTexts

@@ -50,7 +50,7 @@ row_at m all q = look_rows m (children_of all) (map.entries all) q ∙ ap (optio
 
 -- ---- a component from its row and its children
 
-kept_is_told : (m : Meaning) (children : ℕ → List ℕ) (q : ℕ) (c : Component) → kept_component m c ≡ told_component m (row_of m children q c) c.children
+pub kept_is_told : (m : Meaning) (children : ℕ → List ℕ) (q : ℕ) (c : Component) → kept_component m c ≡ told_component m (row_of m children q c) c.children
 kept_is_told m children q c =
     ap (λ (values : List (ℕ × Value)). let k : Component = record {
       class = c.class;
@@ -61,7 +61,7 @@ kept_is_told m children q c =
       fault = 0;
     } in k) (pairs (slot_value m (object_of c)) (config_slots m c.class))
 
-kept_component_is : (m : Meaning) (a : Application) (q : ℕ) (c : Component) → Kept m a ≡ a → map.get a.components.by_id q ≡ Some c → c ≡ kept_component m c
+pub kept_component_is : (m : Meaning) (a : Application) (q : ℕ) (c : Component) → Kept m a ≡ a → map.get a.components.by_id q ≡ Some c → c ≡ kept_component m c
 kept_component_is m a q c kept got =
     let all : map.get (Kept m a).components.by_id q ≡ Some c = ap (λ (b : Application). map.get b.components.by_id q) kept ∙ got in
     let mapped : ◌≡◌ {A = Option Component} (Some c) (Some (kept_component m c)) =

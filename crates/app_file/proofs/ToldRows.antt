@@ -72,7 +72,7 @@ module _ (m : Meaning) (children : ℕ → List ℕ) where
       by_test false tied found later = later found
 
   module _ (rows : List Row) (agree : RowsAgree m children rows) where
-    entries_are : map.entries (told_by m children rows) ≡ told_entries m children rows
+    pub entries_are : map.entries (told_by m children rows) ≡ told_entries m children rows
     entries_are = map.entries-from_sorted nat_cmp (told_entries m children rows) (subst T (sym agree.ascend) tt)
 
     children_are : (id : ℕ) → children_of (told_by m children rows) id ≡ children id

@@ -1,12 +1,13 @@
 -- Rows, and the components that they tell of.
-use Rattle.std.specs.Prelude.{ℕ, ◌≡◌, IsTrue, List, [], map as map_list, slice_get, None}
+use Rattle.std.specs.Prelude.{ℕ, ◌≡◌, IsTrue, List, [], ◌++◌, map as map_list, slice_get, None}
 use Rattle.std.specs.List.{All, zip}
 use Rattle.std.specs.FinMap as map
 use Rattle.std.specs.Ordering.{nat_cmp}
 use Rattle.sed_engine.specs.Code.{Meaning, new_object}
-use Rattle.comp_tree.specs.Application.{ById, Component}
+use Rattle.comp_tree.specs.Application.{Application, ById, Component, Link}
 use Rattle.comp_tree.specs.Parts.{config_slots, values_in, with_slots}
 use Rattle.app_file.specs.Rows.{Row, sibling_behind}
+use Rattle.app_file.specs.Text.{body_text, front_text, greatest_of}
 
 -- a component as its row tells of it, with these children: its config values are stored in a new object, in the order of the
 -- slots
@@ -39,3 +40,18 @@ pub record RowsAgree (m : Meaning) (children : ℕ → List ℕ) (rows : List Ro
   pub ascend : IsTrue (map.is_sorted nat_cmp (told_entries m children rows))
   pub each : All (RowAgrees m children) rows
   pub none : (id : ℕ) → map.get (told_by m children rows) id ≡ None → children id ≡ []
+
+-- ---- with links, under a data limit
+
+abbrev pub told_application : Meaning → (ℕ → List ℕ) → List Row → List Link → ℕ → Application
+told_application m children rows links limit = record {
+  components = record { by_id = told_by m children rows; statics = m.initial_statics; limit = limit };
+  links = links;
+}
+
+abbrev pub ids_of_rows : List Row → List ℕ
+ids_of_rows rows = map_list (λ (r : Row). r.id) rows
+
+-- the text in which rows and links stand
+abbrev pub told_text : ℕ → Meaning → List Row → List Link → List ℕ
+told_text version m rows links = front_text version m.schema.kits ++ body_text m (greatest_of (ids_of_rows rows)) rows links

@@ -3,16 +3,15 @@ ghost use Rattle.std.specs.Prelude.{◌≡◌, ◌≤◌, ℕ, List, None};
 ghost use Rattle.sed_value.specs.declared.kit.KitRef.{KitRef};
 ghost use Rattle.sed_engine.specs.Code.{Meaning};
 ghost use Rattle.sed_engine.specs.Whole.{HasTables};
-ghost use Rattle.comp_tree.specs.Application.{Application, children_of, is_live, parent_of};
-ghost use Rattle.comp_tree.specs.Parts.{kept_by_id};
+ghost use Rattle.comp_tree.specs.Application.{Application, Link, children_of, is_live, parent_of};
 ghost use Rattle.comp_tree.specs.Shape.{IsTree};
 ghost use Rattle.comp_tree.specs.Whole.{Whole};
 ghost use Rattle.app_file.specs.Formed.{IsFormed};
 ghost use Rattle.app_file.specs.Limits.{limit_passed};
 ghost use Rattle.app_file.specs.Reading.{CanBeTold, IsFront, IsReadAs, Reading, StandsFor};
 ghost use Rattle.app_file.specs.Rows.{Row, rows_of};
-ghost use Rattle.app_file.specs.Telling.{RowsAgree, told_by};
-ghost use Rattle.app_file.specs.Text.{AppText, OldText};
+ghost use Rattle.app_file.specs.Telling.{RowsAgree, told_application, told_by, told_text};
+ghost use Rattle.app_file.specs.Text.{AppText, HasShortNames, OldText, old_version, version};
 
 use comp_tree::trees_are_walked_once;
 
@@ -23,8 +22,8 @@ pub fn texts_are_of_one_kind()
 
 /// Bytes begin with one front at most: one version, one list of kits, and so one rest.
 pub fn fronts_are_one()
-    ensures { (version old : ℕ) (kits others : List KitRef) (bytes rest behind : List ℕ) → IsFront version kits bytes rest
-        → IsFront old others bytes behind → (version ≡ old) × (kits ≡ others) × (rest ≡ behind) }
+    ensures { (v w : ℕ) (kits others : List KitRef) (bytes rest behind : List ℕ) → IsFront v kits bytes rest
+        → IsFront w others bytes behind → (v ≡ w) × (kits ≡ others) × (rest ≡ behind) }
 {}
 
 /// For one data limit a text stands for at most one kept application, whether or not it passes a limit.
@@ -49,10 +48,21 @@ pub fn what_passes_no_limit_is_whole()
     trees_are_walked_once();
 }
 
-/// Rows that agree with the children of each id tell of components that have just these rows, and that are as a file keeps them.
-pub fn rows_tell_of_components()
+/// Rows that agree with the children of each id tell of components that have just these rows, and the text in which they stand with
+/// links stands for the application that they tell of, where that is formed. Each application that bytes stand for is told by
+/// its own rows and children.
+pub fn rows_tell_of_applications()
     ensures rows { (m : Meaning) (children : ℕ → List ℕ) (rows : List Row) → RowsAgree m children rows
         → rows_of m (told_by m children rows) ≡ rows }
-    ensures kept { (m : Meaning) (children : ℕ → List ℕ) (rows : List Row) → RowsAgree m children rows
-        → kept_by_id m (told_by m children rows) ≡ told_by m children rows }
+    ensures text { (m : Meaning) (children : ℕ → List ℕ) (rows : List Row) (links : List Link) (limit : ℕ)
+        → RowsAgree m children rows → IsFormed m (told_application m children rows links limit)
+        → StandsFor m limit (told_text version m rows links) (told_application m children rows links limit) }
+    ensures old_text { (m : Meaning) (children : ℕ → List ℕ) (rows : List Row) (links : List Link) (limit : ℕ)
+        → RowsAgree m children rows → IsFormed m (told_application m children rows links limit)
+        → HasShortNames (told_by m children rows)
+        → StandsFor m limit (told_text old_version m rows links) (told_application m children rows links limit) }
+    ensures agree { (m : Meaning) (limit : ℕ) (bytes : List ℕ) (a : Application) → StandsFor m limit bytes a
+        → RowsAgree m (children_of a.components.by_id) (rows_of m a.components.by_id) }
+    ensures told { (m : Meaning) (limit : ℕ) (bytes : List ℕ) (a : Application) → StandsFor m limit bytes a
+        → told_application m (children_of a.components.by_id) (rows_of m a.components.by_id) a.links limit ≡ a }
 {}
