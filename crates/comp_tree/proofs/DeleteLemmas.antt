@@ -65,6 +65,9 @@ module _ (m : Meaning) (c : Callback-type) (turns : ℕ) (moment : ℤ) where
   pub calls_children : (a : Components) (ids : List ℕ) (q : ℕ) → children_of (calls a ids).by_id q ≡ children_of a.by_id q
   calls_children a ids q = calls_alike (λ r. option_map_or (λ (k : Component). k.children) r []) (λ k e. refl) a ids q
 
+  pub calls_parent : (a : Components) (ids : List ℕ) (q : ℕ) → parent_of (calls a ids).by_id q ≡ parent_of a.by_id q
+  calls_parent a ids q = calls_alike (λ r. option_and_then (λ (k : Component). k.parent) r) (λ k e. refl) a ids q
+
 -- ---- the subtree of nodes
 
 pub subtree_is : (live : Places) (nodes : Nodes) (id : ℕ) → subtree (by_id_of live nodes) id ≡ down_by (children_in nodes) 17 id
@@ -196,6 +199,9 @@ module _ {E : Type 0} (g : Ghosts E) (h : Held E) (was : IsHeld (g.meaning h.eng
 module _ (m : Meaning) (a mid : Components) (ids : List ℕ) (turns : ℕ) (moment : ℤ) (stopped : mid ≡ (call_each m Stop turns moment a ids).left) where
   pub stopped_live : (q : ℕ) → is_live mid.by_id q ≡ is_live a.by_id q
   stopped_live q = ap (λ (x : Components). is_live x.by_id q) (stopped ∙ calls_are m Stop turns moment a ids) ∙ calls_live m Stop turns moment a ids q
+
+  pub stopped_parent : (q : ℕ) → parent_of mid.by_id q ≡ parent_of a.by_id q
+  stopped_parent q = ap (λ (x : Components). parent_of x.by_id q) (stopped ∙ calls_are m Stop turns moment a ids) ∙ calls_parent m Stop turns moment a ids q
 
   pub stopped_subtree : (id : ℕ) → subtree mid.by_id id ≡ subtree a.by_id id
   stopped_subtree id =

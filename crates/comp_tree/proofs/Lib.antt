@@ -15,5 +15,8 @@ pub mod AllowedLemmas
 pub mod AddLemmas
 pub mod DeleteLemmas
 pub mod LoadLemmas
+pub mod MarkSteps
+pub mod MarkCalls
+pub mod MarkDelete
 pub mod FitLemmas
 pub mod WalkedTrees

@@ -15,3 +15,4 @@ pub mod Held
 pub mod Told
 pub mod Allowed
 pub mod Loads
+pub mod Marks

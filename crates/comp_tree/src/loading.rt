@@ -1,13 +1,14 @@
 //! Components that are loaded into an engine and a table of nodes.
-ghost use Rattle.std.specs.Prelude.{◌≡◌, ◌<◌, ◌≤◌, ◌+◌, ◌↔◌, false, All, IsTrue, IfErr, OnOk, OnErr, length, map as map_list, nat_eq, None, Err};
+ghost use Rattle.std.specs.Prelude.{◌≡◌, ◌<◌, ◌≤◌, ◌+◌, ◌↔◌, ℕ, All, OnOk, length, map as map_list, nat_eq, None, Err};
 ghost use Rattle.std.specs.FinMap as map;
 ghost use Rattle.std.specs.List.{IsDistinct};
 ghost use Rattle.comp_tree.specs.Application.{data_size_of, most_children};
 ghost use Rattle.comp_tree.specs.Held.{IsPlaced, by_id_of};
+ghost use Rattle.comp_tree.specs.Marks.{all_parts, marks_in, parts_at};
 ghost use Rattle.comp_tree.specs.Loads.{IsToLoad, loaded, loaded_component};
 
 use crate::loaded::Loaded;
-use node_table::{Children, Node, Nodes};
+use node_table::{Children, Marks, Node, Nodes};
 use prop_values::store_config;
 use sed_engine::{AddRefusal, Engine, Place};
 use sed_value::Id;
@@ -23,6 +24,7 @@ pub fn load_each<E: Engine>(
     requires each { All (IsToLoad (E.meaning engine.old)) entries.now }
     requires once { IsDistinct nat_eq (map_list (λ (l : Loaded). l.id.0) entries.now) }
     ensures placed { OnOk result (IsPlaced (E.meaning engine.new) (E.live engine.new) nodes.new) }
+    ensures marks { OnOk result ((id at : ℕ) → marks_in nodes.new id at ≡ all_parts) }
     ensures by_id { OnOk result (by_id_of (E.live engine.new) nodes.new ≡ loaded (E.meaning engine.old) entries.now) }
     ensures full { result ≡ Err AddRefusal.DataFull → E.limit engine.old < data_size_of (E.meaning engine.old) (loaded (E.meaning engine.old) entries.now) }
     ensures fits { OnOk result (data_size_of (E.meaning engine.old) (loaded (E.meaning engine.old) entries.now) ≤ E.limit engine.old) }
@@ -47,6 +49,7 @@ fn load_one<E: Engine>(engine: &mut E, nodes: &mut Nodes, entry: &Loaded) -> Res
     requires free { map.get nodes.old entry.now.id.0 ≡ None }
     requires few { map.len nodes.old < 4096 }
     ensures placed { OnOk result (IsPlaced (E.meaning engine.new) (E.live engine.new) nodes.new) }
+    ensures marks { OnOk result (((id at : ℕ) → marks_in nodes.old id at ≡ all_parts) → (id at : ℕ) → marks_in nodes.new id at ≡ all_parts) }
     ensures by_id { OnOk result (by_id_of (E.live engine.new) nodes.new ≡ map.insert (by_id_of (E.live engine.old) nodes.old) entry.now.id.0 (loaded_component (E.meaning engine.old) entry.now)) }
     ensures full { (result ≡ Err AddRefusal.DataFull) ↔ (E.limit engine.old < data_size_of (E.meaning engine.old) (by_id_of (E.live engine.old) nodes.old) + (E.meaning engine.old).data_size entry.now.kind.0) }
     ensures meaning { OnOk result (E.meaning engine.new ≡ E.meaning engine.old) }
@@ -73,6 +76,7 @@ fn loaded_node(entry: &Loaded, place: Place) -> Node
     ensures children { result.children ≡ map_list (λ (id : Id). id.0) entry.now.children }
     ensures fault { result.fault ≡ 0 }
     ensures place { result.place ≡ place }
+    ensures marks { (at : ℕ) → parts_at result.marks at ≡ all_parts }
 {
     Node {
         kind: entry.kind,
@@ -81,6 +85,7 @@ fn loaded_node(entry: &Loaded, place: Place) -> Node
         children: children_from(entry.children.as_slice()),
         fault: 0,
         place,
+        marks: Marks::all(),
     }
 }
 

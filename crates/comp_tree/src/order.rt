@@ -8,7 +8,7 @@ ghost use Rattle.node_table.specs.Changed.{with_children};
 ghost use Rattle.comp_tree.specs.Held.{by_id_of};
 ghost use Rattle.comp_tree.specs.Refusals.{are_each_once as each_once, first_refusal, ids_of, refusals_of_reorder};
 
-use node_table::{Children, MOST_CHILDREN, Nodes};
+use node_table::{Children, MOST_CHILDREN, Nodes, Parts};
 use sed_value::{Id, Refusal};
 use sed_wire::Reader;
 
@@ -40,6 +40,7 @@ pub fn reorder_node(nodes: &mut Nodes, id: Id, children: Children)
 {
     if let Some(mut node) = nodes.remove(id) {
         node.children = children;
+        node.marks.touch(Parts::of_tree());
         nodes.insert(id, node);
     }
 }

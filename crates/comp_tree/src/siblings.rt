@@ -9,7 +9,7 @@ ghost use Rattle.node_table.specs.Changed.{with_name};
 ghost use Rattle.comp_tree.specs.Held.{by_id_of, children_in, name_in};
 ghost use Rattle.comp_tree.specs.Refusals.{first_refusal, refusals_of_rename};
 
-use node_table::Nodes;
+use node_table::{Nodes, Parts};
 use sed_value::{Id, Name, Refusal};
 
 /// The name that a component is to have, or why it may not.
@@ -34,13 +34,14 @@ pub fn new_name(nodes: &Nodes, id: Id, name: &[u8]) -> Result<Name, Refusal>
     Ok(new)
 }
 
-/// Gives a node another name.
+/// Gives a node another name, and marks it.
 pub fn rename_node(nodes: &mut Nodes, id: Id, name: Name)
     requires { IsSome (map.get nodes.old id.0) }
     ensures { IfSome (map.get nodes.old id.0) (λ node. nodes.new ≡ map.insert nodes.old id.0 (with_name name node)) }
 {
     if let Some(mut node) = nodes.remove(id) {
         node.name = name;
+        node.marks.touch(Parts::of_tree());
         nodes.insert(id, node);
     }
 }

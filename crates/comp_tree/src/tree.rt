@@ -1,5 +1,5 @@
 //! The tree.
-ghost use Rattle.std.specs.Prelude.{◌≡◌, ◌<◌, ◌≤◌, IsSome, IsSomeAnd, IfOk, OnOk, OnErr, MatchOption, MatchResult, Some, None, Ok, Err, length, slice_get, codes, []};
+ghost use Rattle.std.specs.Prelude.{◌≡◌, ◌<◌, ◌≤◌, ℕ, IsSome, IsSomeAnd, IfOk, OnOk, OnErr, MatchOption, MatchResult, Some, None, Ok, Err, length, slice_get, codes, []};
 ghost use Rattle.std.specs.FinMap as map;
 ghost use Rattle.std.specs.Option.{option_map};
 ghost use Rattle.sed_typed.specs.Schemas.{type_at as class_numbered};
@@ -7,6 +7,7 @@ ghost use Rattle.sed_typed.specs.SysTypes.{app_type as app_number};
 ghost use Rattle.comp_tree.specs.Application.{children_of, value_at};
 ghost use Rattle.comp_tree.specs.Edits.{app_class, first_components};
 ghost use Rattle.comp_tree.specs.Held.{IsPropertyOf};
+ghost use Rattle.comp_tree.specs.Marks.{all_parts, marks_at, parts_at};
 ghost use Rattle.comp_tree.specs.Refusals.{first_refusal, refusals_of_read};
 ghost use Rattle.comp_tree.specs.Told.{IsEntry, IsGreatest};
 
@@ -14,12 +15,13 @@ mod adding;
 mod building;
 mod copying;
 mod editing;
+mod marking;
 mod removing;
 mod running;
 mod subtree;
 
 use crate::entry::Entry;
-use node_table::{Children, Node, Nodes};
+use node_table::{Children, Marks, Node, Nodes};
 use prop_values::form_of;
 use sed_engine::{AddRefusal, Engine, Place};
 use sed_typed::{Schema, SlotForm, SlotNo, TypeNo};
@@ -62,6 +64,7 @@ impl<E: Engine> Tree<E> {
         ensures made { IfOk result (λ t. components_of E.Engine t ≡ first_components (E.meaning engine) (E.statics engine) (E.limit engine)) }
         ensures meaning { IfOk result (λ t. E.meaning t.engine ≡ E.meaning engine) }
         ensures steady { IfOk result (λ t. E.fixed t.engine ≡ E.fixed engine) }
+        ensures marks { IfOk result (λ t. (id at : ℕ) → marks_at t id at ≡ all_parts) }
         ensures full { result ≡ Err AddRefusal.DataFull → E.limit engine < (E.meaning engine).data_size (app_class (E.meaning engine)) }
         ensures fits { OnOk result ((E.meaning engine).data_size (app_class (E.meaning engine)) ≤ E.limit engine) }
     {
@@ -167,6 +170,7 @@ fn app_node(kind: TypeNo, place: Place) -> Node
     ensures children { result.children ≡ [] }
     ensures fault { result.fault ≡ 0 }
     ensures place { result.place ≡ place }
+    ensures marks { (at : ℕ) → parts_at result.marks at ≡ all_parts }
 {
     Node {
         kind,
@@ -175,6 +179,7 @@ fn app_node(kind: TypeNo, place: Place) -> Node
         children: Children::new(),
         fault: 0,
         place,
+        marks: Marks::all(),
     }
 }
 

@@ -1,3 +1,4 @@
 pub mod IndexLemmas
 pub mod TakenLemmas
 pub mod MarkLemmas
+pub mod PlaceLemmas

@@ -1,4 +1,5 @@
 pub mod Limits
 pub mod Indexed
 pub mod Taken
+pub mod Marks
 pub mod Changed

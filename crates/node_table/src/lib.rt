@@ -9,10 +9,12 @@
 #![tactic(auto)]
 
 mod children;
+mod marks;
 mod node;
 mod nodes;
 mod taken;
 
 pub use children::{Children, MOST_CHILDREN};
+pub use marks::{Marks, PLACES, Parts};
 pub use node::Node;
 pub use nodes::{MOST_COMPONENTS, Nodes};

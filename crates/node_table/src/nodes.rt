@@ -1,11 +1,12 @@
 //! Nodes by their ids.
-ghost use Rattle.std.specs.Prelude.{◌≡◌, ◌<◌, ◌≤◌, ℕ, IfOk, IsSome, IfSome, IfNone, Some, None, is_some, count_by, slice_index_or, length, replicate};
+ghost use Rattle.std.specs.Prelude.{◌≡◌, ◌<◌, ◌≤◌, ℕ, IfOk, IsSome, IfSome, Some, None, is_some, slice_index_or, length, replicate};
 ghost use Rattle.std.specs.FinMap as map;
 ghost use Rattle.std.specs.Option.{option_copied};
 ghost use Rattle.slab.specs.Slab.{get, slab_len, ContainsKey, Updates};
 ghost use Rattle.node_table.specs.Limits.{most_components};
-ghost use Rattle.node_table.specs.Changed.{with_fault};
+ghost use Rattle.node_table.specs.Changed.{settled, touched, with_fault, with_marks};
 
+use crate::marks::Parts;
 use crate::node::Node;
 use crate::taken::Taken;
 use sed_value::Id;
@@ -126,6 +127,27 @@ impl Nodes {
         }
     }
 
+    /// Marks these parts of the node with this id for every place.
+    pub fn touch(&mut self, id: Id, parts: Parts)
+        requires { IsSome (map.get self.old id.0) }
+        ensures { IfSome (map.get self.old id.0) (λ node. self.new ≡ map.insert self.old id.0 (with_marks (touched parts node.marks) node)) }
+    {
+        if let Some(key) = key_at(&self.index, id) {
+            touch_node(&mut self.slab, key, parts);
+        }
+    }
+
+    /// Settles these parts of the node with this id for a place.
+    pub fn settle(&mut self, id: Id, place: u8, parts: Parts)
+        requires live { IsSome (map.get self.old id.0) }
+        requires place { place < 16 }
+        ensures { IfSome (map.get self.old id.0) (λ node. self.new ≡ map.insert self.old id.0 (with_marks (settled place parts node.marks) node)) }
+    {
+        if let Some(key) = key_at(&self.index, id) {
+            settle_node(&mut self.slab, key, place, parts);
+        }
+    }
+
     /// Takes the node with this id out.
     pub fn remove(&mut self, id: Id) -> Option<Node>
         requires { IsSome (map.get self.old id.0) }
@@ -153,6 +175,31 @@ fn change_fault(slab: &mut Slab<Node>, key: usize, fault: u8)
 {
     let mut node = slab.remove(key);
     node.fault = fault;
+    let _same = slab.insert_reserved(node);
+}
+
+// Marks these parts of the node under a key.
+fn touch_node(slab: &mut Slab<Node>, key: usize, parts: Parts)
+    requires { ContainsKey slab.old key }
+    ensures changed { IfSome (get slab.old key) (λ node. Updates slab.old slab.new key (Some (with_marks (touched parts node.marks) node))) }
+    ensures len { slab_len slab.new ≡ slab_len slab.old }
+    ensures capacity { slab.new.capacity ≡ slab.old.capacity }
+{
+    let mut node = slab.remove(key);
+    node.marks.touch(parts);
+    let _same = slab.insert_reserved(node);
+}
+
+// Settles these parts of the node under a key for a place.
+fn settle_node(slab: &mut Slab<Node>, key: usize, place: u8, parts: Parts)
+    requires there { ContainsKey slab.old key }
+    requires place { place < 16 }
+    ensures changed { IfSome (get slab.old key) (λ node. Updates slab.old slab.new key (Some (with_marks (settled place parts node.marks) node))) }
+    ensures len { slab_len slab.new ≡ slab_len slab.old }
+    ensures capacity { slab.new.capacity ≡ slab.old.capacity }
+{
+    let mut node = slab.remove(key);
+    node.marks.settle(place, parts);
     let _same = slab.insert_reserved(node);
 }
 

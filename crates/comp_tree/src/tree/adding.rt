@@ -1,5 +1,5 @@
 //! Components that come.
-ghost use Rattle.std.specs.Prelude.{◌≡◌, ◌≢◌, ◌↔◌, ◌<◌, ◌≤◌, ◌+◌, ◌++◌, ◌∷◌, [], false, IsTrue, IsSome, IfErr, IfOk, IfSome, OnOk, OnErr, MatchResult, length, Some, None, Err};
+ghost use Rattle.std.specs.Prelude.{◌≡◌, ◌≢◌, ◌↔◌, ◌<◌, ◌≤◌, ◌+◌, ◌++◌, ◌∷◌, ℕ, [], false, IsTrue, IsSome, IfErr, IfOk, IfSome, OnOk, OnErr, MatchResult, length, Some, None, Err};
 ghost use Rattle.std.specs.FinMap as map;
 ghost use Rattle.sed_engine.specs.Code.{is_creatable};
 ghost use Rattle.sed_value.specs.declared.refusal.Refusal.TheVariants.{OutOfMemory};
@@ -8,6 +8,7 @@ ghost use Rattle.comp_tree.specs.Application.{data_size_of, is_live, most_childr
 ghost use Rattle.node_table.specs.Changed.{with_children};
 ghost use Rattle.comp_tree.specs.Edit.{class_or_none};
 ghost use Rattle.comp_tree.specs.Edits.{added, after_add};
+ghost use Rattle.comp_tree.specs.Marks.{KeepsMarks, added_at, all_parts, marks_at, no_marks, parts_at};
 ghost use Rattle.comp_tree.specs.Order.{least_free};
 ghost use Rattle.comp_tree.specs.Refusals.{config_types, first_refusal, refusals_of_add};
 ghost use Rattle.comp_tree.specs.Values.{taken};
@@ -15,7 +16,7 @@ ghost use Rattle.prop_values.specs.Read.{refusal_of_values};
 
 use crate::joining::{kind_to_add, new_child};
 use crate::tree::Tree;
-use node_table::{Children, Node, Nodes};
+use node_table::{Children, Marks, Node, Nodes, Parts};
 use prop_values::{config_refusal, store_config};
 use sed_engine::{AddRefusal, Callback, Engine, Place};
 use sed_typed::TypeNo;
@@ -56,6 +57,8 @@ impl<E: Engine> Tree<E> {
         ensures allowed { OnOk result (first_refusal (refusals_of_add (E.meaning self.old.engine) (components_of E.Engine self.old) parent.0 kit number name.now config.now) ≡ None) }
         ensures refused { IfErr result (λ refusal. refusal ≢ OutOfMemory → first_refusal (refusals_of_add (E.meaning self.old.engine) (components_of E.Engine self.old) parent.0 kit number name.now config.now) ≡ Some refusal) }
         ensures memory { result ≡ Err OutOfMemory → (E.fixed self.old.engine ≡ false) × (first_refusal (refusals_of_add (E.meaning self.old.engine) (components_of E.Engine self.old) parent.0 kit number name.now config.now) ≡ None) }
+        ensures marks { MatchResult result (λ id. KeepsMarks E.Engine (added_at parent.0 id.0) self.old self.new) (λ _. KeepsMarks E.Engine no_marks self.old self.new) }
+        ensures set { IfOk result (λ id. (at : ℕ) → marks_at self.new id.0 at ≡ all_parts) }
         ensures stays { OnErr result (components_of E.Engine self.new ≡ components_of E.Engine self.old) }
         ensures meaning { E.meaning self.new.engine ≡ E.meaning self.old.engine }
         ensures steady { E.fixed self.new.engine ≡ E.fixed self.old.engine }
@@ -121,6 +124,8 @@ impl<E: Engine> Tree<E> {
         ensures done { IfOk result (λ id. components_of E.Engine self.new ≡ with_components (components_of E.Engine self.old) (added (E.meaning self.old.engine) (components_of E.Engine self.old).by_id id.0 parent.0 kind.0 name (taken (config_types (E.meaning self.old.engine) kind.0) config.now))) }
         ensures full { (result ≡ Err AddRefusal.DataFull) ↔ ((components_of E.Engine self.old).limit < data_size_of (E.meaning self.old.engine) (components_of E.Engine self.old).by_id + (E.meaning self.old.engine).data_size kind.0) }
         ensures memory { result ≡ Err AddRefusal.Memory → E.fixed self.old.engine ≡ false }
+        ensures marks { MatchResult result (λ id. KeepsMarks E.Engine (added_at parent.0 id.0) self.old self.new) (λ _. KeepsMarks E.Engine no_marks self.old self.new) }
+        ensures set { IfOk result (λ id. (at : ℕ) → marks_at self.new id.0 at ≡ all_parts) }
         ensures stays { OnErr result (components_of E.Engine self.new ≡ components_of E.Engine self.old) }
         ensures meaning { E.meaning self.new.engine ≡ E.meaning self.old.engine }
         ensures steady { E.fixed self.new.engine ≡ E.fixed self.old.engine }
@@ -145,6 +150,7 @@ fn new_node(kind: TypeNo, name: Name, parent: Id, place: Place) -> Node
     ensures children { result.children ≡ [] }
     ensures fault { result.fault ≡ 0 }
     ensures place { result.place ≡ place }
+    ensures marks { (at : ℕ) → parts_at result.marks at ≡ all_parts }
 {
     Node {
         kind,
@@ -153,10 +159,11 @@ fn new_node(kind: TypeNo, name: Name, parent: Id, place: Place) -> Node
         children: Children::new(),
         fault: 0,
         place,
+        marks: Marks::all(),
     }
 }
 
-// Puts a child behind the others of a node.
+// Puts a child behind the others of a node, and marks it.
 fn push_child(nodes: &mut Nodes, id: Id, child: Id)
     requires live { IsSome (map.get nodes.old id.0) }
     requires few { IfSome (map.get nodes.old id.0) (λ node. length node.children < most_children) }
@@ -164,6 +171,7 @@ fn push_child(nodes: &mut Nodes, id: Id, child: Id)
 {
     if let Some(mut node) = nodes.remove(id) {
         node.children.push(child.0);
+        node.marks.touch(Parts::of_tree());
         nodes.insert(id, node);
     }
 }

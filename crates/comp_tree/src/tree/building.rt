@@ -1,7 +1,8 @@
 //! A tree that is built from entries.
-ghost use Rattle.std.specs.Prelude.{◌≡◌, ◌<◌, ◌≤◌, IfOk, OnOk, Err};
+ghost use Rattle.std.specs.Prelude.{◌≡◌, ◌<◌, ◌≤◌, ℕ, IfOk, OnOk, Err};
 ghost use Rattle.std.specs.FinMap as map;
 ghost use Rattle.comp_tree.specs.Application.{data_size_of};
+ghost use Rattle.comp_tree.specs.Marks.{all_parts, marks_at};
 ghost use Rattle.comp_tree.specs.Loads.{AreToLoad, loaded, loaded_components};
 
 use crate::loaded::Loaded;
@@ -26,6 +27,7 @@ impl<E: Engine> Tree<E> {
         ensures built { IfOk result (λ t. components_of E.Engine t ≡ loaded_components (E.meaning engine) (E.statics engine) (E.limit engine) entries.now) }
         ensures meaning { IfOk result (λ t. E.meaning t.engine ≡ E.meaning engine) }
         ensures steady { IfOk result (λ t. E.fixed t.engine ≡ E.fixed engine) }
+        ensures marks { IfOk result (λ t. (id at : ℕ) → marks_at t id at ≡ all_parts) }
         ensures full { result ≡ Err AddRefusal.DataFull → E.limit engine < data_size_of (E.meaning engine) (loaded (E.meaning engine) entries.now) }
         ensures fits { OnOk result (data_size_of (E.meaning engine) (loaded (E.meaning engine) entries.now) ≤ E.limit engine) }
     {

@@ -2,6 +2,7 @@
 ghost use Rattle.std.specs.Prelude.{◌≡◌, IsTrue};
 ghost use Rattle.link_table.specs.Link.{Link};
 ghost use Rattle.comp_tree.specs.Application.{type_at};
+ghost use Rattle.comp_tree.specs.Marks.{KeepsMarks, values_at};
 ghost use Rattle.comp_tree.specs.Links.{copy as copied, go_together_if_there, has_changed};
 
 use crate::tree::Tree;
@@ -17,6 +18,7 @@ impl<E: Engine> Tree<E> {
         requires { IsTrue (go_together_if_there (type_at (E.meaning self.old.engine) (components_of E.Engine self.old).by_id from.0 from_slot) (type_at (E.meaning self.old.engine) (components_of E.Engine self.old).by_id to.0 to_slot)) }
         ensures copied { components_of E.Engine self.new ≡ copied (E.meaning self.old.engine) (components_of E.Engine self.old) (let l : Link = record { from = from.0; from_slot = from_slot; to = to.0; to_slot = to_slot } in l) }
         ensures changed { result ≡ has_changed (E.meaning self.old.engine) (components_of E.Engine self.old) (components_of E.Engine self.new) to.0 to_slot }
+        ensures marks { KeepsMarks E.Engine (values_at to.0) self.old self.new }
         ensures meaning { E.meaning self.new.engine ≡ E.meaning self.old.engine }
         ensures steady { E.fixed self.new.engine ≡ E.fixed self.old.engine }
     {
@@ -24,7 +26,7 @@ impl<E: Engine> Tree<E> {
         match self.get(from, from_slot, &mut value) {
             Ok(()) => {
                 let _whole = self.engine.schema();
-                self.store(to, to_slot, &value)
+                self.assign(to, to_slot, &value)
             }
             Err(_) => false,
         }

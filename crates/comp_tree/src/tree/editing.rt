@@ -1,11 +1,12 @@
 //! Names, order and values of components that are live.
-ghost use Rattle.std.specs.Prelude.{◌≡◌, ◌≤◌, not, IsTrue, IsSomeAnd, OnOk, OnErr, IfOk, MatchResult, Some, None};
+ghost use Rattle.std.specs.Prelude.{◌≡◌, ◌≤◌, ℕ, not, IsTrue, IsSomeAnd, OnOk, OnErr, IfOk, MatchResult, Some, None};
 ghost use Rattle.std.specs.FinMap as map;
 ghost use Rattle.sed_engine.specs.Code.{may_call, may_store, slot_type};
 ghost use Rattle.sed_wire.specs.Spelling.{can_be_held};
 ghost use Rattle.comp_tree.specs.Edit.{is_save};
 ghost use Rattle.comp_tree.specs.Edits.{after_invoke, after_rename, after_reorder, after_write, first_of};
 ghost use Rattle.comp_tree.specs.Links.{has_changed, store as stored};
+ghost use Rattle.comp_tree.specs.Marks.{KeepsMarks, marks_at, tree_at, values_at};
 ghost use Rattle.comp_tree.specs.Refusals.{first_refusal, invoke_types, refusals_of_invoke, refusals_of_read, refusals_of_rename, refusals_of_reorder, refusals_of_write, write_types};
 ghost use Rattle.comp_tree.specs.Values.{taken};
 ghost use Rattle.sed_engine.specs.declared.call.Root.TheVariants.{Action as ActionRoot};
@@ -13,6 +14,7 @@ ghost use Rattle.sed_engine.specs.declared.call.Root.TheVariants.{Action as Acti
 use crate::order::{new_order, reorder_node};
 use crate::siblings::{new_name, rename_node};
 use crate::tree::Tree;
+use node_table::Parts;
 use prop_values::{are_same, form_of, one_argument, one_value};
 use sed_engine::{CallEnd, Callback, Engine, Root};
 use sed_typed::{SlotForm, SlotNo};
@@ -25,6 +27,7 @@ impl<E: Engine> Tree<E> {
     /// and then all is as it was.
     pub fn rename(&mut self, id: Id, name: &[u8]) -> Result<(), Refusal>
         ensures done { OnOk result (components_of E.Engine self.new ≡ after_rename (components_of E.Engine self.old) id.0 name.now) }
+        ensures marks { KeepsMarks E.Engine (tree_at id.0) self.old self.new }
         ensures refused { MatchResult result (λ _. first_refusal (refusals_of_rename (components_of E.Engine self.old).by_id id.0 name.now) ≡ None)
             (λ refusal. first_refusal (refusals_of_rename (components_of E.Engine self.old).by_id id.0 name.now) ≡ Some refusal) }
         ensures stays { OnErr result (self.new ≡ self.old) }
@@ -43,6 +46,7 @@ impl<E: Engine> Tree<E> {
     /// of its row comes exactly where one holds, and then all is as it was.
     pub fn reorder(&mut self, id: Id, children: &[u8]) -> Result<(), Refusal>
         ensures done { OnOk result (components_of E.Engine self.new ≡ after_reorder (components_of E.Engine self.old) id.0 children.now) }
+        ensures marks { KeepsMarks E.Engine (tree_at id.0) self.old self.new }
         ensures refused { MatchResult result (λ _. first_refusal (refusals_of_reorder (components_of E.Engine self.old).by_id id.0 children.now) ≡ None)
             (λ refusal. first_refusal (refusals_of_reorder (components_of E.Engine self.old).by_id id.0 children.now) ≡ Some refusal) }
         ensures stays { OnErr result (self.new ≡ self.old) }
@@ -71,6 +75,7 @@ impl<E: Engine> Tree<E> {
         requires some_turns { 1 ≤ turns }
         requires most_turns { turns ≤ 1000000 }
         ensures done { OnOk result (components_of E.Engine self.new ≡ after_write (E.meaning self.old.engine) (components_of E.Engine self.old) id.0 slot value.now turns ticks) }
+        ensures marks { KeepsMarks E.Engine (values_at id.0) self.old self.new }
         ensures refused { MatchResult result (λ _. first_refusal (refusals_of_write (E.meaning self.old.engine) (components_of E.Engine self.old).by_id id.0 slot value.now) ≡ None)
             (λ refusal. first_refusal (refusals_of_write (E.meaning self.old.engine) (components_of E.Engine self.old).by_id id.0 slot value.now) ≡ Some refusal) }
         ensures stays { OnErr result (self.new ≡ self.old) }
@@ -82,7 +87,7 @@ impl<E: Engine> Tree<E> {
             Ok(value) => holder.put(value),
             Err(refusal) => return Err(refusal),
         }
-        if self.store(id, slot, &holder) {
+        if self.assign(id, slot, &holder) {
             let _end = self.callback(id, Callback::Changed, slot, turns, ticks);
         }
         Ok(())
@@ -105,6 +110,7 @@ impl<E: Engine> Tree<E> {
         requires most_turns { turns ≤ 1000000 }
         ensures done { OnOk result (components_of E.Engine self.new ≡ (after_invoke (E.meaning self.old.engine) (components_of E.Engine self.old) id.0 (record { 0 = slot }) arg.now turns ticks).left) }
         ensures end { IfOk result (λ end. end ≡ (after_invoke (E.meaning self.old.engine) (components_of E.Engine self.old) id.0 (record { 0 = slot }) arg.now turns ticks).end) }
+        ensures marks { KeepsMarks E.Engine (values_at id.0) self.old self.new }
         ensures refused { MatchResult result (λ _. first_refusal (refusals_of_invoke (E.meaning self.old.engine) (components_of E.Engine self.old).by_id id.0 slot arg.now) ≡ None)
             (λ refusal. first_refusal (refusals_of_invoke (E.meaning self.old.engine) (components_of E.Engine self.old).by_id id.0 slot arg.now) ≡ Some refusal) }
         ensures stays { OnErr result (self.new ≡ self.old) }
@@ -116,7 +122,7 @@ impl<E: Engine> Tree<E> {
             Ok(value) => holder.put(value),
             Err(refusal) => return Err(refusal),
         }
-        Ok(self.run(id, Root::Action(SlotNo(slot)), &holder, turns, ticks))
+        Ok(self.call(id, Root::Action(SlotNo(slot)), &holder, turns, ticks))
     }
 
     // The value that a write gives, or why it may not.
@@ -176,11 +182,26 @@ impl<E: Engine> Tree<E> {
     }
 
     // Stores a value in a property of a component, as an assignment does, and says whether what is
-    // kept differs from before.
-    pub(super) fn store(&mut self, id: Id, slot: u8, value: &SlotBuf) -> bool
+    // kept differs from before; the component's values are marked.
+    pub(super) fn assign(&mut self, id: Id, slot: u8, value: &SlotBuf) -> bool
         requires { IsSomeAnd (map.get (components_of E.Engine self.old).by_id id.0) (λ c. IsTrue (may_store (E.meaning self.old.engine) c.class slot value.now)) }
         ensures stored { components_of E.Engine self.new ≡ stored (E.meaning self.old.engine) (components_of E.Engine self.old) id.0 slot value.now }
         ensures changed { result ≡ has_changed (E.meaning self.old.engine) (components_of E.Engine self.old) (stored (E.meaning self.old.engine) (components_of E.Engine self.old) id.0 slot value.now) id.0 slot }
+        ensures marks { KeepsMarks E.Engine (values_at id.0) self.old self.new }
+        ensures meaning { E.meaning self.new.engine ≡ E.meaning self.old.engine }
+        ensures steady { E.fixed self.new.engine ≡ E.fixed self.old.engine }
+    {
+        let changed = self.store(id, slot, value);
+        self.mark(id, Parts::of_values());
+        changed
+    }
+
+    // The same, of which the marks say nothing yet.
+    fn store(&mut self, id: Id, slot: u8, value: &SlotBuf) -> bool
+        requires { IsSomeAnd (map.get (components_of E.Engine self.old).by_id id.0) (λ c. IsTrue (may_store (E.meaning self.old.engine) c.class slot value.now)) }
+        ensures stored { components_of E.Engine self.new ≡ stored (E.meaning self.old.engine) (components_of E.Engine self.old) id.0 slot value.now }
+        ensures changed { result ≡ has_changed (E.meaning self.old.engine) (components_of E.Engine self.old) (stored (E.meaning self.old.engine) (components_of E.Engine self.old) id.0 slot value.now) id.0 slot }
+        ensures marks { (other at : ℕ) → marks_at self.new other at ≡ marks_at self.old other at }
         ensures meaning { E.meaning self.new.engine ≡ E.meaning self.old.engine }
         ensures steady { E.fixed self.new.engine ≡ E.fixed self.old.engine }
     {

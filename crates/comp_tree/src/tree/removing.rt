@@ -3,6 +3,7 @@ ghost use Rattle.std.specs.Prelude.{◌≡◌, ◌≢◌, ◌≤◌, IsTrue, All
 ghost use Rattle.comp_tree.specs.Application.{is_live, with_components};
 ghost use Rattle.comp_tree.specs.Calls.{call_each};
 ghost use Rattle.comp_tree.specs.Edits.{after_delete, removed};
+ghost use Rattle.comp_tree.specs.Marks.{KeepsMarks, tree_above, values_of_all};
 ghost use Rattle.comp_tree.specs.Order.{subtree as subtree_of};
 ghost use Rattle.comp_tree.specs.Refusals.{first_refusal, refusals_of_delete};
 
@@ -27,6 +28,7 @@ impl<E: Engine> Tree<E> {
         ensures done { OnOk result (components_of E.Engine self.new ≡ after_delete (E.meaning self.old.engine) (components_of E.Engine self.old) id.0 turns ticks) }
         ensures refused { MatchResult result (λ _. first_refusal (refusals_of_delete (components_of E.Engine self.old).by_id id.0) ≡ None)
             (λ refusal. first_refusal (refusals_of_delete (components_of E.Engine self.old).by_id id.0) ≡ Some refusal) }
+        ensures marks { KeepsMarks E.Engine (tree_above (components_of E.Engine self.old).by_id id.0) self.old self.new }
         ensures stays { OnErr result (self.new ≡ self.old) }
         ensures meaning { E.meaning self.new.engine ≡ E.meaning self.old.engine }
         ensures steady { E.fixed self.new.engine ≡ E.fixed self.old.engine }
@@ -49,6 +51,7 @@ impl<E: Engine> Tree<E> {
         requires some_turns { 1 ≤ turns }
         requires most_turns { turns ≤ 1000000 }
         ensures left { components_of E.Engine self.new ≡ (call_each (E.meaning self.old.engine) Callback.Stop turns ticks (components_of E.Engine self.old) ids.now).left }
+        ensures marks { KeepsMarks E.Engine (values_of_all ids.now) self.old self.new }
         ensures meaning { E.meaning self.new.engine ≡ E.meaning self.old.engine }
         ensures steady { E.fixed self.new.engine ≡ E.fixed self.old.engine }
     {
@@ -62,6 +65,7 @@ impl<E: Engine> Tree<E> {
         requires live { IsTrue (is_live (components_of E.Engine self.old).by_id id.0) }
         requires below { id.0 ≢ 0 }
         requires all { ids.now ≡ subtree_of (components_of E.Engine self.old).by_id id.0 }
+        ensures marks { KeepsMarks E.Engine (tree_above (components_of E.Engine self.old).by_id id.0) self.old self.new }
         ensures gone { components_of E.Engine self.new ≡ with_components (components_of E.Engine self.old) (removed (components_of E.Engine self.old).by_id id.0) }
         ensures meaning { E.meaning self.new.engine ≡ E.meaning self.old.engine }
         ensures steady { E.fixed self.new.engine ≡ E.fixed self.old.engine }

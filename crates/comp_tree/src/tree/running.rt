@@ -1,13 +1,15 @@
 //! Root calls on components.
-ghost use Rattle.std.specs.Prelude.{◌≡◌, ◌≤◌, IsTrue, IsSome, IsSomeAnd, OnOk, OnErr, MatchResult, Some, None};
+ghost use Rattle.std.specs.Prelude.{◌≡◌, ◌≤◌, ℕ, IsTrue, IsSome, IsSomeAnd, OnOk, OnErr, MatchResult, Some, None};
 ghost use Rattle.std.specs.FinMap as map;
 ghost use Rattle.sed_engine.specs.Code.{may_call};
 ghost use Rattle.comp_tree.specs.Application.{fault_of};
 ghost use Rattle.comp_tree.specs.Calls.{Call, callback_argument as argument_of, execute_at, fault_by, run_at};
 ghost use Rattle.comp_tree.specs.Edits.{after_clear};
+ghost use Rattle.comp_tree.specs.Marks.{KeepsMarks, marks_at, no_marks, values_at};
 ghost use Rattle.comp_tree.specs.Refusals.{first_refusal, refusals_of_clear};
 
 use crate::tree::Tree;
+use node_table::Parts;
 use sed_engine::{CallEnd, Callback, Engine, Root};
 use sed_value::{Id, Refusal, SlotBuf, Value};
 
@@ -23,10 +25,11 @@ impl<E: Engine> Tree<E> {
         requires most_turns { turns ≤ 1000000 }
         ensures left { components_of E.Engine self.new ≡ (execute_at (E.meaning self.old.engine) (components_of E.Engine self.old) id.0 turns ticks).left }
         ensures end { result ≡ (execute_at (E.meaning self.old.engine) (components_of E.Engine self.old) id.0 turns ticks).end }
+        ensures marks { KeepsMarks E.Engine (values_at id.0) self.old self.new }
         ensures meaning { E.meaning self.new.engine ≡ E.meaning self.old.engine }
         ensures steady { E.fixed self.new.engine ≡ E.fixed self.old.engine }
     {
-        self.run(id, Root::Execute, &SlotBuf::new(), turns, ticks)
+        self.call(id, Root::Execute, &SlotBuf::new(), turns, ticks)
     }
 
     /// Calls a callback of a component; `slot` is the argument of `changed` and is otherwise not
@@ -37,16 +40,18 @@ impl<E: Engine> Tree<E> {
         requires most_turns { turns ≤ 1000000 }
         ensures left { components_of E.Engine self.new ≡ (Call (E.meaning self.old.engine) (components_of E.Engine self.old) id.0 c slot turns ticks).left }
         ensures end { result ≡ (Call (E.meaning self.old.engine) (components_of E.Engine self.old) id.0 c slot turns ticks).end }
+        ensures marks { KeepsMarks E.Engine (values_at id.0) self.old self.new }
         ensures meaning { E.meaning self.new.engine ≡ E.meaning self.old.engine }
         ensures steady { E.fixed self.new.engine ≡ E.fixed self.old.engine }
     {
         let argument = callback_argument(c, slot);
-        self.run(id, Root::Callback(c), &argument, turns, ticks)
+        self.call(id, Root::Callback(c), &argument, turns, ticks)
     }
 
     /// Sets a component's fault to 0. The one refusal comes exactly where the id is not live.
     pub fn clear(&mut self, id: Id) -> Result<(), Refusal>
         ensures done { OnOk result (components_of E.Engine self.new ≡ after_clear (components_of E.Engine self.old) id.0) }
+        ensures marks { KeepsMarks E.Engine no_marks self.old self.new }
         ensures refused { MatchResult result (λ _. first_refusal (refusals_of_clear (components_of E.Engine self.old).by_id id.0) ≡ None)
             (λ refusal. first_refusal (refusals_of_clear (components_of E.Engine self.old).by_id id.0) ≡ Some refusal) }
         ensures stays { OnErr result (self.new ≡ self.old) }
@@ -60,8 +65,8 @@ impl<E: Engine> Tree<E> {
         Ok(())
     }
 
-    // A root call on a component, where its fault is 0.
-    pub(super) fn run(
+    // A root call on a component, where its fault is 0; its values are marked.
+    pub(super) fn call(
         &mut self,
         id: Id,
         which: Root,
@@ -74,6 +79,23 @@ impl<E: Engine> Tree<E> {
         requires most_turns { turns ≤ 1000000 }
         ensures left { components_of E.Engine self.new ≡ (run_at (E.meaning self.old.engine) (components_of E.Engine self.old) id.0 which arg.now turns ticks).left }
         ensures end { result ≡ (run_at (E.meaning self.old.engine) (components_of E.Engine self.old) id.0 which arg.now turns ticks).end }
+        ensures marks { KeepsMarks E.Engine (values_at id.0) self.old self.new }
+        ensures meaning { E.meaning self.new.engine ≡ E.meaning self.old.engine }
+        ensures steady { E.fixed self.new.engine ≡ E.fixed self.old.engine }
+    {
+        let end = self.run(id, which, arg, turns, ticks);
+        self.mark(id, Parts::of_values());
+        end
+    }
+
+    // A root call on a component, where its fault is 0, of which the marks say nothing yet.
+    fn run(&mut self, id: Id, which: Root, arg: &SlotBuf, turns: u32, ticks: i64) -> CallEnd
+        requires may { IsSomeAnd (map.get (components_of E.Engine self.old).by_id id.0) (λ c. IsTrue (may_call (E.meaning self.old.engine) c.class which arg.now)) }
+        requires some_turns { 1 ≤ turns }
+        requires most_turns { turns ≤ 1000000 }
+        ensures left { components_of E.Engine self.new ≡ (run_at (E.meaning self.old.engine) (components_of E.Engine self.old) id.0 which arg.now turns ticks).left }
+        ensures end { result ≡ (run_at (E.meaning self.old.engine) (components_of E.Engine self.old) id.0 which arg.now turns ticks).end }
+        ensures marks { (other at : ℕ) → marks_at self.new other at ≡ marks_at self.old other at }
         ensures meaning { E.meaning self.new.engine ≡ E.meaning self.old.engine }
         ensures steady { E.fixed self.new.engine ≡ E.fixed self.old.engine }
     {

@@ -3,6 +3,7 @@ use Rattle.std.specs.FinMap as map
 use Rattle.comp_tree.specs.Application.{data_size_of}
 use Rattle.comp_tree.specs.Loads.{loaded}
 use Rattle.comp_tree.proofs.LoadLemmas.{by_id_next, few_so_far, fits_next, free_below, not_yet, passes_all}
+use Rattle.comp_tree.proofs.MarkCalls.{all_none}
 use Rattle.comp_tree.proofs.TreeLemmas.{by_id_none, no_size, placed_none}
 use Rattle.comp_tree.proofs.loading.load_each.Goals as goal
 
@@ -14,6 +15,7 @@ loop-entry-init g c =
       placed = placed_none m l c.args.nodes.now c.requires.no_objects c.requires.no_nodes;
       by_id = by_id_none m l c.args.nodes.now c.requires.no_objects c.requires.no_nodes;
       fits = (let none : data_size_of m (loaded m (take 0 c.args.entries.now)) ≡ 0 = no_size m map.empty refl in omega arith);
+      marks = all_none c.args.nodes.now c.requires.no_nodes;
       meaning = refl;
       statics = refl;
       limit = refl;
@@ -49,6 +51,7 @@ loop-entry-preserved g c =
           (g.E.Engine.live c.load_one.new.engine) c.load_one.new.nodes c.in-Ok.ensures.by_id;
       fits = fits_next m n l c.loop-entry.nodes es c.requires.once k c.entry-item.result c.loop-entry-test.true c.entry-item.is c.loop-entry.invariant.meaning c.loop-entry.invariant.by_id (g.E.Engine.limit c.loop-entry.engine) (g.E.Engine.limit c.args.engine.now) c.loop-entry.invariant.limit
           (λ lt. let no = c.in-Ok.ensures.full.1 lt in cc);
+      marks = c.in-Ok.ensures.marks c.loop-entry.invariant.marks;
       meaning = c.in-Ok.ensures.meaning ∙ c.loop-entry.invariant.meaning;
       statics = c.in-Ok.ensures.statics ∙ c.loop-entry.invariant.statics;
       limit = c.in-Ok.ensures.limit ∙ c.loop-entry.invariant.limit;

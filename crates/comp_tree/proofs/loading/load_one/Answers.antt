@@ -5,6 +5,7 @@ use Rattle.sed_engine.specs.Code.{new_object}
 use Rattle.comp_tree.specs.Held.{IsPlaced}
 use Rattle.comp_tree.proofs.LoadLemmas.{one_by_id, one_placed}
 use Rattle.comp_tree.proofs.MapLemmas.{get_put}
+use Rattle.comp_tree.proofs.MarkCalls.{all_set}
 use Rattle.comp_tree.proofs.loading.load_one.Goals as goal
 
 pub store_config-requires-clause-live : goal.store_config-requires-clause-live
@@ -25,3 +26,6 @@ returns-clause-by_id g c =
     one_by_id (g.E.Engine.meaning c.args.engine.now) (g.E.Engine.meaning c.add.new.self) (g.E.Engine.live c.args.engine.now) (g.E.Engine.live c.add.new.self) (g.E.Engine.live c.store_config.new.engine) c.args.nodes.now c.insert.new.self
     c.requires.placed c.args.entry.now c.in-Ok.place c.loaded_node-node.result c.in-Ok.ensures.fresh c.in-Ok.ensures.added c.in-Ok.ensures.meaning c.as_slice.result.now c.as_slice.ensures c.store_config.ensures.stored c.requires.free c.insert.ensures
     k.kind k.name k.parent k.children k.fault k.place
+
+pub returns-clause-marks : goal.returns-clause-marks
+returns-clause-marks g c = λ before. all_set c.args.nodes.now c.insert.new.self c.args.entry.now.id.0 c.loaded_node-node.result before c.loaded_node-node.ensures.marks c.insert.ensures

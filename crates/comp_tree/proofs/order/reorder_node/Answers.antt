@@ -1,6 +1,7 @@
-use Rattle.std.proofs.Common.{sym, ap, ◌∙◌}
+use Rattle.std.proofs.Common.{List, sym, ap, ◌∙◌}
 use Rattle.std.specs.FinMap as map
-use Rattle.node_table.specs.Changed.{with_children}
+use Rattle.node_table.specs.Changed.{touched, with_marks, with_children}
+use Rattle.node_table.specs.declared.marks.Parts.{Parts}
 use Rattle.comp_tree.proofs.NodeTrees.{back_is}
 use Rattle.comp_tree.proofs.MapLemmas.{taken_out}
 use Rattle.comp_tree.proofs.order.reorder_node.Goals as goal
@@ -10,4 +11,5 @@ insert-requires-clause-free c = ap (λ m. map.get m c.args.id.0) c.remove.ensure
 
 pub returns-in-Some : goal.returns-in-Some
 returns-in-Some c =
-    back_is c.args.nodes.now c.remove.new.self c.insert.new.self c.args.id.0 c.in-Some.node (with_children c.args.children) c.remove.ensures.removed (sym c.in-Some.ensures.value) c.insert.ensures
+    back_is c.args.nodes.now c.remove.new.self c.insert.new.self c.args.id.0 c.in-Some.node (with_children c.args.children) c.remove.ensures.removed (sym c.in-Some.ensures.value)
+    (c.insert.ensures ∙ ap (λ (ms : List Parts). map.insert c.remove.new.self c.args.id.0 (with_marks ms (with_children c.args.children c.in-Some.node))) (c.touch.ensures ∙ ap (λ (p : Parts). touched p c.in-Some.node.marks) c.of_tree.ensures))

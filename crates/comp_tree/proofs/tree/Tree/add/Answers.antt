@@ -1,9 +1,16 @@
-use Rattle.std.proofs.Common.{◌≡◌, ℤ, Some, Err, to_z, of_z, w64, ap, ◌∙◌}
+use Rattle.std.proofs.Common.{◌≡◌, ℤ, IsTrue, Some, Err, is_some, to_z, of_z, w64, refl, sym, ap, ◌∙◌}
 use Rattle.std.proofs.lemmas.Int.{to_z-of_z}
 use Rattle.sed_engine.specs.declared.call.Callback.TheVariants.{Start}
 use Rattle.comp_tree.specs.Calls.{Call}
 use Rattle.comp_tree.specs.Held.{components_of}
 use Rattle.comp_tree.proofs.AddLemmas.{add_done, add_fits, add_full, add_not_memory, same_refusal}
+use Rattle.sed_engine.specs.declared.call.Root.TheVariants.{Callback}
+use Rattle.comp_tree.specs.Application.{Components, is_live}
+use Rattle.comp_tree.specs.Calls.{callback_argument}
+use Rattle.comp_tree.specs.Marks.{added_at, is_among, marks_at, values_at}
+use Rattle.comp_tree.proofs.MarkCalls.{all_of_them, keeps_then, values_in_added}
+use Rattle.comp_tree.proofs.MarkSteps.{among_all}
+use Rattle.comp_tree.proofs.RunLemmas.{run_alike}
 use Rattle.comp_tree.proofs.tree.Tree.add.Goals as goal
 
 pub returns-in-Err-clause-memory : goal.returns-in-Err-clause-memory
@@ -27,3 +34,18 @@ returns-clause-done g c =
     add_done (g.E.Engine.meaning c.args.self.now.engine) (components_of g.E.Engine c.args.self.now) c.args.parent.0 c.args.kit c.args.number c.args.name.now c.args.config.now c.in-Ok.new.kind.0 c.in-Ok.new.name c.in-Ok.ensures (g.E.Engine.meaning c.grow.new.self.engine) (components_of g.E.Engine c.grow.new.self) _ c.in-Ok-grow.id.0 c.args.turns c.args.ticks
     c.grow.ensures.meaning c.in-Ok-grow.ensures.id c.in-Ok-grow.ensures.done
     (c.callback-end.ensures.left ∙ ap (λ (k : ℤ). (Call (g.E.Engine.meaning c.grow.new.self.engine) (components_of g.E.Engine c.grow.new.self) c.in-Ok-grow.id.0 Start 0 c.args.turns k).left) same)
+
+pub returns-clause-marks : goal.returns-clause-marks
+returns-clause-marks g c =
+    keeps_then g.E.Engine (added_at c.args.parent.0 c.in-Ok-grow.id.0) (values_at c.in-Ok-grow.id.0) (added_at c.args.parent.0 c.in-Ok-grow.id.0) c.args.self.now c.grow.new.self c.callback-end.new.self c.in-Ok-grow.ensures.marks c.callback-end.ensures.marks
+    (λ q live. sym (run_alike is_some (λ k e. refl) (g.E.Engine.meaning c.grow.new.self.engine) (components_of g.E.Engine c.grow.new.self) c.in-Ok-grow.id.0 (Callback Start) (callback_argument Start 0) c.args.turns (to_z w64 (of_z w64 c.args.ticks)) q)
+    ∙ ap (λ (a : Components). is_live a.by_id q) (sym c.callback-end.ensures.left) ∙ live)
+    (λ q part live either. values_in_added c.args.parent.0 c.in-Ok-grow.id.0 q part either)
+
+pub returns-clause-set : goal.returns-clause-set
+returns-clause-set g c = λ at.
+    let live : IsTrue (is_live (components_of g.E.Engine c.callback-end.new.self).by_id c.in-Ok-grow.id.0) =
+    ap (λ (a : Components). is_live a.by_id c.in-Ok-grow.id.0) c.callback-end.ensures.left
+    ∙ run_alike is_some (λ k e. refl) (g.E.Engine.meaning c.grow.new.self.engine) (components_of g.E.Engine c.grow.new.self) c.in-Ok-grow.id.0 (Callback Start) (callback_argument Start 0) c.args.turns (to_z w64 (of_z w64 c.args.ticks)) c.in-Ok-grow.id.0
+    ∙ c.in-Ok-grow.ensures.live in
+    all_of_them (marks_at c.callback-end.new.self c.in-Ok-grow.id.0 at) (λ part. c.callback-end.ensures.marks.clears_none c.in-Ok-grow.id.0 at part live (ap (is_among part) (c.in-Ok-grow.ensures.set at) ∙ among_all part))

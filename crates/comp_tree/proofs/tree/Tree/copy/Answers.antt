@@ -9,8 +9,8 @@ use Rattle.comp_tree.specs.Links.{go_together_if_there}
 use Rattle.comp_tree.proofs.FitLemmas.{components_fit, may_be_copied}
 use Rattle.comp_tree.proofs.tree.Tree.copy.Goals as goal
 
-pub store-requires : goal.store-requires
-store-requires g c =
+pub assign-requires : goal.assign-requires
+assign-requires g c =
     let i = c.self.inside in
     let go = subst (λ (x : Held _). IsTrue (go_together_if_there (type_at (g.E.Engine.meaning x.engine) (by_id_of (g.E.Engine.live x.engine) x.nodes) c.args.from.0 c.args.from_slot) (type_at (g.E.Engine.meaning x.engine) (by_id_of (g.E.Engine.live x.engine) x.nodes) c.args.to.0 c.args.to_slot))) (sym c.self.view_is) c.requires in
     let may = may_be_copied (g.E.Engine.meaning i.engine) (by_id_of (g.E.Engine.live i.engine) i.nodes) c.schema-whole.ensures.whole.tables

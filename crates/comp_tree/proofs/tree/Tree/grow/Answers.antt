@@ -14,6 +14,11 @@ use Rattle.comp_tree.proofs.AddLemmas.{few_children, free_pushed, grown_held, gr
 use Rattle.comp_tree.proofs.EditLemmas.{live_same, some_of}
 use Rattle.comp_tree.proofs.MapLemmas.{get_put}
 use Rattle.comp_tree.proofs.TreeLemmas.{no_component}
+use Rattle.comp_tree.specs.Application.{Components}
+use Rattle.comp_tree.specs.Held.{Nodes}
+use Rattle.comp_tree.specs.Marks.{KeepsMarks, added_at, marks_in}
+use Rattle.comp_tree.proofs.MarkCalls.{keeps_added}
+use Rattle.comp_tree.proofs.MarkSteps.{marks_put}
 use Rattle.comp_tree.proofs.tree.Tree.grow.Goals as goal
 
 pub add-requires-clause-creatable : goal.add-requires-clause-creatable
@@ -94,3 +99,20 @@ pub returns-clause-fresh : goal.returns-clause-fresh
 returns-clause-fresh g c =
     ap (λ (x : Held _). map.get (by_id_of (g.E.Engine.live x.engine) x.nodes) c.least_free-id.result.0) (sym c.self.view_is)
     ∙ no_component (g.E.Engine.live c.self.inside.engine) c.self.inside.nodes c.least_free-id.result.0 c.least_free-id.ensures.free
+
+pub returns-clause-marks : goal.returns-clause-marks
+returns-clause-marks g c =
+    let h : Held _ = record { engine = c.self.inside.engine; nodes = c.self.inside.nodes } in
+    let above = some_of (map.get c.self.inside.nodes c.args.parent.0) (sym (live_same (g.E.Engine.live c.self.inside.engine) c.self.inside.nodes c.args.parent.0) ∙ ap (λ (x : Held _). map.contains_key (by_id_of (g.E.Engine.live x.engine) x.nodes) c.args.parent.0) c.self.view_is ∙ c.requires.live) in
+    let is =
+    grown_is g.E.Engine h c.self.invariant c.args.parent c.least_free-id.result c.args.kind c.in-Ok.place c.args.name c.args.config.now c.store_config.new.engine c.push_child.new.nodes c.insert.new.self c.new_node.result
+    c.in-Ok.ensures.fresh (live_two (g.E.Engine.meaning c.self.inside.engine) (g.E.Engine.meaning c.add.new.self) (g.E.Engine.live c.self.inside.engine) (g.E.Engine.live c.add.new.self) (g.E.Engine.live c.store_config.new.engine) c.in-Ok.place.0 c.args.kind.0 c.args.config.now c.in-Ok.ensures.added c.in-Ok.ensures.meaning c.store_config.ensures.stored)
+    (c.store_config.ensures.meaning ∙ c.in-Ok.ensures.meaning) (c.store_config.ensures.statics ∙ c.in-Ok.ensures.statics) (c.store_config.ensures.limit ∙ c.in-Ok.ensures.limit)
+    above.0 above.1 c.push_child.ensures c.insert.ensures c.least_free-id.ensures.free c.new_node.ensures.kind c.new_node.ensures.name c.new_node.ensures.parent c.new_node.ensures.children c.new_node.ensures.fault c.new_node.ensures.place
+    in
+    subst (λ (x : Held _). KeepsMarks g.E.Engine (added_at c.args.parent.0 c.least_free-id.result.0) x (record { engine = c.store_config.new.engine; nodes = c.insert.new.self })) c.self.view_is
+    (keeps_added g.E.Engine h (record { engine = c.store_config.new.engine; nodes = c.insert.new.self }) (c.store_config.ensures.meaning ∙ c.in-Ok.ensures.meaning) c.args.parent.0 c.least_free-id.result.0 _ above.0 c.new_node.result above.1
+    c.push_child.new.nodes c.push_child.ensures c.insert.ensures c.new_node.ensures.marks (ap (λ (a : Components). a.by_id) is))
+
+pub returns-clause-set : goal.returns-clause-set
+returns-clause-set g c = λ at. ap (λ (n : Nodes). marks_in n c.least_free-id.result.0 at) c.insert.ensures ∙ marks_put c.push_child.new.nodes c.least_free-id.result.0 c.new_node.result at ∙ c.new_node.ensures.marks at

@@ -10,6 +10,7 @@ use Rattle.sed_engine.specs.Code.{Object, new_object}
 use Rattle.comp_tree.specs.Held.{IsPlaced, IsTreeOf}
 use Rattle.comp_tree.proofs.NodeTrees.{tree_first}
 use Rattle.comp_tree.proofs.TreeLemmas.{app_class_is, no_data, placed_first, app_first}
+use Rattle.comp_tree.proofs.MarkCalls.{all_none, all_set}
 use Rattle.comp_tree.proofs.tree.Tree.new.Goals as goal
 
 -- the same error beside another type of value
@@ -55,3 +56,6 @@ returns-clause-made g c =
     (c.in-Ok-add.ensures.added ∙ ap (λ p. map.insert l p.0 o) (sym a.place)) c.insert.ensures
     a.name a.parent a.children a.fault (ap (λ t. m.initial t.0) (sym a.kind)) (app_class_is m c.app_type-kind.result.0 class ∙ ap (λ t. t.0) (sym a.kind)) in
     λ i. record { by_id = all i; statics = c.in-Ok-add.ensures.statics i; limit = c.in-Ok-add.ensures.limit i }
+
+pub returns-clause-marks : goal.returns-clause-marks
+returns-clause-marks g c = all_set c.in-Ok.nodes c.insert.new.self 0 c.app_node.result (all_none c.in-Ok.nodes c.in-Ok.ensures) c.app_node.ensures.marks c.insert.ensures

@@ -1,4 +1,4 @@
-use Rattle.std.proofs.Common.{ℕ, List, [], refl, sym, ap, ◌∙◌}
+use Rattle.std.proofs.Common.{ℕ, List, [], refl, sym, ap, ◌∙◌, subst}
 use Rattle.std.specs.FinMap as map
 use Rattle.std.specs.Option.{option_map_or}
 use Rattle.comp_tree.specs.Application.{change_at, with_components}
@@ -7,6 +7,9 @@ use Rattle.comp_tree.specs.Edits.{after_reorder, with_children}
 use Rattle.comp_tree.specs.Held.{Held, by_id_of, components_of}
 use Rattle.comp_tree.specs.Refusals.{first_refusal, refusals_of_reorder}
 use Rattle.comp_tree.proofs.EditLemmas.{changed_is, each_of, held_ordered, some_of}
+use Rattle.comp_tree.specs.Marks.{KeepsMarks, tree_at, tree_parts}
+use Rattle.comp_tree.proofs.MarkCalls.{keeps_changed, tree_alone}
+use Rattle.comp_tree.proofs.MarkSteps.{touched_here}
 use Rattle.comp_tree.proofs.tree.Tree.reorder.Goals as goal
 
 pub returns-in-Err-clause-refused : goal.returns-in-Err-clause-refused
@@ -32,3 +35,11 @@ pub returns-clause-refused : goal.returns-clause-refused
 returns-clause-refused g c =
     ap (λ (h : Held _). first_refusal (refusals_of_reorder (by_id_of (g.E.Engine.live h.engine) h.nodes) c.args.id.0 c.args.children.now)) (sym c.self.view_is)
     ∙ c.in-Ok.ensures.first (g.E.Engine.live c.self.inside.engine)
+
+pub returns-clause-marks : goal.returns-clause-marks
+returns-clause-marks g c =
+    let h : Held _ = record { engine = c.self.inside.engine; nodes = c.self.inside.nodes } in
+    let n = some_of (map.get c.self.inside.nodes c.args.id.0) c.in-Ok.ensures.live in
+    subst (λ (x : Held _). KeepsMarks g.E.Engine (tree_at c.args.id.0) x (record { engine = c.self.inside.engine; nodes = c.reorder_node.new.nodes })) c.self.view_is
+    (keeps_changed g.E.Engine h c.self.invariant.placed c.args.id.0 n.0 n.1 (node.with_children c.in-Ok.ids) refl refl c.reorder_node.new.nodes c.reorder_node.ensures (with_children c.in-Ok.ids) refl tree_parts (touched_here tree_parts n.0.marks)
+    (λ part k out. tree_alone (g.E.Engine.meaning h.engine) k (with_children c.in-Ok.ids k) refl refl part out))

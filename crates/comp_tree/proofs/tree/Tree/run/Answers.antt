@@ -1,5 +1,10 @@
 use Rattle.std.proofs.lemmas.Int.{to_z-of_z}
-use Rattle.std.proofs.Common.{◌≡◌, ℤ, to_z, of_z, w64, sym, ap, subst, ◌∙◌}
+use Rattle.std.proofs.Common.{◌≡◌, ℤ, to_z, of_z, w64, refl, sym, ap, subst, ◌∙◌}
+use Rattle.node_table.specs.Changed.{with_fault}
+use Rattle.node_table.specs.declared.node.Node.{Node}
+use Rattle.comp_tree.specs.Marks.{marks_at}
+use Rattle.comp_tree.proofs.EditLemmas.{of_found}
+use Rattle.comp_tree.proofs.MarkSteps.{marks_kept}
 use Rattle.std.specs.Prelude.{IsSomeAnd, IsTrue}
 use Rattle.std.specs.FinMap as map
 use Rattle.comp_tree.specs.Held.{Held, by_id_of, components_of}
@@ -67,3 +72,11 @@ returns-clause-end g c =
     c.call-end.ensures.left c.call-end.ensures.statics c.call-end.ensures.end c.call-end.ensures.limit c.call-end.ensures.meaning c.fault_number.ensures c.set_fault.ensures
     ∙ ap (λ (k : ℤ). (run_at (g.E.Engine.meaning h.engine) (components_of g.E.Engine h) c.args.id.0 c.args.which c.args.arg.now c.args.turns k).end) same
     ∙ ap (λ (x : Held _). (run_at (g.E.Engine.meaning x.engine) (components_of g.E.Engine x) c.args.id.0 c.args.which c.args.arg.now c.args.turns c.args.ticks).end) c.self.view_is
+
+pub returns-clause-marks : goal.returns-clause-marks
+returns-clause-marks g c = λ other at.
+    let h : Held _ = record { engine = c.self.inside.engine; nodes = c.self.inside.nodes } in
+    let n = c.in-Some.node.now in
+    let is = of_found _ n (λ (k : Node). c.set_fault.new.self ≡ map.insert h.nodes c.args.id.0 (with_fault c.fault_number.result k)) (sym c.in-Some.ensures) c.set_fault.ensures in
+    marks_kept h.nodes c.set_fault.new.self c.args.id.0 n (with_fault c.fault_number.result n) (sym c.in-Some.ensures) refl is other at
+    ∙ ap (λ (x : Held _). marks_at x other at) c.self.view_is

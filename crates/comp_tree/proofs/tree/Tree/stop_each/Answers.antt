@@ -7,11 +7,14 @@ use Rattle.comp_tree.specs.Application.{Components, is_live}
 use Rattle.comp_tree.specs.Calls.{Call}
 use Rattle.comp_tree.specs.Held.{components_of}
 use Rattle.comp_tree.proofs.DeleteLemmas.{call_live, calls, calls_are, calls_step}
+use Rattle.comp_tree.specs.Marks.{values_at, values_of_all}
+use Rattle.comp_tree.proofs.MarkDelete.{values_of_next}
+use Rattle.comp_tree.proofs.MarkCalls.{keeps_same, keeps_then}
 use Rattle.comp_tree.proofs.SubtreeLemmas.{one_of}
 use Rattle.comp_tree.proofs.tree.Tree.stop_each.Goals as goal
 
 pub loop-id-init : goal.loop-id-init
-loop-id-init g c = record { left = refl; live = λ q. refl; meaning = refl; steady = refl }
+loop-id-init g c = record { left = refl; live = λ q. refl; marks = keeps_same g.E.Engine (values_of_all c.args.ids.now) c.args.self.now c.args.self.now refl; meaning = refl; steady = refl }
 
 pub callback-end-requires-clause-live : goal.callback-end-requires-clause-live
 callback-end-requires-clause-live g c =
@@ -33,6 +36,9 @@ loop-id-preserved g c =
       left = calls_step m Stop c.args.turns t a (components_of g.E.Engine c.callback-end.new.self) (calls m Stop c.args.turns t (components_of g.E.Engine c.args.self.now) ids) ids k x c.loop-id-test.true
           (sym (get_or_default_zero ids k x c.loop-id-test.true)) left c.loop-id.invariant.left;
       live = λ q. ap (λ (b : Components). is_live b.by_id q) left ∙ call_live m Stop c.args.turns t a x q ∙ c.loop-id.invariant.live q;
+      marks = keeps_then g.E.Engine (values_of_all ids) (values_at x) (values_of_all ids) c.args.self.now c.loop-id.self c.callback-end.new.self c.loop-id.invariant.marks c.callback-end.ensures.marks
+          (λ q live. sym (call_live m Stop c.args.turns t a x q) ∙ ap (λ (b : Components). is_live b.by_id q) (sym left) ∙ live)
+          (λ q part live either. values_of_next ids k x c.loop-id-test.true (sym (get_or_default_zero ids k x c.loop-id-test.true)) q part either);
       meaning = c.callback-end.ensures.meaning ∙ c.loop-id.invariant.meaning;
       steady = c.callback-end.ensures.steady ∙ c.loop-id.invariant.steady;
     }
