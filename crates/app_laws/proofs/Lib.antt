@@ -12,3 +12,4 @@ pub mod Removed
 pub mod FreeIds
 pub mod Added
 pub mod EachCommand
+pub mod FirstWhole

@@ -70,7 +70,7 @@ module _ (m : Meaning) (code : IsWhole m) where
   abbrev IsAppClass : ClassInfo → Type 0
   IsAppClass = IsSysType m.schema.classes (codes "App") (Some 2) false true 4 (meta_slot ∷ save_slot ∷ [])
 
-  app_creatable : (class : ℕ) → class_numbered m.schema.classes 0 app_type ≡ Some class → IsTrue (is_creatable m class)
+  pub app_creatable : (class : ℕ) → class_numbered m.schema.classes 0 app_type ≡ Some class → IsTrue (is_creatable m class)
   app_creatable class is =
       let known = subst (λ (r : Option ℕ). IsSomeAnd r (λ class. IsSomeAnd (slice_get m.schema.classes class) IsAppClass)) is code.tables.names.types.app in
       let info = class_of (slice_get m.schema.classes class) (slice_get m.schema.classes class) refl IsAppClass known in

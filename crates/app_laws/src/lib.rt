@@ -6,6 +6,8 @@
 
 mod cycles;
 mod edits;
+mod first;
 
 pub use cycles::a_cycle_keeps_whole;
 pub use edits::an_edit_keeps_whole;
+pub use first::the_app_alone_is_whole;
