@@ -5,8 +5,8 @@
 //! to it and when it is refused, and what a cycle does; they name no engine. A `Tree` keeps the
 //! components over an `Engine`, which keeps their values and runs their root calls; each of its
 //! calls leaves what the definition of its name says, or gives the first refusal of its table and
-//! leaves all as it was. Nodes are kept in a table; room for all that there may be is taken when a
-//! tree is made. Links and cycles are to stand on it.
+//! leaves all as it was, and says which marks of changed parts it sets. Nodes are kept in a table; room
+//! for all that there may be is taken when a tree is made. Links and cycles are to stand on it.
 #![tactic(auto)]
 
 pub mod entry;
