@@ -14,3 +14,4 @@ pub mod OneReading
 pub mod WithinLimits
 pub mod ToldRows
 pub mod ToldTexts
+pub mod WholeFiles

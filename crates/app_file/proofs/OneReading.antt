@@ -13,6 +13,7 @@ use Rattle.app_file.specs.Rows.{rows_of}
 use Rattle.app_file.specs.Text.{IsTextOf, body_text, greatest_of}
 use Rattle.app_file.proofs.FrontsOfFiles.{one_front}
 use Rattle.app_file.proofs.OneApplication.{one_application}
+use Rattle.app_file.proofs.WholeFiles.{AreShallow, formed, within}
 
 -- ---- the first place that differs
 
@@ -58,7 +59,10 @@ front_of m a bytes tables told (inr old) = record {
 
 -- ---- what excludes what
 
-module _ (m : Meaning) (limit : ℕ) (bytes : List ℕ) (tables : HasTables m) (told : CanBeTold m.schema) where
+module _ (shallow : AreShallow) (m : Meaning) (limit : ℕ) (bytes : List ℕ) (tables : HasTables m) (told : CanBeTold m.schema) where
+  stands : (a : Application) → IsFile m limit bytes a → StandsFor m limit bytes a
+  stands a is = record { formed = formed shallow m a is.whole; kept = is.kept; under = is.under; text = is.text }
+
   no_file_or_kits : (p : ℕ) (f k : Option KitRef) → IsNoFile m limit bytes → HasWrongKits m bytes p f k → ⊥
   no_file_or_kits p f k (inl none) w = none w.version w.kits w.rest w.front
   no_file_or_kits p f k (inr body) w =
@@ -85,8 +89,8 @@ module _ (m : Meaning) (limit : ℕ) (bytes : List ℕ) (tables : HasTables m) (
 
   limit_or_file : (which : ℕ) (a : Application) → IsOverLimit m limit bytes which → IsFile m limit bytes a → ⊥
   limit_or_file which a over is =
-      let same = one_application m limit bytes over.application a tables told.numbers over.stands is.stands in
-      let no : ◌≡◌ {A = Option ℕ} (Some which) None = sym over.first ∙ ap (limit_passed m) same ∙ is.within in
+      let same = one_application m limit bytes over.application a tables told.numbers over.stands (stands a is) in
+      let no : ◌≡◌ {A = Option ℕ} (Some which) None = sym over.first ∙ ap (limit_passed m) same ∙ within shallow m a is.whole in
       absurd (cc)
 
   one_limit : (which other : ℕ) → IsOverLimit m limit bytes which → IsOverLimit m limit bytes other → which ≡ other
@@ -99,19 +103,20 @@ module _ (m : Meaning) (limit : ℕ) (bytes : List ℕ) (tables : HasTables m) (
   read_as_one no_file no_file v w = refl
   read_as_one no_file (wrong_kits p f k) v w = absurd (no_file_or_kits p f k v w)
   read_as_one no_file (over_limit which) v w = absurd (no_file_or_application w.application v w.stands)
-  read_as_one no_file (file a) v w = absurd (no_file_or_application a v w.stands)
+  read_as_one no_file (file a) v w = absurd (no_file_or_application a v (stands a w))
   read_as_one (wrong_kits p f k) no_file v w = absurd (no_file_or_kits p f k w v)
   read_as_one (wrong_kits p f k) (wrong_kits q g l) v w = one_kits p q f g k l v w
   read_as_one (wrong_kits p f k) (over_limit which) v w = absurd (kits_or_application p f k w.application v w.stands)
-  read_as_one (wrong_kits p f k) (file a) v w = absurd (kits_or_application p f k a v w.stands)
+  read_as_one (wrong_kits p f k) (file a) v w = absurd (kits_or_application p f k a v (stands a w))
   read_as_one (over_limit which) no_file v w = absurd (no_file_or_application v.application w v.stands)
   read_as_one (over_limit which) (wrong_kits p f k) v w = absurd (kits_or_application p f k v.application w v.stands)
   read_as_one (over_limit which) (over_limit other) v w = ap over_limit (one_limit which other v w)
   read_as_one (over_limit which) (file a) v w = absurd (limit_or_file which a v w)
-  read_as_one (file a) no_file v w = absurd (no_file_or_application a w v.stands)
-  read_as_one (file a) (wrong_kits p f k) v w = absurd (kits_or_application p f k a w v.stands)
+  read_as_one (file a) no_file v w = absurd (no_file_or_application a w (stands a v))
+  read_as_one (file a) (wrong_kits p f k) v w = absurd (kits_or_application p f k a w (stands a v))
   read_as_one (file a) (over_limit which) v w = absurd (limit_or_file which a w v)
-  read_as_one (file a) (file b) v w = ap file (one_application m limit bytes a b tables told.numbers v.stands w.stands)
+  read_as_one (file a) (file b) v w = ap file (one_application m limit bytes a b tables told.numbers (stands a v) (stands b w))
 
-pub one_reading : (m : Meaning) (limit : ℕ) (bytes : List ℕ) (one other : Reading) → HasTables m → CanBeTold m.schema → IsReadAs m limit bytes one → IsReadAs m limit bytes other → one ≡ other
-one_reading m limit bytes one other tables told v w = read_as_one m limit bytes tables told one other v w
+pub one_reading : AreShallow → (m : Meaning) (limit : ℕ) (bytes : List ℕ) (one other : Reading) → HasTables m → CanBeTold m.schema → IsReadAs m limit bytes one
+    → IsReadAs m limit bytes other → one ≡ other
+one_reading shallow m limit bytes one other tables told v w = read_as_one shallow m limit bytes tables told one other v w

@@ -1,5 +1,5 @@
 -- What bytes are to the kits, under a data limit: an application, or why they are none.
-use Rattle.std.specs.Prelude.{ℕ, ◌≡◌, ◌≢◌, ◌⊎◌, ◌<◌, IsTrue, List, ◌++◌, length, slice_get, Option, Some, None}
+use Rattle.std.specs.Prelude.{ℕ, ◌≡◌, ◌≢◌, ◌⊎◌, ◌<◌, IsTrue, List, ◌++◌, length, slice_get, Option, Some}
 use Rattle.std.specs.List.{All}
 use Rattle.std.specs.Int.{w32}
 use Rattle.sed_value.specs.Names.{is_kit_name}
@@ -46,11 +46,12 @@ pub record StandsFor (m : Meaning) (limit : ℕ) (bytes : List ℕ) (a : Applica
   pub under : a.components.limit ≡ limit
   pub text : IsTextOf m a bytes
 
--- and it passes none: it is whole
+-- and the application is whole, so that it passes none
 pub record IsFile (m : Meaning) (limit : ℕ) (bytes : List ℕ) (a : Application) : Type 0 where
-  pub stands : StandsFor m limit bytes a
-  pub within : limit_passed m a ≡ None
   pub whole : Whole m a
+  pub kept : Kept m a ≡ a
+  pub under : a.components.limit ≡ limit
+  pub text : IsTextOf m a bytes
 
 -- ---- refusals
 

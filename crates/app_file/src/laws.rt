@@ -13,7 +13,7 @@ ghost use Rattle.app_file.specs.Rows.{Row, rows_of};
 ghost use Rattle.app_file.specs.Telling.{RowsAgree, told_application, told_by, told_text};
 ghost use Rattle.app_file.specs.Text.{AppText, HasShortNames, OldText, old_version, version};
 
-use comp_tree::trees_are_walked_once;
+use comp_tree::{trees_are_walked_once, walked_ids_are_shallow};
 
 /// No bytes are a text of both kinds.
 pub fn texts_are_of_one_kind()
@@ -36,7 +36,9 @@ pub fn texts_stand_for_one()
 pub fn bytes_are_read_as_one()
     ensures { (m : Meaning) (limit : ℕ) (bytes : List ℕ) (one other : Reading) → HasTables m → CanBeTold m.schema
         → IsReadAs m limit bytes one → IsReadAs m limit bytes other → one ≡ other }
-{}
+{
+    walked_ids_are_shallow();
+}
 
 /// An application that is formed and passes no limit is a tree of at most 16 levels below the App, and it is whole.
 pub fn what_passes_no_limit_is_whole()
@@ -46,6 +48,15 @@ pub fn what_passes_no_limit_is_whole()
         → a.components.limit ≤ 4194304 → Whole m a }
 {
     trees_are_walked_once();
+}
+
+/// An application that is whole is formed, and passes no limit: so a file is the text of a kept application that is whole, and no
+/// more is asked.
+pub fn what_is_whole_passes_no_limit()
+    ensures formed { (m : Meaning) (a : Application) → Whole m a → IsFormed m a }
+    ensures within { (m : Meaning) (a : Application) → Whole m a → limit_passed m a ≡ None }
+{
+    walked_ids_are_shallow();
 }
 
 /// Rows that agree with the children of each id tell of components that have just these rows, and the text in which they stand with

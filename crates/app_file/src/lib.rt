@@ -12,6 +12,6 @@ pub mod refusal;
 
 pub use laws::{
     bytes_are_read_as_one, fronts_are_one, rows_tell_of_applications, texts_are_of_one_kind,
-    texts_stand_for_one, what_passes_no_limit_is_whole,
+    texts_stand_for_one, what_is_whole_passes_no_limit, what_passes_no_limit_is_whole,
 };
 pub use refusal::AppRefusal;
