@@ -1,0 +1,9 @@
+pub mod Orders
+pub mod Infos
+pub mod Signed
+pub mod Climbs
+pub mod Ends
+pub mod Unbroken
+pub mod Numbers
+pub mod Bounds
+pub mod Fitting
