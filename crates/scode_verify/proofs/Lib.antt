@@ -1,0 +1,6 @@
+pub mod Marks
+pub mod Numbers
+pub mod Strays
+pub mod Firsts
+pub mod Rounds
+pub mod Sounds
