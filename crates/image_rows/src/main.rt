@@ -4,13 +4,16 @@
 //! wanted is printed, and of each table how many rows it has and how many differ.
 #![tactic(auto)]
 
+mod change;
 mod edit;
 mod image;
 mod reading;
+mod verifying;
 
 use rows::run;
 use std::io;
 
 fn main(rt: HostRuntime) -> io::Result<()> {
-    run(&rt, &reading::Reading)
+    run(&rt, &reading::Reading)?;
+    run(&rt, &verifying::Verifying)
 }
