@@ -1,0 +1,2 @@
+mod Executing
+mod Printing
