@@ -179,6 +179,29 @@ slot_may_be_stored m o slot class other tables object go = by_types (slot_type m
     by_types (Some s) is None to go = absurd (let no : false ≡ true = go in cc)
     by_types None is t to go = absurd (let no : false ≡ true = go in cc)
 
+-- ---- what is read
+
+-- the value that a component has in a property is of the property's type
+pub read_is_of_type : (m : Meaning) (all : ById) (live : Places) (id slot place : ℕ) (out : Value) → HasTables m → ((p : ℕ) → IfSome (finite.get live p) (IsObject m))
+    → IsSomeAnd (finite.get live place) (λ (o : Object). option_map object_of (finite.get all id) ≡ Some o)
+    → IfSome (finite.get live place) (λ (o : Object). out ≡ slot_value m o slot) → IfSome (type_at m all id slot) (λ t. IsTrue (is_of_type t out))
+read_is_of_type m all live id slot place out tables objects there value =
+    let here = some_and (finite.get live place) there in
+    by_component here.0 (subst (λ (r : Option Object). IfSome r (IsObject m)) here.1 (objects place))
+    (subst (λ (r : Option Object). IfSome r (λ (o : Object). out ≡ slot_value m o slot)) here.1 value) (finite.get all id) here.2
+  where
+    by_type : (c : Component) → IsObject m (object_of c) → (s : Option SlotType) → slot_type m c.class slot ≡ s → (v : Value) → v ≡ slot_value m (object_of c) slot
+        → IfSome s (λ t. IsTrue (is_of_type t v))
+    by_type c object None type v e = tt {0}
+    by_type c object (Some t) type v e = subst (λ (v : Value). IsTrue (is_of_type t v)) (sym e) (slot_is_of_type m (object_of c) slot t tables object type)
+
+    by_component : (o : Object) → IsObject m o → out ≡ slot_value m o slot → (r : Option Component) → option_map object_of r ≡ Some o
+        → IfSome (property_type (option_and_then (λ (c : Component). slot_form m c.class slot) r)) (λ t. IsTrue (is_of_type t out))
+    by_component o object e None at = tt {0}
+    by_component o object e (Some c) at =
+        let same : o ≡ object_of c = cc in
+        by_type c (subst (IsObject m) same object) (slot_type m c.class slot) refl out (subst (λ (o : Object). out ≡ slot_value m o slot) same e)
+
 -- ---- what is copied
 
 module _ (m : Meaning) (all : ById) (tables : HasTables m) (objects : (id : ℕ) → IfSome (finite.get all id) (λ (c : Component). IsObject m (object_of c))) where

@@ -1,10 +1,12 @@
 //! The tree.
-ghost use Rattle.std.specs.Prelude.{◌≡◌, ◌<◌, ◌≤◌, ℕ, IsSome, IsSomeAnd, IfOk, OnOk, OnErr, MatchOption, MatchResult, Some, None, Ok, Err, length, slice_get, codes, []};
+ghost use Rattle.std.specs.Prelude.{◌≡◌, ◌<◌, ◌≤◌, ℕ, IsTrue, IsSome, IsSomeAnd, IfOk, IfSome, OnOk, OnErr, MatchOption, MatchResult, Some, None, Ok, Err, length, slice_get, codes, []};
 ghost use Rattle.std.specs.FinMap as map;
 ghost use Rattle.std.specs.Option.{option_map};
 ghost use Rattle.sed_typed.specs.Schemas.{type_at as class_numbered};
 ghost use Rattle.sed_typed.specs.SysTypes.{app_type as app_number};
-ghost use Rattle.comp_tree.specs.Application.{children_of, value_at};
+ghost use Rattle.sed_value.specs.Value.{is_of_type};
+ghost use Rattle.sed_engine.specs.Whole.{IsWhole};
+ghost use Rattle.comp_tree.specs.Application.{children_of, most_children, most_components, type_at, value_at};
 ghost use Rattle.comp_tree.specs.Edits.{app_class, first_components};
 ghost use Rattle.comp_tree.specs.Held.{IsPropertyOf};
 ghost use Rattle.comp_tree.specs.Marks.{all_parts, marks_at, parts_at};
@@ -82,18 +84,23 @@ impl<E: Engine> Tree<E> {
         Ok(Tree { engine, nodes })
     }
 
-    /// The schema of the engine's code.
+    /// The schema of the engine's code, which is whole.
     pub fn schema(&self) -> &Schema
-        ensures { result.now ≡ (E.meaning self.now.engine).schema }
+        ensures same { result.now ≡ (E.meaning self.now.engine).schema }
+        ensures whole { IsWhole (E.meaning self.now.engine) }
     {
         self.engine.schema()
     }
 
-    /// What is told of a component: none exactly where the id is not live.
+    /// What is told of a component: none exactly where the id is not live. It has at most 200
+    /// children, and its id is below 4,096.
     pub fn find(&self, id: Id) -> Option<Entry>
-        ensures { MatchOption result (map.get (components_of E.Engine self.now).by_id id.0 ≡ None)
+        ensures told { MatchOption result (map.get (components_of E.Engine self.now).by_id id.0 ≡ None)
             (λ entry. IsSomeAnd (map.get (components_of E.Engine self.now).by_id id.0) (IsEntry (E.live self.now.engine) entry)) }
+        ensures few { IfSome result (λ entry. entry.children ≤ most_children) }
+        ensures bound { IfSome result (λ _. id.0 < most_components) }
     {
+        let _bound = self.nodes.contains(id);
         match self.nodes.get(id) {
             Some(node) => Some(entry_of(node)),
             None => None,
@@ -118,16 +125,18 @@ impl<E: Engine> Tree<E> {
         }
     }
 
-    /// Puts the value of a property into `out`. The first refusal of its row comes exactly where
-    /// one holds, and then `out` is as it was.
+    /// Puts the value of a property into `out`, which is of the property's type. The first refusal
+    /// of its row comes exactly where one holds, and then `out` is as it was.
     pub fn get(&self, id: Id, slot: u8, out: &mut SlotBuf) -> Result<(), Refusal>
         ensures value { OnOk result (out.new ≡ value_at (E.meaning self.now.engine) (components_of E.Engine self.now).by_id id.0 slot) }
+        ensures of_type { OnOk result (IfSome (type_at (E.meaning self.now.engine) (components_of E.Engine self.now).by_id id.0 slot) (λ t. IsTrue (is_of_type t out.new))) }
         ensures refused { MatchResult result (λ _. first_refusal (refusals_of_read (E.meaning self.now.engine) (components_of E.Engine self.now).by_id id.0 slot) ≡ None)
             (λ refusal. first_refusal (refusals_of_read (E.meaning self.now.engine) (components_of E.Engine self.now).by_id id.0 slot) ≡ Some refusal) }
         ensures stays { OnErr result (out.new ≡ out.old) }
     {
         match self.property(id, slot) {
             Ok(place) => {
+                let _whole = self.engine.schema();
                 self.engine.get(place, SlotNo(slot), out);
                 Ok(())
             }
@@ -199,6 +208,7 @@ fn entry_of(node: &Node) -> Entry
     ensures name { result.name ≡ node.now.name }
     ensures parent { result.parent ≡ node.now.parent }
     ensures children { result.children ≡ length node.now.children }
+    ensures few { result.children ≤ most_children }
     ensures fault { result.fault ≡ node.now.fault }
     ensures place { result.place ≡ node.now.place }
 {

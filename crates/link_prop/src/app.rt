@@ -2,7 +2,7 @@
 ghost use Rattle.std.specs.Prelude.{◌≡◌, ◌≤◌, ◌<◌, [], not, IsTrue, IsSome, IfOk, OnOk, OnErr, MatchResult, Some, None, length, slice_get};
 ghost use Rattle.std.specs.FinMap as map;
 ghost use Rattle.link_table.specs.Links.{links_at, with_link, without_link};
-ghost use Rattle.comp_tree.specs.Application.{fault_of};
+ghost use Rattle.comp_tree.specs.Application.{fault_of, most_links, most_links_at_component};
 ghost use Rattle.comp_tree.specs.Calls.{Call, execute_at};
 ghost use Rattle.comp_tree.specs.Edit.{is_save};
 ghost use Rattle.comp_tree.specs.Edits.{after_clear, after_invoke, after_rename, after_reorder, after_write};
@@ -61,9 +61,10 @@ impl<E: Engine> App<E> {
         &self.tree
     }
 
-    /// How many links there are.
+    /// How many links there are: at most 8,192.
     pub fn links(&self) -> usize
-        ensures { result ≡ length self.now.links }
+        ensures count { result ≡ length self.now.links }
+        ensures few { length self.now.links ≤ most_links }
     {
         self.links.len()
     }
@@ -76,9 +77,10 @@ impl<E: Engine> App<E> {
     }
 
     /// The n-th of the links at a component, those from it and those into it, in the same order and counted from 0: none
-    /// exactly where there are no more.
+    /// exactly where there are no more. There are at most 60.
     pub fn link_of(&self, id: Id, n: u8) -> Option<LinkRec>
-        ensures { result ≡ slice_get (links_at id.0 self.now.links) n }
+        ensures link { result ≡ slice_get (links_at id.0 self.now.links) n }
+        ensures few { length (links_at id.0 self.now.links) ≤ most_links_at_component }
     {
         self.links.nth_at(id, usize::from(n))
     }

@@ -125,6 +125,18 @@ impl<E: Engine> Tree<E> {
         Ok(self.call(id, Root::Action(SlotNo(slot)), &holder, turns, ticks))
     }
 
+    /// Whether an action may be invoked with this argument: the first refusal of its row comes exactly where one holds. Of
+    /// the App's `save` it may be asked too.
+    pub fn check_invoke(&self, id: Id, slot: u8, arg: &[u8]) -> Result<(), Refusal>
+        ensures { MatchResult result (λ _. first_refusal (refusals_of_invoke (E.meaning self.now.engine) (components_of E.Engine self.now).by_id id.0 slot arg.now) ≡ None)
+            (λ refusal. first_refusal (refusals_of_invoke (E.meaning self.now.engine) (components_of E.Engine self.now).by_id id.0 slot arg.now) ≡ Some refusal) }
+    {
+        match self.argument_for(id, slot, arg) {
+            Ok(_value) => Ok(()),
+            Err(refusal) => Err(refusal),
+        }
+    }
+
     // The value that a write gives, or why it may not.
     fn value_to_write(&self, id: Id, slot: u8, bytes: &[u8]) -> Result<Value, Refusal>
         ensures taken { MatchResult result (λ value. first_of (taken (write_types (E.meaning self.now.engine) (components_of E.Engine self.now).by_id id.0 slot) bytes.now) ≡ value) (λ _. Unit) }
