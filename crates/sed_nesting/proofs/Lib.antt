@@ -1,0 +1,4 @@
+mod Rooms
+mod Expressions
+mod Statements
+pub mod Units
