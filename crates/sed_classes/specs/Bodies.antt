@@ -1,13 +1,11 @@
--- What stands in the bodies of methods: locals and texts.
-use Rattle.std.specs.Prelude.{ℕ, ◌==◌, List, [], ◌∷◌, ◌++◌, Option, Some, None}
+-- What stands in the bodies of methods: nodes and texts.
+use Rattle.std.specs.Prelude.{List, [], ◌∷◌, ◌++◌, Option, Some, None}
 use Rattle.std.specs.List.{flat_map, filter_map}
 use Rattle.sed_units.specs.declared.label.Label.{Label}
 use Rattle.sed_units.specs.declared.label.Label.TheVariants as label
-use Rattle.sed_units.specs.declared.leaves.Ident.{Ident}
 use Rattle.sed_units.specs.declared.leaves.Literal.{Literal}
 use Rattle.sed_units.specs.declared.leaves.LiteralKind.{LiteralKind}
 use Rattle.sed_units.specs.declared.leaves.LiteralKind.TheVariants as literal
-use Rattle.sed_units.specs.declared.leaves.TypeRef.{TypeRef}
 use Rattle.sed_units.specs.declared.classes.Member.{Member}
 use Rattle.sed_units.specs.Tree.{Tree, Absent, Part}
 use Rattle.sed_classes.specs.Members.{form_body}
@@ -25,20 +23,6 @@ body_nodes (Some trees) = flat_map nodes_in trees
 -- the nodes of a member's body
 abbrev pub nodes_of : Member → List Label
 nodes_of m = body_nodes (form_body m.form)
-
--- a declared local
-pub record LocalAt : Type 0 where
-  pub at : ℕ
-  pub kind : TypeRef
-  pub name : Ident
-
-abbrev pub local_in : Label → Option LocalAt
-local_in (label.Local at kind name) = Some (record { at = at; kind = kind; name = name })
-local_in l = None
-
--- the locals that a member's body declares, in the order of the text
-abbrev pub locals_of : Member → List LocalAt
-locals_of m = filter_map local_in (nodes_of m)
 
 abbrev pub text_literal : LiteralKind → Literal → Option Literal
 text_literal literal.Text l = Some l

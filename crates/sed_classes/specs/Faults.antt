@@ -1,4 +1,4 @@
--- The faults of units against the rules on classes and members, and the first of them.
+-- The faults of units against the rules on classes and members, and the first of several faults.
 use Rattle.std.specs.Prelude.{ℕ, ◌+◌, Bool, ◌==◌, ◌&&◌, ◌||◌, nat_lt, if◌then◌else◌, List, [], ◌∷◌, ◌++◌, drop, map, Option, Some, None}
 use Rattle.std.specs.List.{flat_map}
 use Rattle.sed_units.specs.declared.leaves.Param.{Param}
@@ -12,7 +12,6 @@ use Rattle.sed_classes.specs.NameRules.{type_without_class, base_without_class, 
 use Rattle.sed_classes.specs.MemberRules.{name_repeated, inherited_name_taken, overrides_nothing, class_not_runnable, method_not_runnable, slot_not_fit}
 use Rattle.sed_classes.specs.FieldRules.{object_not_fit, member_not_fit, param_not_fit, value_not_fit}
 use Rattle.sed_classes.specs.LimitRules.{too_many_types, too_many_params, too_many_methods, too_many_virtual, too_many_slots, too_large_config, too_large_runtime, too_much_data, too_many_statics, too_long_in_class, too_long_in_member, too_long_in_param}
-use Rattle.sed_classes.specs.BodyRules.{body_faults, too_many_texts}
 use Rattle.sed_faults.specs.Faults.{said_from}
 
 -- the faults of a parameter of a method in a kit, by its number
@@ -78,11 +77,7 @@ value_faults units class d =
 abbrev pub declaration_faults : List KitUnits → ℕ → Declaration → List Fault
 declaration_faults units class d = form_faults units class d ++ count_faults units class d ++ value_faults units class d
 
--- the faults of its bodies against these rules
-abbrev pub bodies_faults : List KitUnits → ℕ → Declaration → List Fault
-bodies_faults units class d = flat_map (body_faults units d.kit) d.class.members ++ too_many_texts units class d
-
--- ---- the faults of a program
+-- ---- the faults of what the classes of a program declare
 
 -- a fault in the text in which a class is declared
 abbrev pub placed_in : Declaration → Fault → PlacedFault
@@ -92,8 +87,7 @@ placed_in d f = record { kit = d.kit; text = d.text; at = f.at; rule = f.rule }
 abbrev pub faults_from : List KitUnits → ℕ → List Declaration → List PlacedFault
 faults_from units class [] = []
 faults_from units class (d ∷ ds) =
-    map (placed_in d) (declaration_faults units class d ++ bodies_faults units class d)
-    ++ faults_from units (class + 1) ds
+    map (placed_in d) (declaration_faults units class d) ++ faults_from units (class + 1) ds
 
 -- those of the classes that the units declare
 abbrev pub faults_of : List KitUnits → List PlacedFault
@@ -114,6 +108,3 @@ first_of (f ∷ fs) = first_of_two f (first_of fs)
     first_of_two : PlacedFault → Option PlacedFault → Option PlacedFault
     first_of_two f None = Some f
     first_of_two f (Some g) = Some (if is_before g f then g else f)
-
-abbrev pub first_fault : List KitUnits → Option PlacedFault
-first_fault units = first_of (faults_of units)

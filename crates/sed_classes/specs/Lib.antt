@@ -13,7 +13,6 @@ pub mod NameRules
 pub mod MemberRules
 pub mod FieldRules
 pub mod LimitRules
-pub mod BodyRules
 pub mod Faults
 pub mod Schema
 pub mod Entries

@@ -100,7 +100,8 @@ impl<'a> Classes<'a> {
         self.class_in(name, 0)
     }
 
-    fn plain_class(&self, kit: usize, name: &[u8]) -> Option<usize>
+    /// The class that a name alone stands for in a kit, by its place.
+    pub fn plain_class(&self, kit: usize, name: &[u8]) -> Option<usize>
         ensures { result ≡ names.plain_class self.now kit name.now }
     {
         let own = self.class_in(name, kit);
@@ -122,7 +123,8 @@ impl<'a> Classes<'a> {
         }
     }
 
-    fn class_of_kit(&self, kit: usize, other: &[u8], name: &[u8]) -> Option<usize>
+    /// The class that a name behind the name of a kit stands for in a kit, by its place.
+    pub fn class_of_kit(&self, kit: usize, other: &[u8], name: &[u8]) -> Option<usize>
         ensures { result ≡ names.class_of_kit self.now kit other.now name.now }
     {
         if self.may_name(kit, other) {

@@ -10,6 +10,7 @@ mod literals;
 mod plain;
 mod values;
 
+pub use constants::read_value;
 pub use defines::constant_of;
 pub use plain::Plain;
 pub use values::values_fault;

@@ -40,15 +40,18 @@ held_classes : (passes : ℕ → Bool) (units : List KitUnits) (cs : List ℕ) �
 held_classes passes units [] = refl
 held_classes passes units (c ∷ cs) =
     ap (λ b. declares_by passes units c || b) (held_classes passes units cs)
-    ∙ ap (λ b. b || list_any passes (flat_map (inline_own units) cs)) (held_members passes units (kit_of units c) (members_of units c))
+    ∙ ap (λ b. b || list_any passes (flat_map (inline_own units) cs)) (held_members passes units (kit_of units c)
+    (members_of units c))
     ∙ sym (list_any-append passes (inline_own units c) (flat_map (inline_own units) cs))
 
 -- ---- places behind all classes
 
-declares_behind : (units : List KitUnits) (passes : ℕ → Bool) (h : ℕ) → length (all_classes units) ≤ h → declares_by passes units h ≡ false
+declares_behind : (units : List KitUnits) (passes : ℕ → Bool) (h : ℕ) → length (all_classes units) ≤ h →
+    declares_by passes units h ≡ false
 declares_behind units passes h le = ap (list_any (holds_by passes units (kit_of units h))) (members_behind units h le)
 
-pub holds_behind : (units : List KitUnits) (k inner h : ℕ) → length (all_classes units) ≤ h → holds_within units k inner h ≡ false
+pub holds_behind : (units : List KitUnits) (k inner h : ℕ) → length (all_classes units) ≤ h →
+    holds_within units k inner h ≡ false
 holds_behind units zero inner h le = refl
 holds_behind units (suc k) inner h le =
     let passes : ℕ → Bool = λ (c : ℕ). (c == inner) || holds_within units k inner c in
@@ -70,7 +73,8 @@ one_deeper units inner k =
     (fun_ext (item_is units (holds_within units k inner) false (holds_behind units k inner)))
     ∙ ap
     (row_of units)
-    (fun_ext (λ class. sym (held_classes (λ (c : ℕ). (c == inner) || holds_within units k inner c) units (lineage units class))))
+    (fun_ext (λ class. sym (held_classes (λ (c : ℕ). (c == inner) || holds_within units k inner c) units
+    (lineage units class))))
 
 holding_reached : (units : List KitUnits) (inner n : ℕ) →
     rounds (next_holding (row_of units (inline_in units)) inner) n (row_of units (λ (i : ℕ). false))
@@ -86,8 +90,10 @@ holding_reached units inner n =
     0
     ∙ ap (λ k. row_of units (holds_within units k inner)) e
 
-pub itself_is : (units : List KitUnits) (class : ℕ) → item false (row_of units (holds_itself units)) class ≡ holds_itself units class
-itself_is units class = item_is units (holds_itself units) false (λ h le. holds_behind units (length (all_classes units)) h h le) class
+pub itself_is : (units : List KitUnits) (class : ℕ) → item false (row_of units (holds_itself units)) class
+    ≡ holds_itself units class
+itself_is units class = item_is units (holds_itself units) false (λ h le. holds_behind units (length
+    (all_classes units)) h h le) class
 
 -- what all rounds say of the class itself
 pub held_at : (units : List KitUnits) (inside : List (List ℕ)) (held : List Bool) (class : ℕ) (answer : Bool) →

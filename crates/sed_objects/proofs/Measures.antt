@@ -21,7 +21,8 @@ use Rattle.sed_objects.proofs.Inside.{itself_is}
 both : (a b c d : ℕ) → capped a ≡ capped c → capped b ≡ capped d → capped (a + b) ≡ capped (c + d)
 both a b c d p q = omega arith
 
-pub sums_alike : {X : Type 0} (f g : X → ℕ) → ((x : X) → capped (f x) ≡ capped (g x)) → (xs : List X) → capped (sum_by f xs) ≡ capped (sum_by g xs)
+pub sums_alike : {X : Type 0} (f g : X → ℕ) → ((x : X) → capped (f x) ≡ capped (g x)) → (xs : List X) →
+    capped (sum_by f xs) ≡ capped (sum_by g xs)
 sums_alike f g h [] = refl
 sums_alike f g h (x ∷ xs) =
     ap capped (sum_by-cons f x xs)
@@ -113,7 +114,8 @@ pub class_sized : (units : List KitUnits) (sizes own : List ℕ) (holding : List
     own ≡ row_of units (λ c. capped (own_size units (item 0 sizes) c)) →
     holding ≡ row_of units (holds_itself units) →
     size ≡ (if item false holding class then 0 else capped (sum_by (item 0 own) (lineage units class))) →
-    size ≡ (if holds_itself units class then 0 else capped (sum_by (own_size units (item 0 sizes)) (lineage units class)))
+    size ≡ (if holds_itself units class then 0 else capped (sum_by (own_size units (item 0 sizes))
+    (lineage units class)))
 class_sized units sizes own holding class size o h s =
     s
     ∙ ap
@@ -128,7 +130,8 @@ class_sized units sizes own holding class size o h s =
     (λ c.
     ap
     capped
-    (item_is units (λ d. capped (own_size units (item 0 sizes) d)) 0 (λ d le. ap capped (own_behind units (item 0 sizes) d le)) c)
+    (item_is units (λ d. capped (own_size units (item 0 sizes) d)) 0 (λ d le. ap capped (own_behind units
+    (item 0 sizes) d le)) c)
     ∙ capped_twice (own_size units (item 0 sizes) c))
     (lineage units class))
 
@@ -148,7 +151,8 @@ one_deeper : (units : List KitUnits) (k : ℕ) →
     next_sizes units (row_of units (capped_within units k)) ≡ row_of units (capped_within units (suc k))
 one_deeper units k =
     ap
-    (λ (f : ℕ → ℕ). row_of units (λ class. if holds_itself units class then 0 else capped (sum_by (own_size units f) (lineage units class))))
+    (λ (f : ℕ → ℕ). row_of units (λ class. if holds_itself units class then 0
+    else capped (sum_by (own_size units f) (lineage units class))))
     (fun_ext (item_is units (capped_within units k) 0 (within_behind units k)))
     ∙ ap
     (row_of units)
@@ -185,7 +189,8 @@ size_there units class =
     class
 
 pub size_is : (units : List KitUnits) (sizes : List ℕ) (class size : ℕ) →
-    sizes ≡ row_of units (λ c. capped (data_size units c)) → size ≡ item 0 sizes class → size ≡ capped (data_size units class)
+    sizes ≡ row_of units (λ c. capped (data_size units c)) → size ≡ item 0 sizes class →
+    size ≡ capped (data_size units class)
 size_is units sizes class size s e = e ∙ ap (λ r. item 0 r class) s ∙ size_there units class
 
 pub field_is : (units : List KitUnits) (sizes : List ℕ) (kit : ℕ) (m : Member) (size : ℕ) →

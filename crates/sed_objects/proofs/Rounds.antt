@@ -9,7 +9,8 @@ use Rattle.sed_classes.specs.Bases.{base_of, base_written, lineage, gone_on}
 use Rattle.sed_classes.specs.Members.{members_of}
 use Rattle.sed_objects.specs.Rounds.{item, row_of, rounds}
 
-item_range : {X : Type 0} (f : ℕ → X) (d : X) (a n i : ℕ) → (n ≤ i → f (a + i) ≡ d) → item d (map f (range_with_len a n)) i ≡ f (a + i)
+item_range : {X : Type 0} (f : ℕ → X) (d : X) (a n i : ℕ) → (n ≤ i → f (a + i) ≡ d) →
+    item d (map f (range_with_len a n)) i ≡ f (a + i)
 item_range f d a zero i past = sym (past (omega arith))
 item_range f d a (suc n) zero past = let e : a ≡ a + 0 = omega arith in ap f e
 item_range f d a (suc n) (suc i) past =
@@ -28,7 +29,8 @@ constant_range : {X : Type 0} (d : X) (a n : ℕ) → replicate n d ≡ map (λ 
 constant_range d a zero = refl
 constant_range d a (suc n) = ap (λ xs. d ∷ xs) (constant_range d (a + 1) n)
 
-pub constant_row : {X : Type 0} (units : List KitUnits) (d : X) → replicate (length (all_classes units)) d ≡ row_of units (λ (i : ℕ). d)
+pub constant_row : {X : Type 0} (units : List KitUnits) (d : X) →
+    replicate (length (all_classes units)) d ≡ row_of units (λ (i : ℕ). d)
 constant_row units d = constant_range d 0 (length (all_classes units))
 
 -- ---- places behind all classes
@@ -43,12 +45,14 @@ pub gone_none : (next : ℕ → Option ℕ) (n : ℕ) (far : List ℕ) → gone_
 gone_none next zero far = refl
 gone_none next (suc n) far = refl
 
-pub lineage_behind : (units : List KitUnits) (class : ℕ) → length (all_classes units) ≤ class → lineage units class ≡ class ∷ []
+pub lineage_behind : (units : List KitUnits) (class : ℕ) → length (all_classes units) ≤ class →
+    lineage units class ≡ class ∷ []
 lineage_behind units class le =
     ap (gone_on (base_of units) (length (all_classes units)) (class ∷ [])) (base_behind units class le)
     ∙ gone_none (base_of units) (length (all_classes units)) (class ∷ [])
 
-pub members_behind : (units : List KitUnits) (class : ℕ) → length (all_classes units) ≤ class → members_of units class ≡ []
+pub members_behind : (units : List KitUnits) (class : ℕ) → length (all_classes units) ≤ class →
+    members_of units class ≡ []
 members_behind units class le =
     ap
     (λ found. option_map_or (λ (d : Declaration). d.class.members) found [])
@@ -57,13 +61,15 @@ members_behind units class le =
 -- ---- rounds
 
 -- what a round leaves as it is stays so
-pub rounds_same : {X : Type 0} (next : List X → List X) (n : ℕ) (row : List X) → next row ≡ row → rounds next n row ≡ row
+pub rounds_same : {X : Type 0} (next : List X → List X) (n : ℕ) (row : List X) → next row ≡ row →
+    rounds next n row ≡ row
 unfolding rounds
 rounds_same next zero row e = refl
 rounds_same next (suc n) row e = ap (rounds next n) e ∙ rounds_same next n row e
 
 -- one round done
-pub rounds_one : {X : Type 0} (next : List X → List X) (n : ℕ) (row : List X) → rounds next (suc n) row ≡ rounds next n (next row)
+pub rounds_one : {X : Type 0} (next : List X → List X) (n : ℕ) (row : List X) →
+    rounds next (suc n) row ≡ rounds next n (next row)
 unfolding rounds
 rounds_one next n row = refl
 

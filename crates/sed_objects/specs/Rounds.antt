@@ -52,4 +52,5 @@ capped n = min n (2 ^ 64 - 1)
 -- for each class its size, where the sizes of those that stand in it are known
 abbrev pub next_sizes : List KitUnits → List ℕ → List ℕ
 next_sizes units sizes =
-    row_of units (λ class. if holds_itself units class then 0 else capped (sum_by (own_size units (item 0 sizes)) (lineage units class)))
+    row_of units (λ class. if holds_itself units class then 0
+    else capped (sum_by (own_size units (item 0 sizes)) (lineage units class)))

@@ -71,7 +71,8 @@ fn next_holding(
 // For each class whether one of its objects would have one of this class inside, where these are the classes of the
 // objects that stand in each.
 fn holding(alloc: Global, inside: &[Items<usize>], inner: usize) -> Result<Vec<bool>, Memory>
-    ensures { IfOk result (λ v. v.items ≡ rounds (next_holding inside.now inner) (length inside.now) (replicate (length inside.now) false)) }
+    ensures { IfOk result (λ v.
+        v.items ≡ rounds (next_holding inside.now inner) (length inside.now) (replicate (length inside.now) false)) }
 {
     let mut left = inside.len();
     let mut known = none_known(alloc, left)?;

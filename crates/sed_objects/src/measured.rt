@@ -36,7 +36,8 @@ impl<'a> Model for Measured<'a> {
 
     ghost view = { λ t. t.based };
 
-    ghost invariant = { λ t. (t.holding.items ≡ row_of t.based (holds_itself t.based)) × (t.sizes.items ≡ row_of t.based (λ class. capped (data_size t.based class))) };
+    ghost invariant = { λ t. (t.holding.items ≡ row_of t.based (holds_itself t.based))
+        × (t.sizes.items ≡ row_of t.based (λ class. capped (data_size t.based class))) };
 }
 
 impl<'a> Measured<'a> {

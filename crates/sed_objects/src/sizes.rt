@@ -34,7 +34,8 @@ fn own_size(classes: &Classes<'_>, sizes: &[u64], class: usize) -> u64
 
 // For each class what the members that it itself declares take.
 fn own_sizes(alloc: Global, classes: &Classes<'_>, sizes: &[u64]) -> Result<Vec<u64>, Memory>
-    ensures { IfOk result (λ v. v.items ≡ row_of classes.now (λ class. capped (objects.own_size classes.now (item 0 sizes.now) class))) }
+    ensures { IfOk result (λ v.
+        v.items ≡ row_of classes.now (λ class. capped (objects.own_size classes.now (item 0 sizes.now) class))) }
 {
     let mut all = Vec::new(alloc);
     for class in 0..classes.len() {
@@ -61,7 +62,9 @@ fn class_size(
     own: &[u64],
     class: usize,
 ) -> Result<u64, Memory>
-    ensures { IfOk result (λ n. n ≡ (if item false holding.now class then 0 else capped (sum_by (item 0 own.now) (ancestry.lineage based.now class)))) }
+    ensures { IfOk result (λ n.
+        n ≡ (if item false holding.now class then 0
+        else capped (sum_by (item 0 own.now) (ancestry.lineage based.now class)))) }
 {
     if is_known(holding, class) {
         return Ok(0);

@@ -12,7 +12,7 @@ use Rattle.sed_classes.specs.Members.{form_value}
 use Rattle.sed_classes.specs.MemberRules.{class_not_runnable, method_not_runnable, slot_not_fit}
 use Rattle.sed_classes.specs.FieldRules.{member_not_fit}
 use Rattle.sed_classes.specs.LimitRules.{too_long_in_base, too_long_in_class, too_long_in_facets, too_long_in_init, too_long_in_member, too_long_in_type, too_long_name, too_many_types}
-use Rattle.sed_classes.specs.Faults.{bodies_faults, class_form_faults, class_name_faults, count_faults, declaration_faults, faults_from, form_faults, member_form_faults, member_name_faults, member_word_faults, params_faults, placed_in, value_faults}
+use Rattle.sed_classes.specs.Faults.{class_form_faults, class_name_faults, count_faults, declaration_faults, faults_from, form_faults, member_form_faults, member_name_faults, member_word_faults, params_faults, placed_in, value_faults}
 
 -- ---- lists without items
 
@@ -52,16 +52,10 @@ none_from units class [] i d e h = absurd (omega (arith, h))
 none_from units class (x ∷ xs) zero d e h =
     let at : class + 0 ≡ class = omega arith in
     ap (λ n. declaration_faults units n x) at
-    ∙ none_left
-    (declaration_faults units class x)
-    (bodies_faults units class x)
-    (none_map
+    ∙ none_map
     (placed_in x)
-    (declaration_faults units class x ++ bodies_faults units class x)
-    (none_left
-    (map (placed_in x) (declaration_faults units class x ++ bodies_faults units class x))
-    (faults_from units (class + 1) xs)
-    e))
+    (declaration_faults units class x)
+    (none_left (map (placed_in x) (declaration_faults units class x)) (faults_from units (class + 1) xs) e)
 none_from units class (x ∷ xs) (suc i) d e h =
     let at : class + suc i ≡ class + 1 + i = omega arith in
     ap (λ n. declaration_faults units n (get_or xs i d)) at
@@ -72,7 +66,7 @@ none_from units class (x ∷ xs) (suc i) d e h =
     i
     d
     (none_right
-    (map (placed_in x) (declaration_faults units class x ++ bodies_faults units class x))
+    (map (placed_in x) (declaration_faults units class x))
     (faults_from units (class + 1) xs)
     e)
     (omega (arith, h))

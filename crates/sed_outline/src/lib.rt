@@ -9,4 +9,5 @@ mod kits;
 mod order;
 mod schema;
 
+pub use order::{class_order, type_number};
 pub use schema::classes;

@@ -11,7 +11,8 @@ one_listed None = refl
 one_listed (Some x) = refl
 
 -- what is found of one item more
-pub found_step : {X Y : Type 0} (f : X → Option Y) (i : ℕ) (xs : List X) (x : X) (initial far new : List Y) (one : Option Y) →
+pub found_step : {X Y : Type 0} (f : X → Option Y) (i : ℕ) (xs : List X) (x : X) (initial far new : List Y)
+    (one : Option Y) →
     i < length xs → get_or xs i x ≡ x → one ≡ f x → new ≡ far ++ option_to_list one →
     far ≡ initial ++ filter_map f (take i xs) → new ≡ initial ++ filter_map f (take (i + 1) xs)
 found_step f i xs x initial far new one h at o e p =

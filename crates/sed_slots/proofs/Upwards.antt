@@ -6,7 +6,8 @@ use Rattle.std.proofs.lemmas.Grind.{flat_map-append}
 use Rattle.std.proofs.Math.Seq.{drop-cons}
 
 -- what is behind a place, and one more before it
-pub upwards : {X : Type 0} (f : ℕ → List X) (left : ℕ) (xs : List ℕ) (x : ℕ) → 0 < left → left ≤ length xs → get_or xs (left - 1) x ≡ x →
+pub upwards : {X : Type 0} (f : ℕ → List X) (left : ℕ) (xs : List ℕ) (x : ℕ) → 0 < left → left ≤ length xs →
+    get_or xs (left - 1) x ≡ x →
     flat_map f (reverse (drop left xs)) ++ f x ≡ flat_map f (reverse (drop (left - 1) xs))
 upwards f left xs x some within at =
     let less : left - 1 < length xs = omega arith in

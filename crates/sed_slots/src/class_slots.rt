@@ -50,8 +50,8 @@ fn is_new_action(member: &Member) -> bool
     is_method(member) && is_action(member) && !overrides(member)
 }
 
-/// What the slot is that a member of a class of a kit adds, without its name: whether the application file keeps it, and its
-/// form. None where it adds none.
+/// What the slot is that a member of a class of a kit adds, without its name: whether the application file keeps it,
+/// and its form. None where it adds none.
 pub fn shape_of(classes: &Classes<'_>, kit: usize, member: &Member) -> Option<(bool, SlotForm)>
     ensures { result ≡ slotted.shape_of classes.now kit member.now }
 {

@@ -13,7 +13,8 @@ loop-class-preserved c =
     let sizes = c.args.sizes.now in
     let class = c.loop-class.class in
     let at : 0 + class ≡ class = omega arith in
-    let size : ℕ → ℕ = λ k. if holds_itself units k then 0 else capped (sum_by (own_size units (item 0 sizes)) (lineage units k)) in
+    let size : ℕ → ℕ = λ k. if holds_itself units k then 0
+    else capped (sum_by (own_size units (item 0 sizes)) (lineage units k)) in
     c.in_ok-push.ensures.items
     ∙ ap (λ xs. xs ++ c.in_ok-size.size ∷ []) c.loop-class.invariant
     ∙ ap

@@ -10,5 +10,6 @@ abbrev pub invariant-loop-class : goal.invariant-loop-class
 invariant-loop-class l =
     l.all.items
     ≡ map
-    (λ class. if holds_itself l.based class then 0 else capped (sum_by (own_size l.based (item 0 l.sizes)) (lineage l.based class)))
+    (λ class. if holds_itself l.based class then 0 else capped (sum_by (own_size l.based (item 0 l.sizes))
+    (lineage l.based class)))
     (range_with_len 0 l.class)

@@ -13,7 +13,8 @@ upwards-preserved c =
       within = omega arith;
       so_far = c.in_ok-push_own_slots.ensures
           ∙ ap (λ ms. c.upwards.all.items ++ filter_map (slot_of classes c.kit_of.result) ms) c.members.ensures
-          ∙ ap (λ kit. c.upwards.all.items ++ filter_map (slot_of classes kit) (members_of classes above)) c.kit_of.ensures
+          ∙ ap (λ kit. c.upwards.all.items ++ filter_map (slot_of classes kit)
+          (members_of classes above)) c.kit_of.ensures
           ∙ ap (λ units. c.upwards.all.items ++ own_slots units above) c.classes-classes.ensures
           ∙ ap (λ far. far ++ own_slots c.args.based.now above) c.upwards.invariant.so_far
           ∙ upwards

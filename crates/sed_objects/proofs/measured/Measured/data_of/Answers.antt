@@ -6,7 +6,8 @@ use Rattle.sed_objects.proofs.measured.Measured.data_of.Goals as goal
 
 pub returns : goal.returns
 returns c =
-    let found : c.data_of.result ≡ capped (data_of c.self.inside.based (data_size c.self.inside.based) c.args.kit c.args.member.now) =
+    let found : c.data_of.result ≡ capped (data_of c.self.inside.based
+    (data_size c.self.inside.based) c.args.kit c.args.member.now) =
     data_is
     c.self.inside.based
     c.deref.result.now
@@ -15,5 +16,6 @@ returns c =
     c.data_of.result
     (c.deref.ensures.value ∙ c.self.invariant.1)
     (c.data_of.ensures
-    ∙ ap (λ units. capped (data_of units (item 0 c.deref.result.now) c.args.kit c.args.member.now)) c.classes.ensures) in
+    ∙ ap (λ units. capped (data_of units (item 0 c.deref.result.now) c.args.kit c.args.member.now))
+    c.classes.ensures) in
     cc

@@ -6,7 +6,8 @@ use Rattle.sed_objects.proofs.measured.Measured.field_size.Goals as goal
 
 pub returns : goal.returns
 returns c =
-    let found : c.field_size.result ≡ capped (field_size c.self.inside.based (data_size c.self.inside.based) c.args.kit c.args.member.now) =
+    let found : c.field_size.result ≡ capped (field_size c.self.inside.based
+    (data_size c.self.inside.based) c.args.kit c.args.member.now) =
     field_is
     c.self.inside.based
     c.deref.result.now
@@ -15,5 +16,6 @@ returns c =
     c.field_size.result
     (c.deref.ensures.value ∙ c.self.invariant.1)
     (c.field_size.ensures
-    ∙ ap (λ units. capped (field_size units (item 0 c.deref.result.now) c.args.kit c.args.member.now)) c.classes.ensures) in
+    ∙ ap (λ units. capped (field_size units (item 0 c.deref.result.now) c.args.kit c.args.member.now))
+    c.classes.ensures) in
     cc
