@@ -1,0 +1,2 @@
+//! What stands in the nodes of bodies: definitions alone.
+#![tactic(auto)]
