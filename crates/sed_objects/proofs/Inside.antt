@@ -35,7 +35,7 @@ held_members passes units kit (m ∷ ms) =
     (list_any (holds_by passes units kit) ms)
     (held_members passes units kit ms)
 
-held_classes : (passes : ℕ → Bool) (units : List KitUnits) (cs : List ℕ) →
+pub held_classes : (passes : ℕ → Bool) (units : List KitUnits) (cs : List ℕ) →
     list_any (declares_by passes units) cs ≡ list_any passes (flat_map (inline_own units) cs)
 held_classes passes units [] = refl
 held_classes passes units (c ∷ cs) =

@@ -118,7 +118,7 @@ all_of : {X : Type 0} (xs : List X) → take (length xs) xs ≡ xs
 all_of [] = refl
 all_of (x ∷ xs) = ap (λ r. x ∷ r) (all_of xs)
 
-grown : (most before : ℕ) (f : Member → ℕ) (ms : List Member) →
+pub grown : (most before : ℕ) (f : Member → ℕ) (ms : List Member) →
     ((i : ℕ) (m : Member) → i < length ms → passes most (before + sum_by f (take i ms)) (f (get_or ms i m)) ≡ false) →
     before ≤ most → before + sum_by f ms ≤ most
 grown most before f [] none le = omega arith

@@ -44,12 +44,12 @@ declared_at units i d h =
     ∙ ap Some (get_behind sys_declares (declared_in units) i d)
 
 -- it breaks no rule
-declared_free : (units : List KitUnits) (i : ℕ) (d : Declaration) → faults_of units ≡ [] → i < length (declared_in units) →
+pub declared_free : (units : List KitUnits) (i : ℕ) (d : Declaration) → faults_of units ≡ [] → i < length (declared_in units) →
     declaration_faults units (5 + i) (get_or (declared_in units) i d) ≡ []
 unfolding all_classes
 declared_free units i d e h = none_from units 5 (declared_in units) i d e h
 
-frees : (units : List KitUnits) → faults_of units ≡ [] → All Free (declared_in units)
+pub frees : (units : List KitUnits) → faults_of units ≡ [] → All Free (declared_in units)
 frees units e i d h = number_free units (5 + i) (get_or (declared_in units) i d) (declared_free units i d e h)
 
 -- ---- what is written
@@ -188,7 +188,7 @@ outside units class e = by_test (nat_lt class (length (all_classes units))) refl
     by_test true h = absurd (there (all_classes units) (grind (arith, nat_tests)) e)
     by_test false h = grind (arith, nat_tests)
 
-found_declared : (units : List KitUnits) (i : ℕ) (d : Declaration) → class_at units (5 + i) ≡ Some d →
+pub found_declared : (units : List KitUnits) (i : ℕ) (d : Declaration) → class_at units (5 + i) ≡ Some d →
     (i < length (declared_in units)) × (get_or (declared_in units) i d ≡ d)
 found_declared units i d e =
     let within : 5 + i < length (all_classes units) = slice_get_within (all_classes units) (5 + i) d e in
@@ -197,7 +197,7 @@ found_declared units i d e =
     (h, cc)
 
 -- what holds of the types of `sys`, of each class that the units declare, and where there is none, holds everywhere
-everywhere : (P : ℕ → Type 0) (units : List KitUnits) → P 0 → P 1 → P 2 → P 3 → P 4 →
+pub everywhere : (P : ℕ → Type 0) (units : List KitUnits) → P 0 → P 1 → P 2 → P 3 → P 4 →
     ((class : ℕ) (d : Declaration) → 5 ≤ class → class_at units class ≡ Some d → declaration_faults units class d ≡ [] → P class) →
     ((class : ℕ) → length (all_classes units) ≤ class → P class) → faults_of units ≡ [] → (class : ℕ) → P class
 everywhere P units p0 p1 p2 p3 p4 inner behind none zero = p0
@@ -220,7 +220,7 @@ everywhere P units p0 p1 p2 p3 p4 inner behind none (suc (suc (suc (suc (suc i))
         e
         (sym (ap (declaration_faults units (5 + i)) known.1) ∙ declared_free units i d none known.0)
 
-no_back : (units : List KitUnits) → faults_of units ≡ [] → (class : ℕ) →
+pub no_back : (units : List KitUnits) → faults_of units ≡ [] → (class : ℕ) →
     comes_to (base_of units) class (length (all_classes units)) (base_of units class) ≡ false
 no_back units none class =
     everywhere
@@ -238,7 +238,7 @@ no_back units none class =
     none
     class
 
-inside : (units : List KitUnits) (class base : ℕ) → base_of units class ≡ Some base → class < length (all_classes units)
+pub inside : (units : List KitUnits) (class base : ℕ) → base_of units class ≡ Some base → class < length (all_classes units)
 inside units class base e = by_test (nat_lt class (length (all_classes units))) refl
   where
     by_test : (b : Bool) → nat_lt class (length (all_classes units)) ≡ b → class < length (all_classes units)

@@ -13,7 +13,7 @@ use Rattle.sed_classes.specs.Declarations.{Declaration, kit_declares, kits_decla
 abbrev numbers : List Declaration → List ℕ
 numbers ds = map (λ (d : Declaration). d.number) ds
 
-joined_range : (a m n : ℕ) → range_with_len a m ++ range_with_len (a + m) n ≡ range_with_len a (m + n)
+pub joined_range : (a m n : ℕ) → range_with_len a m ++ range_with_len (a + m) n ≡ range_with_len a (m + n)
 joined_range a zero n =
     let at : a + 0 ≡ a = omega arith in
     let same : n ≡ 0 + n = omega arith in
@@ -78,7 +78,7 @@ some_is : (kit : ℕ) (us : List SourceUnit) (d : Declaration) → All Free (kit
 some_is kit us d free h =
     apart (get_or (kit_declares kit 0 0 us) 64 d).number (free 64 d h) (numbered kit us 64 d h)
 
-few : (kit : ℕ) (us : List SourceUnit) → All Free (kit_declares kit 0 0 us) → length (kit_declares kit 0 0 us) ≤ 64
+pub few : (kit : ℕ) (us : List SourceUnit) → All Free (kit_declares kit 0 0 us) → length (kit_declares kit 0 0 us) ≤ 64
 few kit us free = by_list (kit_declares kit 0 0 us) (λ d h. some_is kit us d free h)
   where
     by_list : (ds : List Declaration) → (Declaration → 64 < length ds → ⊥) → length ds ≤ 64
@@ -88,13 +88,13 @@ few kit us free = by_list (kit_declares kit 0 0 us) (λ d h. some_is kit us d fr
 low : (kit : ℕ) (us : List SourceUnit) → All Free (kit_declares kit 0 0 us) → All Low (kit_declares kit 0 0 us)
 low kit us free i d h = omega (arith, numbered kit us i d h, few kit us free)
 
-all_left : {X : Type 0} (P : X → Type 0) (xs ys : List X) → All P (xs ++ ys) → All P xs
+pub all_left : {X : Type 0} (P : X → Type 0) (xs ys : List X) → All P (xs ++ ys) → All P xs
 all_left P [] ys a i d h = absurd (omega (arith, h))
 all_left P (x ∷ xs) ys a zero d h = a 0 d (omega arith)
 all_left P (x ∷ xs) ys a (suc i) d h =
     all_left P xs ys (λ j e k. a (suc j) e (omega arith)) i d (omega (arith, h))
 
-all_right : {X : Type 0} (P : X → Type 0) (xs ys : List X) → All P (xs ++ ys) → All P ys
+pub all_right : {X : Type 0} (P : X → Type 0) (xs ys : List X) → All P (xs ++ ys) → All P ys
 all_right P [] ys a = a
 all_right P (x ∷ xs) ys a = all_right P xs ys (λ j e k. a (suc j) e (omega arith))
 

@@ -1,0 +1,14 @@
+pub mod Lists
+pub mod Leads
+pub mod Sums
+pub mod Within
+pub mod Lineages
+pub mod Order
+pub mod Before
+pub mod Infos
+pub mod Typed
+pub mod Kits
+pub mod Types
+pub mod Upward
+pub mod Fields
+pub mod Ordered

@@ -1,0 +1,2 @@
+//! The program that units spell: definitions alone.
+#![tactic(auto)]
