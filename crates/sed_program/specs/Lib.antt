@@ -1,0 +1,9 @@
+pub mod Types
+pub mod Fields
+pub mod Methods
+pub mod Texts
+pub mod Meaning
+pub mod Outlined
+pub mod Parts
+pub mod Held
+pub mod Tables
