@@ -111,7 +111,8 @@ field_of units number class m = option_map (a_field units number class m) (form_
 
 -- the fields of all classes, in the order of the schema
 abbrev pub all_fields : List KitUnits → (ℕ → List Member) → List Field
-all_fields units own = flat_map (λ c. filter_map (field_of units c.0 c.1) (own c.1)) (enumerate_from 0 (class_order units))
+all_fields units own = flat_map (λ c. filter_map (field_of units c.0 c.1) (own c.1)) (enumerate_from 0
+    (class_order units))
 
 abbrev pub fields_of : List KitUnits → List Field
 fields_of units = all_fields units (own_fields units)

@@ -4,3 +4,6 @@ pub mod Methods
 pub mod Texts
 pub mod Meaning
 pub mod Outlined
+pub mod Parts
+pub mod Held
+pub mod Tables

@@ -1,4 +1,5 @@
--- What names mean to the bodies in a text of a kit. Classes have their numbers in the schema, and so have members in the program.
+-- What names mean to the bodies in a text of a kit. Classes have their numbers in the schema, and so have members in
+-- the program.
 use Rattle.std.specs.Prelude.{ℕ, Bool, false, ◌==◌, ◌||◌, if◌then◌else◌, List, Option, Some, None}
 use Rattle.std.specs.Option.{option_and_then, option_map}
 use Rattle.sed_value.specs.declared.value.Value.{Value}
@@ -50,7 +51,8 @@ abbrev pub member_of : List KitUnits → Owned → Member
 member_of units o =
     if is_method o.member then member.Method
     else if is_define o.member then member.Define (define_constant units o)
-    else if is_static o.member then member.Static (form_of units o.kit o.member) (static_number units o.class o.member.name.bytes)
+    else if is_static o.member then member.Static (form_of units o.kit o.member)
+    (static_number units o.class o.member.name.bytes)
     else member.Field (form_of units o.kit o.member) (field_number units o.class o.member.name.bytes)
 
 -- ---- classes, by their numbers
@@ -64,7 +66,8 @@ abbrev pub below_number : List KitUnits → ℕ → ℕ → Bool
 below_number units above class = (above == class) || below_place units (place_of units above) (place_of units class)
 
 abbrev pub base_number : List KitUnits → ℕ → Option TypeNo
-base_number units class = option_and_then (λ c. option_and_then (number_of units) (base_of units c)) (place_of units class)
+base_number units class = option_and_then (λ c. option_and_then (number_of units) (base_of units c))
+    (place_of units class)
 
 -- ---- all that names mean in a kit
 
@@ -74,7 +77,9 @@ names_of units kit = record {
   base = base_number units;
   class = λ name. option_and_then (number_of units) (plain_class units kit name);
   class_in = λ other name. option_and_then (number_of units) (class_of_kit units kit other name);
-  member = λ class name. option_and_then (λ c. option_map (member_of units) (nearest units c name)) (place_of units class);
-  method = λ class name. option_and_then (λ c. option_and_then (signature_of units) (nearest units c name)) (place_of units class);
+  member = λ class name. option_and_then (λ c. option_map (member_of units) (nearest units c name))
+      (place_of units class);
+  method = λ class name. option_and_then (λ c. option_and_then (signature_of units) (nearest units c name))
+      (place_of units class);
   text = text_number units;
 }

@@ -1,5 +1,5 @@
--- The texts of a program: what the text literals in the bodies of its methods spell, in the order of the sources, each once. A
--- text above 255 characters has no number, nor has one past the 4,096th.
+-- The texts of a program: what the text literals in the bodies of its methods spell, in the order of the sources,
+-- each once. A text above 255 characters has no number, nor has one past the 4,096th.
 use Rattle.std.specs.Prelude.{ℕ, List, [], position, Option}
 use Rattle.std.specs.List.{flat_map}
 use Rattle.std.specs.Option.{option_and_then}

@@ -1,5 +1,5 @@
--- What the types of a source are in a program: the forms of fields, and the kinds of parameters and results. Classes have their
--- numbers in the schema there.
+-- What the types of a source are in a program: the forms of fields, and the kinds of parameters and results. Classes
+-- have their numbers in the schema there.
 use Rattle.std.specs.Prelude.{ℕ, if◌then◌else◌, List, Option, Some, None, slice_get}
 use Rattle.std.specs.Option.{option_map}
 use Rattle.sed_value.specs.declared.slot_type.Primitive.{Primitive}

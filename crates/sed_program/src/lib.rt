@@ -1,2 +1,24 @@
-//! The program that units spell: definitions alone.
+//! The program that units spell, but for the bodies of its methods.
+//!
+//! `Tables` are made once, and show to the bodies in a text of a kit what names mean there: classes by their numbers
+//! in the schema, fields, static fields and methods by their numbers in the program. Units with faults have them too,
+//! so that each body can be judged. Of units that break no rule on what they declare, the fields, the texts and the
+//! heads of methods are made here as the program has them.
 #![tactic(auto)]
+
+mod declared_member;
+mod fields;
+mod numbers;
+mod ordered;
+mod parts;
+mod spelled;
+mod tables;
+mod types;
+mod view;
+
+pub use declared_member::DeclaredMember;
+pub use ordered::Ordered;
+pub use parts::Part;
+pub use spelled::{Spelled, note_bodies};
+pub use tables::Tables;
+pub use view::View;

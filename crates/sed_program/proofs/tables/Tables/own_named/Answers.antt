@@ -1,0 +1,24 @@
+use Rattle.std.proofs.Common.{◌≡◌, position, ap, ◌∙◌}
+use Rattle.std.specs.Option.{option_and_then, option_copied, option_map}
+use Rattle.sed_classes.specs.Members.{has_name, members_of, own_named}
+use Rattle.sed_objects.specs.Rounds.{row_of}
+use Rattle.sed_program.specs.Tables.{declared_in, declared_of, item_at}
+use Rattle.sed_program.proofs.Found.{own_found}
+use Rattle.sed_program.proofs.tables.Tables.own_named.Goals as goal
+
+pub returns : goal.returns
+returns c =
+    let units = c.self.inside.ordered in
+    let name = c.args.name.now in
+    let members : c.members-members.result.now ≡ members_of units c.args.class =
+    c.members-members.ensures ∙ ap (λ u. members_of u c.args.class) (c.classes.ensures ∙ c.based.ensures) in
+    let found : option_copied c.named_at.result ≡ option_map (declared_of units) (own_named units name c.args.class) =
+    c.named_at.ensures
+    ∙ ap
+    (λ rows. option_and_then (item_at rows c.args.class) (position (has_name name) c.members-members.result.now))
+    (c.deref.ensures.value ∙ c.self.invariant.0)
+    ∙ ap
+    (λ ms. option_and_then (item_at (row_of units (declared_in units)) c.args.class) (position (has_name name) ms))
+    members
+    ∙ own_found units c.args.class name in
+    cc
