@@ -6,3 +6,4 @@ pub mod Seeks
 pub mod Orders
 pub mod Refusals
 pub mod Kits
+pub mod One

@@ -40,7 +40,7 @@ pub no_cycle_in : (kits : List Manifest) (order : List ℕ) → IsOrder (length 
 no_cycle_in kits order is i within back = Takes-no_cycle (length kits) (DependsOn kits) order is.taken i (is.whole i within) back
 
 -- There is one first place.
-IsFirst-only : (n : ℕ) (P : ℕ → Type 0) (a b : ℕ) → IsFirst n P a → IsFirst n P b → a ≡ b
+pub IsFirst-only : (n : ℕ) (P : ℕ → Type 0) (a b : ℕ) → IsFirst n P a → IsFirst n P b → a ≡ b
 IsFirst-only n P a b is other = elim (cases_order a b) [
   | inl same ↦ same
   | inr (inl below) ↦ absurd (other.before a below is.holds)

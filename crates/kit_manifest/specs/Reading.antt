@@ -6,7 +6,7 @@ use Rattle.sed_value.specs.Names.{is_kit_name}
 use Rattle.toml.specs.Data.{Data, string, array, Items, no_items, item, Members, get_member, as_str}
 use Rattle.toml.specs.Parse.{parse_document}
 use Rattle.kit_manifest.specs.declared.fault.ManifestFault.{ManifestFault}
-use Rattle.kit_manifest.specs.declared.fault.ManifestFault.TheVariants.{MissingKey, WrongType, BadName, Memory}
+use Rattle.kit_manifest.specs.declared.fault.ManifestFault.TheVariants.{NotToml, MissingKey, WrongType, BadName, Memory}
 use Rattle.kit_manifest.specs.declared.manifest.Manifest.{Manifest}
 
 -- The text is the TOML document of this table.
@@ -104,3 +104,11 @@ IsRefusal table WrongType = HasWrongType table
 IsRefusal table BadName = HasBadName table
 IsRefusal table Memory = Unit {0}
 IsRefusal table _ = ⊥
+
+-- The fault is the refusal of the text, which is a document of no manifest.
+abbrev pub IsTextRefusal : List ℕ → ManifestFault → Type 0
+IsTextRefusal text NotToml = (table : Members) → IsDocument text table → ⊥
+IsTextRefusal text MissingKey = HasDocument text LacksKey
+IsTextRefusal text WrongType = HasDocument text HasWrongType
+IsTextRefusal text BadName = HasDocument text HasBadName
+IsTextRefusal text _ = ⊥

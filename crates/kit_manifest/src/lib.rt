@@ -16,7 +16,7 @@ mod reading;
 mod texts;
 
 pub use fault::ManifestFault;
-pub use laws::order_is_one;
+pub use laws::{list_is_one, order_is_one, text_is_one};
 pub use manifest::{Manifest, Text};
 pub use order::order_kits;
 pub use reading::read_manifest;

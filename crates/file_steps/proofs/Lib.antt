@@ -1,0 +1,5 @@
+pub mod OneRead
+pub mod Joining
+pub mod One
+pub mod Failing
+pub mod Rows
