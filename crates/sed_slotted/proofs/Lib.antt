@@ -1,0 +1,4 @@
+pub mod Known
+pub mod Entry
+pub mod Rows
+pub mod Slots
