@@ -1,0 +1,3 @@
+pub mod TextBytes
+pub mod Constants
+pub mod Chains

@@ -1,0 +1,10 @@
+pub mod Empty
+pub mod Peel
+pub mod Flat
+pub mod Rows
+pub mod Own
+pub mod KnownTypes
+pub mod Sized
+pub mod Nearest
+pub mod Fit
+pub mod Words

@@ -1,0 +1,3 @@
+pub mod MembersApart
+pub mod FieldsTyped
+pub mod MethodsTyped

@@ -1,0 +1,12 @@
+pub mod Heads
+pub mod Numbers
+pub mod Climbing
+pub mod Found
+pub mod FieldsAt
+pub mod Placed
+pub mod Inlined
+pub mod Declaring
+pub mod Behind
+pub mod SysBases
+pub mod SysFree
+pub mod Whole
