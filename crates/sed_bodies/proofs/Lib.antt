@@ -1,0 +1,15 @@
+pub mod Rows
+pub mod LinkRows
+pub mod Right
+pub mod Ready
+pub mod OperandsRight
+pub mod ChoicesRight
+pub mod StoresRight
+pub mod LiteralsRight
+pub mod MembersRight
+pub mod CallsRight
+pub mod ExpressionsRight
+pub mod Told
+pub mod OperandsTold
+pub mod CallsTold
+pub mod ExpressionsTold

@@ -1,0 +1,85 @@
+//! Chains: an operand with links behind it.
+ghost use Rattle.std.specs.Prelude.{◌≡◌, IfOk};
+ghost use Rattle.sed_units.specs.Tree.{Part, row};
+ghost use Rattle.sed_units.specs.declared.label.Label.TheVariants as label;
+ghost use Rattle.sed_terms.specs.Faults.{least_fault};
+ghost use Rattle.sed_bodies.specs.Expressions as meaning;
+
+use crate::behind::{behind_class, behind_system};
+use crate::expressions::expression;
+use crate::steps::step;
+use sed_conversions::Checked;
+use sed_members::{Before, Body, before_link, spelled_head};
+use sed_names::Lookup;
+use sed_scope::Locals;
+use sed_units::{Expr, Link};
+use sed_value::Memory;
+use std::alloc::Global;
+
+// A chain at a place.
+#[cycle(expressions)]
+pub(crate) fn chain<N: Lookup>(
+    alloc: Global,
+    names: &N,
+    body: &Body,
+    scope: &Locals,
+    at: usize,
+    x: &Expr,
+    steps: &[Link],
+) -> Result<Checked, Memory>
+    ensures { IfOk result (λ r. r ≡ meaning.judge least_fault (N.names names.now) body.now scope.now (Part (label.Chain at) x.now (row steps.now))) }
+{
+    match steps.split_first() {
+        None => expression(alloc, names, body, scope, x),
+        Some((link, rest)) => {
+            let x = first(alloc, names, body, scope, at, x, link)?;
+            links(alloc, names, body, scope, at, x, rest)
+        }
+    }
+}
+
+// The head of a chain with its first link.
+#[cycle(expressions)]
+fn first<N: Lookup>(
+    alloc: Global,
+    names: &N,
+    body: &Body,
+    scope: &Locals,
+    at: usize,
+    x: &Expr,
+    link: &Link,
+) -> Result<Checked, Memory>
+    ensures { IfOk result (λ r. r ≡ meaning.judge_first least_fault (N.names names.now) body.now scope.now at x.now link.now) }
+{
+    match before_link(names, body, scope, x, link) {
+        Before::Value => {
+            let x = expression(alloc, names, body, scope, x)?;
+            step(alloc, names, body, scope, at, x, link)
+        }
+        Before::Class(class) => {
+            let y = behind_class(alloc, names, body, scope, at, class, link)?;
+            Ok(spelled_head(x, y))
+        }
+        Before::System => behind_system(alloc, names, body, scope, at, link),
+    }
+}
+
+// What is on the left, with the links behind it.
+#[cycle(expressions)]
+fn links<N: Lookup>(
+    alloc: Global,
+    names: &N,
+    body: &Body,
+    scope: &Locals,
+    at: usize,
+    x: Checked,
+    links: &[Link],
+) -> Result<Checked, Memory>
+    ensures { IfOk result (λ r. r ≡ meaning.judge_links least_fault (N.names names.now) body.now scope.now at x (row links.now)) }
+{
+    let mut x = x;
+    for link in links {
+        x = step(alloc, names, body, scope, at, x, link)?;
+    }
+    Ok(x)
+}

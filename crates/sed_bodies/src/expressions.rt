@@ -1,0 +1,237 @@
+//! What expressions come to.
+ghost use Rattle.std.specs.Prelude.{◌≡◌, IfOk, Some};
+ghost use Rattle.sed_operands.specs.Choices as choices;
+ghost use Rattle.sed_operands.specs.Operands as operands;
+ghost use Rattle.sed_stores.specs.Stores as stores;
+ghost use Rattle.sed_typed.specs.declared.operators.Gives.TheVariants as gives;
+ghost use Rattle.sed_terms.specs.Faults as faults;
+ghost use Rattle.sed_terms.specs.Faults.{least_fault};
+ghost use Rattle.sed_members.specs.Members as members;
+ghost use Rattle.sed_bodies.specs.Expressions as meaning;
+ghost use Rattle.sed_bodies.specs.Places as places;
+
+use crate::calls::{call, super_call};
+use crate::chains::chain;
+use crate::places::{may_name, place_of};
+use sed_conversions::Checked;
+use sed_members::{Body, literal, named, receiver, spelled};
+use sed_names::Lookup;
+use sed_operands::{cast, chosen, flipped, negated, opposite};
+use sed_scope::Locals;
+use sed_stores::{arithmetic_of, assigned, compound, counted, counted_first};
+use sed_terms::{Judged, broken};
+use sed_typed::Arithmetic;
+use sed_units::{AssignOp, Expr, Ident, Node, PrefixOp, UpdateOp};
+use sed_value::{Memory, Prim};
+use std::alloc::Global;
+
+fn prefixed(
+    alloc: Global,
+    at: usize,
+    op: PrefixOp,
+    may: bool,
+    right: usize,
+    x: Checked,
+) -> Result<Checked, Memory>
+    ensures { IfOk result (λ r. r ≡ meaning.prefixed least_fault at op may right x) }
+{
+    match op {
+        PrefixOp::Not => negated(alloc, right, x),
+        PrefixOp::Minus => opposite(alloc, right, x),
+        PrefixOp::BitNot => flipped(alloc, right, x),
+        PrefixOp::Increment => counted_first(alloc, Arithmetic::Add, at, may, right, x),
+        PrefixOp::Decrement => counted_first(alloc, Arithmetic::Subtract, at, may, right, x),
+    }
+}
+
+fn counting(op: UpdateOp) -> Arithmetic
+    ensures { result ≡ meaning.counting op }
+{
+    match op {
+        UpdateOp::Increment => Arithmetic::Add,
+        UpdateOp::Decrement => Arithmetic::Subtract,
+    }
+}
+
+fn stored<N: Lookup>(
+    alloc: Global,
+    names: &N,
+    op: AssignOp,
+    at: usize,
+    may: bool,
+    right: usize,
+    x: Checked,
+    y: Checked,
+) -> Result<Checked, Memory>
+    ensures { IfOk result (λ r. r ≡ meaning.stored_by least_fault (N.names names.now) (stores.arithmetic_of op) at may right x y) }
+{
+    match arithmetic_of(op) {
+        None => assigned(alloc, names, at, may, right, x, y),
+        Some(arithmetic) => compound(alloc, arithmetic, at, may, right, x, y),
+    }
+}
+
+// A name alone.
+fn name<N: Lookup>(
+    alloc: Global,
+    names: &N,
+    body: &Body,
+    scope: &Locals,
+    id: &Ident,
+) -> Result<Checked, Memory>
+    ensures { IfOk result (λ r. r ≡ members.spelled least_fault id.now (members.named least_fault (N.names names.now) body.now scope.now id.now)) }
+{
+    let x = named(alloc, names, body, scope, id)?;
+    Ok(spelled(id, x))
+}
+
+// `ID::ID` where it is not before a `.`, and has no meaning.
+fn no_value(kit: &Ident, id: &Ident) -> Checked
+    ensures { result ≡ members.spelled least_fault kit.now (members.spelled least_fault id.now (Judged.Unknown (Some (faults.broken 12 kit.now.at)))) }
+{
+    spelled(kit, spelled(id, broken(12, kit.at)))
+}
+
+/// What an expression comes to, with the least fault inside where it is unknown.
+#[cycle(expressions)]
+pub fn expression<N: Lookup>(
+    alloc: Global,
+    names: &N,
+    body: &Body,
+    scope: &Locals,
+    e: &Expr,
+) -> Result<Checked, Memory>
+    ensures { IfOk result (λ r. r ≡ meaning.judge least_fault (N.names names.now) body.now scope.now e.now) }
+{
+    match &e.node {
+        Node::Literal(l) => Ok(literal(names, l)),
+        Node::This => Ok(receiver(body, e.at)),
+        Node::Name(id) => name(alloc, names, body, scope, id),
+        Node::Of(kit, id) => Ok(no_value(kit, id)),
+        Node::Paren(x) => expression(alloc, names, body, scope, x),
+        Node::Prefix(op, x) => prefix(alloc, names, body, scope, e.at, *op, x),
+        Node::Cast(prim, x) => cast_operand(alloc, names, body, scope, e.at, *prim, x),
+        Node::Update(op, x) => update(alloc, names, body, scope, e.at, *op, x),
+        Node::Conditional(t, x, y) => conditional(alloc, names, body, scope, t, x, y),
+        Node::Assign(op, x, y) => assignment(alloc, names, body, scope, e.at, *op, x, y),
+        Node::Call(id, args) => call(alloc, names, body, scope, id, args),
+        Node::Super(id, args) => super_call(alloc, names, body, scope, e.at, id, args),
+        Node::Chain(x, steps) => chain(alloc, names, body, scope, e.at, x, steps),
+    }
+}
+
+// An operator in front, at a place.
+#[cycle(expressions)]
+fn prefix<N: Lookup>(
+    alloc: Global,
+    names: &N,
+    body: &Body,
+    scope: &Locals,
+    at: usize,
+    op: PrefixOp,
+    x: &Expr,
+) -> Result<Checked, Memory>
+    ensures { IfOk result (λ r. r ≡ meaning.prefixed least_fault at op (places.may_name x.now) (places.place_of x.now) (meaning.judge least_fault (N.names names.now) body.now scope.now x.now)) }
+{
+    let right = place_of(x);
+    let may = may_name(x);
+    let x = expression(alloc, names, body, scope, x)?;
+    prefixed(alloc, at, op, may, right, x)
+}
+
+// A cast at a place.
+#[cycle(expressions)]
+fn cast_operand<N: Lookup>(
+    alloc: Global,
+    names: &N,
+    body: &Body,
+    scope: &Locals,
+    at: usize,
+    prim: Prim,
+    x: &Expr,
+) -> Result<Checked, Memory>
+    ensures { IfOk result (λ r. r ≡ operands.cast least_fault at prim (places.place_of x.now) (meaning.judge least_fault (N.names names.now) body.now scope.now x.now)) }
+{
+    let right = place_of(x);
+    let x = expression(alloc, names, body, scope, x)?;
+    cast(alloc, at, prim, right, x)
+}
+
+// `++` or `--` behind an operand.
+#[cycle(expressions)]
+fn update<N: Lookup>(
+    alloc: Global,
+    names: &N,
+    body: &Body,
+    scope: &Locals,
+    at: usize,
+    op: UpdateOp,
+    x: &Expr,
+) -> Result<Checked, Memory>
+    ensures { IfOk result (λ r. r ≡ stores.counted least_fault (meaning.counting op) gives.Old at (places.may_name x.now) (places.place_of x.now) (meaning.judge least_fault (N.names names.now) body.now scope.now x.now)) }
+{
+    let left = place_of(x);
+    let may = may_name(x);
+    let x = expression(alloc, names, body, scope, x)?;
+    counted(alloc, counting(op), at, may, left, x)
+}
+
+// Both branches of `? :`.
+#[cycle(expressions)]
+fn branches<N: Lookup>(
+    alloc: Global,
+    names: &N,
+    body: &Body,
+    scope: &Locals,
+    x: &Expr,
+    y: &Expr,
+) -> Result<(Checked, Checked), Memory>
+    ensures left { IfOk result (λ r. r.0 ≡ meaning.judge least_fault (N.names names.now) body.now scope.now x.now) }
+    ensures right { IfOk result (λ r. r.1 ≡ meaning.judge least_fault (N.names names.now) body.now scope.now y.now) }
+{
+    let x = expression(alloc, names, body, scope, x)?;
+    let y = expression(alloc, names, body, scope, y)?;
+    Ok((x, y))
+}
+
+// `? :`.
+#[cycle(expressions)]
+fn conditional<N: Lookup>(
+    alloc: Global,
+    names: &N,
+    body: &Body,
+    scope: &Locals,
+    t: &Expr,
+    x: &Expr,
+    y: &Expr,
+) -> Result<Checked, Memory>
+    ensures { IfOk result (λ r. r ≡ choices.chosen least_fault (places.place_of t.now) (places.place_of x.now) (places.place_of y.now) (meaning.judge least_fault (N.names names.now) body.now scope.now t.now) (meaning.judge least_fault (N.names names.now) body.now scope.now x.now) (meaning.judge least_fault (N.names names.now) body.now scope.now y.now)) }
+{
+    let at = place_of(t);
+    let left = place_of(x);
+    let right = place_of(y);
+    let t = expression(alloc, names, body, scope, t)?;
+    let (x, y) = branches(alloc, names, body, scope, x, y)?;
+    chosen(alloc, at, left, right, t, x, y)
+}
+
+// An assignment at a place.
+#[cycle(expressions)]
+fn assignment<N: Lookup>(
+    alloc: Global,
+    names: &N,
+    body: &Body,
+    scope: &Locals,
+    at: usize,
+    op: AssignOp,
+    x: &Expr,
+    y: &Expr,
+) -> Result<Checked, Memory>
+    ensures { IfOk result (λ r. r ≡ meaning.stored_by least_fault (N.names names.now) (stores.arithmetic_of op) at (places.may_name x.now) (places.place_of y.now) (meaning.judge least_fault (N.names names.now) body.now scope.now x.now) (meaning.judge least_fault (N.names names.now) body.now scope.now y.now)) }
+{
+    let may = may_name(x);
+    let right = place_of(y);
+    let x = expression(alloc, names, body, scope, x)?;
+    let y = expression(alloc, names, body, scope, y)?;
+    stored(alloc, names, op, at, may, right, x, y)
+}

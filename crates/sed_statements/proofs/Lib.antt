@@ -1,0 +1,11 @@
+pub mod Kept
+pub mod Firsts
+pub mod Rows
+pub mod Told
+pub mod FormsTold
+pub mod StatementsTold
+pub mod Right
+pub mod Scopes
+pub mod FormsRight
+pub mod LabelsRight
+pub mod StatementsRight
