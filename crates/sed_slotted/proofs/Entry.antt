@@ -1,5 +1,5 @@
 -- A member of a class that breaks no rule, beside the slot that it adds and the field that it is.
-use Rattle.std.proofs.Common.{◌≡◌, ◌<◌, ◌≤◌, ◌+◌, ◌==◌, ◌&&◌, ◌||◌, ℕ, zero, suc, Bool, true, false, not, if◌then◌else◌, List, [], ◌∷◌, ◌++◌, slice_get, Option, Some, None, refl, sym, ap, ◌∙◌, subst, arith}
+use Rattle.std.proofs.Common.{◌≡◌, ◌&&◌, ◌||◌, ℕ, Bool, true, false, not, if◌then◌else◌, List, [], slice_get, Option, Some, None, refl, sym, ap, ◌∙◌}
 use Rattle.std.specs.List.{list_any, position}
 use Rattle.std.specs.Option.{option_map}
 use Rattle.std.specs.Str.{bytes_eq}
@@ -9,7 +9,6 @@ use Rattle.sed_units.specs.declared.classes.Member.{Member}
 use Rattle.sed_typed.specs.declared.program.Field.{Field}
 use Rattle.sed_typed.specs.declared.program.FieldForm.{FieldForm}
 use Rattle.sed_typed.specs.declared.program.FieldForm.TheVariants as form
-use Rattle.sed_typed.specs.declared.schema.ActionArg.{ActionArg}
 use Rattle.sed_typed.specs.declared.schema.SlotForm.{SlotForm}
 use Rattle.sed_typed.specs.declared.schema.SlotForm.TheVariants.{Prop, Action}
 use Rattle.sed_typed.specs.declared.schema.SlotInfo.{SlotInfo}
@@ -22,7 +21,7 @@ use Rattle.sed_classes.specs.Bases.{bases, is_below}
 use Rattle.sed_classes.specs.SysSource.{component_class}
 use Rattle.sed_classes.specs.Types.{is_property_type, is_unknown, type_of, is_field_type}
 use Rattle.sed_classes.specs.Members.{form_params, inherits, is_action, is_config, is_define, is_instance_field, is_method, is_property, is_static, kit_of, overrides}
-use Rattle.sed_classes.specs.Objects.{has_form, is_inline}
+use Rattle.sed_classes.specs.Objects.{is_inline}
 use Rattle.sed_classes.specs.MemberRules.{fits_one_of, is_no_slot, is_slot_elsewhere, is_wrong_action, is_wrong_property}
 use Rattle.sed_classes.specs.FieldRules.{have_words_apart, is_no_field, is_no_member, is_no_result}
 use Rattle.sed_classes.specs.Slots.{action_argument, is_new_action, property_shape, shape_of, slot_of, slot_type, slots, with_name}
@@ -42,12 +41,12 @@ pub data Entry (units : List KitUnits) (n class : ℕ) (m : Member) : Type 0 whe
   property : (s : SlotInfo) (t : SlotType) (f : Field) → slot_of units (kit_of units class) m ≡ Some s →
       s.form ≡ Prop t → s.name ≡ m.name.bytes →
       is_instance_field m ≡ true → field_of units n class m ≡ Some f →
-          f.slot ≡ option_map slot_no (named_slot (slots units class) m.name.bytes) →
+      f.slot ≡ option_map slot_no (named_slot (slots units class) m.name.bytes) →
       IsProperty s t f → Entry units n class m
   action : (s : SlotInfo) → slot_of units (kit_of units class) m ≡ Some s →
       s.form ≡ Action (action_argument units (kit_of units class) (form_params m.form)) →
       s.name ≡ m.name.bytes → s.config ≡ false → is_instance_field m ≡ false → is_method m ≡ true →
-          is_action m ≡ true → Entry units n class m
+      is_action m ≡ true → Entry units n class m
   plain : slot_of units (kit_of units class) m ≡ None → ((f : Field) → field_of units n class m ≡ Some f →
       f.slot ≡ None) → Entry units n class m
 
@@ -100,7 +99,7 @@ module _ (units : List KitUnits) (class : ℕ) (d : Declaration) (free : declara
       (is_slot_elsewhere units class m)
       (is_wrong_property units d.kit m)
       (first_of (is_slot_elsewhere units class m || is_wrong_property units d.kit m)
-          (is_wrong_action units d.kit m) slot_so))
+      (is_wrong_action units d.kit m) slot_so))
     where
       by_tests : (a b c : Bool) → a ≡ true → b ≡ false → (a && (not b && not c)) ≡ false → c ≡ true
       by_tests true false true p q e = refl
@@ -118,7 +117,7 @@ module _ (units : List KitUnits) (class : ℕ) (d : Declaration) (free : declara
         (inherits units class m.name.bytes)
         o
         (not_broken (not (overrides m) && inherits units class m.name.bytes) 5 m.at
-            (name_own units class d free i m at));
+        (name_own units class d free i m at));
     component =
         there
         (is_property m || is_action m)
@@ -128,7 +127,7 @@ module _ (units : List KitUnits) (class : ℕ) (d : Declaration) (free : declara
         (is_slot_elsewhere units class m)
         (is_wrong_property units d.kit m)
         (first_of (is_slot_elsewhere units class m || is_wrong_property units d.kit m)
-            (is_wrong_action units d.kit m) slot_so));
+        (is_wrong_action units d.kit m) slot_so));
   }
     where
       no_name : (a b : Bool) → a ≡ false → (not a && b) ≡ false → b ≡ false
@@ -171,8 +170,8 @@ module _ (units : List KitUnits) (class : ℕ) (d : Declaration) (free : declara
       formed t e h =
           ap (λ k. form_of units k m) kit
           ∙ ap (λ b. if (if b then is_property_type (type_of units d.kit m.kind)
-              else is_field_type (is_inline m) (type_of units d.kit m.kind)) then form_of_type units
-              (type_of units d.kit m.kind) else None) p
+          else is_field_type (is_inline m) (type_of units d.kit m.kind)) then form_of_type units
+          (type_of units d.kit m.kind) else None) p
           ∙ ap (λ x. if is_property_type x then form_of_type units x else None) e
           ∙ ap (λ b. if b then form_of_type units t else None) h
 
@@ -225,15 +224,19 @@ module _ (units : List KitUnits) (class : ℕ) (d : Declaration) (free : declara
   action_entry : (n : ℕ) → is_property m ≡ false → is_new_action m ≡ true → Entry units n class m
   action_entry n p a =
       action
-      (record { name = m.name.bytes; config = false; form = Action (action_argument units (kit_of units class)
-          (form_params m.form)) })
+      (record {
+        name = m.name.bytes;
+        config = false;
+        form = Action (action_argument units (kit_of units class)
+            (form_params m.form));
+      })
       (ap
       (λ b. shaped_by units (kit_of units class) m b (is_new_action m)) p ∙ ap (shaped_by units (kit_of units class) m false) a)
       refl
       refl
       refl
       (ap (λ b. not b && not (is_define m) && not (is_static m)) (new_action (is_method m) (is_action m)
-          (overrides m) a).0)
+      (overrides m) a).0)
       (new_action (is_method m) (is_action m) (overrides m) a).0
       (new_action (is_method m) (is_action m) (overrides m) a).1
     where
@@ -255,7 +258,7 @@ module _ (units : List KitUnits) (class : ℕ) (d : Declaration) (free : declara
       by_form (Some x) f e =
           let same : a_field units n class m x ≡ f = cc in
           sym (ap (λ (y : Field). y.slot) same) ∙ ap (λ b. if b then option_map slot_no (named_slot
-              (slots units class) m.name.bytes) else None) p
+          (slots units class) m.name.bytes) else None) p
 
   pub entry : (n : ℕ) → Entry units n class m
   entry n = by_tests (is_property m) (is_new_action m) refl refl
@@ -283,16 +286,14 @@ module _ (units : List KitUnits) (class : ℕ) (d : Declaration) (free : declara
           sym (ap (λ (y : SlotInfo). y.name) same)
 
       by_tests : (a b : Bool) → is_property m ≡ a → is_new_action m ≡ b → Adds units class m × (s.name ≡ m.name.bytes)
-      by_tests true b p q =
-          (
-            adds (ap (λ x. x || is_action m) p) (no_override (property_words m p words_so).0),
-            named (shape_of units (kit_of units class) m) e
-          )
+      by_tests true b p q = (
+        adds (ap (λ x. x || is_action m) p) (no_override (property_words m p words_so).0),
+        named (shape_of units (kit_of units class) m) e,
+      )
       by_tests false true p q =
-          let is = new_action (is_method m) (is_action m) (overrides m) q in
-          (
+          let is = new_action (is_method m) (is_action m) (overrides m) q in (
             adds (ap (λ x. x || is_action m) p ∙ is.0) is.1,
-            named (shape_of units (kit_of units class) m) e
+            named (shape_of units (kit_of units class) m) e,
           )
       by_tests false false p q =
           let none : None ≡ Some s =

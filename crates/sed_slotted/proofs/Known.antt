@@ -1,5 +1,5 @@
 -- The types of members that break no rule.
-use Rattle.std.proofs.Common.{◌≡◌, ◌<◌, ◌≤◌, ◌+◌, ◌==◌, ◌&&◌, ◌||◌, ℕ, ℤ, pos, negsuc, zero, suc, Bool, true, false, not, nat_le, nat_lt, if◌then◌else◌, is_some, List, [], ◌∷◌, Option, Some, None, refl, sym, ap, ◌∙◌, arith}
+use Rattle.std.proofs.Common.{◌≡◌, ◌≤◌, ◌+◌, ◌==◌, ◌&&◌, ◌||◌, ℕ, pos, negsuc, Bool, true, false, not, nat_le, nat_lt, if◌then◌else◌, is_some, List, [], Option, Some, None, refl, ap, ◌∙◌, arith}
 use Rattle.std.specs.Option.{option_map_or}
 use Rattle.std.proofs.lemmas.Bool.Decides.{nat_tests}
 use Rattle.sed_value.specs.declared.slot_type.Primitive.{Primitive}
@@ -7,23 +7,21 @@ use Rattle.sed_lexer.specs.declared.numbers.Number.{Number}
 use Rattle.sed_lexer.specs.declared.numbers.Number.TheVariants.{Int, Long}
 use Rattle.sed_units.specs.declared.leaves.Base.{Base}
 use Rattle.sed_units.specs.declared.leaves.Base.TheVariants as base
-use Rattle.sed_units.specs.declared.leaves.Literal.{Literal}
 use Rattle.sed_units.specs.declared.leaves.Size.{Size}
 use Rattle.sed_units.specs.declared.leaves.Size.TheVariants.{Parens, Brackets}
 use Rattle.sed_units.specs.declared.leaves.TypeName.{TypeName}
 use Rattle.sed_units.specs.declared.leaves.TypeRef.{TypeRef}
 use Rattle.sed_units.specs.declared.leaves.ModifierWord.TheVariants as word
 use Rattle.sed_units.specs.declared.classes.Member.{Member}
-use Rattle.sed_faults.specs.Faults.{broken_if}
 use Rattle.sed_names.specs.Spelled.{integer_of}
 use Rattle.sed_classes.specs.declared.kit_units.KitUnits.{KitUnits}
 use Rattle.sed_classes.specs.declared.source_type.SourceType.{SourceType}
 use Rattle.sed_classes.specs.declared.source_type.SourceType.TheVariants as type
 use Rattle.sed_classes.specs.Names.{class_of_name, is_buffer_name, is_text_name}
 use Rattle.sed_classes.specs.NameRules.{base_type_without_class, is_without_class, type_without_class}
-use Rattle.sed_classes.specs.Types.{array_type, based_type, buffer_type, count_of, is_unknown, named_type, object_type, primitive_type, size_within, text_type, type_of, void_type, within}
+use Rattle.sed_classes.specs.Types.{based_type, buffer_type, count_of, is_unknown, named_type, object_type, primitive_type, size_within, text_type, type_of, void_type, within}
 use Rattle.sed_classes.specs.Members.{has_word, is_define, is_instance_field, is_method, is_property, is_static}
-use Rattle.sed_classes.specs.FieldRules.{exclusive_count, have_words_apart, said_once, has_no_method_words, is_static_inline}
+use Rattle.sed_classes.specs.FieldRules.{exclusive_count, have_words_apart, has_no_method_words, is_static_inline}
 use Rattle.sed_outline.proofs.Unbroken.{not_broken}
 
 -- ---- a type whose name has a class is known
@@ -68,7 +66,7 @@ named_known units kit name size e = by_tests (is_text_name name) (is_buffer_name
 
     by_tests : (a b : Bool) → (not a && not b && not (is_some (class_of_name units kit name))) ≡ false →
         is_unknown (if a then text_type size else if b then buffer_type size
-            else object_type (class_of_name units kit name) size) ≡ false
+        else object_type (class_of_name units kit name) size) ≡ false
     by_tests true b f = text_known size
     by_tests false true f = buffer_known size
     by_tests false false f = object_known (class_of_name units kit name) size (there (is_some
@@ -165,9 +163,9 @@ buf_fits units kit t n e = by_base t.base n e
 
 word_counts : (p a d s i : Bool) → p ≡ true →
     (nat_lt 1 ((if p then 1 else 0) + (if a then 1 else 0) + (if d then 1 else 0) + (if s then 1 else 0) + (if i then 1
-        else 0))
+    else 0))
     && not (s && i && (((if p then 1 else 0) + (if a then 1 else 0) + (if d then 1 else 0) + (if s then 1
-        else 0) + (if i then 1 else 0)) == 2))) ≡ false →
+    else 0) + (if i then 1 else 0)) == 2))) ≡ false →
     (d ≡ false) × (s ≡ false)
 word_counts false a d s i p e = cc
 word_counts true true true true true p e = cc
@@ -208,11 +206,10 @@ property_words m p e = by_method (is_method m) refl p
         (first_false
         (nat_lt 1 (exclusive_count m) && not (is_static_inline m))
         (is_method m && has_no_method_words m)
-        e) in
-        (
+        e) in (
           q,
           ap (λ b. not b && not (is_define m) && not (is_static m)) q
-          ∙ ap (λ b. not (not b && has_word word.Define m.modifiers) && not (is_static m)) q
-          ∙ ap (λ b. not b && not (is_static m)) words.0
-          ∙ ap not words.1
+              ∙ ap (λ b. not (not b && has_word word.Define m.modifiers) && not (is_static m)) q
+              ∙ ap (λ b. not b && not (is_static m)) words.0
+              ∙ ap not words.1,
         )

@@ -1,6 +1,6 @@
 -- The slots that a class adds, beside the fields that it declares, in one order.
-use Rattle.std.proofs.Common.{◌≡◌, ◌<◌, ◌≤◌, ◌+◌, ◌==◌, ◌&&◌, ◌||◌, ℕ, zero, suc, Bool, true, false, not, if◌then◌else◌, List, [], ◌∷◌, ◌++◌, filter, length, slice_get, All, IfSome, Option, Some, None, refl, sym, ap, ◌∙◌, subst, arith, append_assoc}
-use Rattle.std.specs.List.{cons_option, count_by, filter_map, position}
+use Rattle.std.proofs.Common.{◌≡◌, ◌<◌, ◌≤◌, ◌+◌, ◌==◌, ℕ, zero, suc, Bool, true, false, if◌then◌else◌, List, [], ◌∷◌, ◌++◌, filter, length, slice_get, All, IfSome, Option, Some, None, refl, sym, ap, ◌∙◌, subst, arith, append_assoc}
+use Rattle.std.specs.List.{cons_option, count_by, filter_map}
 use Rattle.std.specs.Option.{option_map, option_map_or}
 use Rattle.std.specs.Str.{bytes_eq}
 use Rattle.std.proofs.lemmas.List.{length-append}
@@ -60,7 +60,7 @@ pub none_in : (n : ℕ) (fields : List Field) → All (λ f. in_slot n f ≡ fal
 none_in n [] h = refl
 none_in n (f ∷ fs) h =
     ap (λ b. if b then f ∷ filter (in_slot n) fs else filter (in_slot n) fs) (All-head (λ g. in_slot n g
-        ≡ false) f fs h)
+    ≡ false) f fs h)
     ∙ none_in n fs (All-tail (λ g. in_slot n g ≡ false) f fs h)
 
 pub none_below : (n low high : ℕ) (fields : List Field) → n < low → All (SlotFrom low high) fields →
@@ -82,8 +82,11 @@ wider low high above fields e h i d k = one (slice_index_or fields i d).slot (h 
     one : (o : Option SlotNo) → IfSome o (λ (x : SlotNo). (suc low ≤ x.0) × (x.0 < high)) →
         IfSome o (λ (x : SlotNo). (low ≤ x.0) × (x.0 < above))
     one None g = tt
-    one (Some x) g = let le : suc low ≤ x.0 = g.0 in let lt : x.0 < high = g.1 in (omega (arith, le), omega
-        (arith, lt, e))
+    one (Some x) g = let le : suc low ≤ x.0 = g.0 in let lt : x.0 < high = g.1 in (
+      omega (arith, le),
+      omega
+          (arith, lt, e),
+    )
 
 lower : (low : ℕ) (xs : List ℕ) → Rising (suc low) xs → Rising low xs
 lower low [] r = tt
@@ -112,7 +115,7 @@ with_property low s t f added fields form is p rest = record {
       f
       fields
       (subst (λ o. IfSome o (λ (x : SlotNo). (low ≤ x.0)
-          × (x.0 < low + length (s ∷ added)))) (sym is) (omega arith, omega arith))
+      × (x.0 < low + length (s ∷ added)))) (sym is) (omega arith, omega arith))
       (wider low (suc low + length added) (low + length (s ∷ added)) fields (omega arith) rest.within);
   rising = ap_rising (f.slot) is;
 }
@@ -130,12 +133,11 @@ with_property low s t f added fields form is p rest = record {
     first =
         subst
         (Slotted (f ∷ fields) low s)
-        (sym form)
-        (
+        (sym form) (
           f,
           ap (λ b. if b then f ∷ filter (in_slot low) fields else filter (in_slot low) fields) here
-          ∙ ap (λ r. f ∷ r) (none_below low (suc low) (suc low + length added) fields (omega arith) rest.within),
-          p
+              ∙ ap (λ r. f ∷ r) (none_below low (suc low) (suc low + length added) fields (omega arith) rest.within),
+          p,
         )
 
     each : (i : ℕ) (x : SlotInfo) → slice_get (s ∷ added) i ≡ Some x → Slotted (f ∷ fields) (low + i) x x.form
@@ -143,7 +145,7 @@ with_property low s t f added fields form is p rest = record {
         let same : s ≡ x = cc in
         let zeroth : low ≡ low + 0 = omega arith in
         slotted_at (f ∷ fields) low (low + 0) x x.form zeroth (subst (λ (y : SlotInfo). Slotted
-            (f ∷ fields) low y y.form) same first)
+        (f ∷ fields) low y y.form) same first)
     each (suc i) x e =
         let further : suc low + i ≡ low + suc i = omega arith in
         passed
@@ -181,7 +183,7 @@ with_action low s added fields a form rest = record {
         let same : s ≡ x = cc in
         let zeroth : low ≡ low + 0 = omega arith in
         slotted_at fields low (low + 0) x x.form zeroth (subst (λ
-            (y : SlotInfo). Slotted fields low y y.form) same first)
+        (y : SlotInfo). Slotted fields low y y.form) same first)
     each (suc i) x e =
         let further : suc low + i ≡ low + suc i = omega arith in
         slotted_at fields (suc low + i) (low + suc i) x x.form further (rest.each i x e)
@@ -245,7 +247,7 @@ module _ (units : List KitUnits) (n class : ℕ) where
   pub in_step_from : (front : List SlotInfo) (ms : List Member) → ((i : ℕ) (m : Member) → slice_get ms i ≡ Some m →
       Entry units n class m) →
       slots units class ≡ front ++ added_by ms → NamesOnce (slots units class) →
-          InStep (length front) (added_by ms) (fields_by ms)
+      InStep (length front) (added_by ms) (fields_by ms)
   in_step_from front [] entries same once = no_slots (length front)
   in_step_from front (m ∷ ms) entries same once =
       by_entry
@@ -266,7 +268,7 @@ module _ (units : List KitUnits) (n class : ℕ) where
           fields_by (m ∷ ms) ≡ (if b then cons_option (field_of units n class m) (fields_by ms) else fields_by ms)
       kept_fields b e =
           ap (λ t. filter_map (field_of units n class) (if t then m ∷ filter is_instance_field ms
-              else filter is_instance_field ms)) e
+          else filter is_instance_field ms)) e
           ∙ by_test b
         where
           by_test : (t : Bool) → filter_map (field_of units n class) (if t then m ∷ filter is_instance_field ms
@@ -278,7 +280,7 @@ module _ (units : List KitUnits) (n class : ℕ) where
       plain_fields : InStep (length front) (added_by ms) (fields_by ms) → ((f : Field) →
           field_of units n class m ≡ Some f → f.slot ≡ None) →
           (b : Bool) → InStep (length front) (added_by ms) (if b then cons_option (field_of units n class m)
-              (fields_by ms) else fields_by ms)
+          (fields_by ms) else fields_by ms)
       plain_fields rest none false = rest
       plain_fields rest none true = by_field (field_of units n class m) refl
         where
@@ -296,7 +298,7 @@ module _ (units : List KitUnits) (n class : ℕ) where
           ∙ ap (λ all. option_map slot_no (named_slot all m.name.bytes)) whole
           ∙ ap (option_map slot_no) (at_seam front s (added_by ms) m.name.bytes (subst NamesOnce whole once) name) in
           let fields : fields_by (m ∷ ms) ≡ f ∷ fields_by ms = kept_fields true field
-              ∙ ap (λ o. cons_option o (fields_by ms)) is_field in
+          ∙ ap (λ o. cons_option o (fields_by ms)) is_field in
           subst
           (λ r. InStep (length front) r (fields_by (m ∷ ms)))
           (sym added)

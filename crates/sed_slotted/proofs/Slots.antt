@@ -1,12 +1,11 @@
 -- The slots of a class beside its fields.
-use Rattle.std.proofs.Common.{◌≡◌, ◌<◌, ◌≤◌, ◌+◌, ◌-◌, ◌==◌, ◌&&◌, ◌||◌, ℕ, zero, suc, Bool, true, false, not, nat_lt, if◌then◌else◌, List, [], ◌∷◌, ◌++◌, drop, filter, length, reverse, slice_get, take, All, IfSome, Option, Some, None, refl, sym, ap, ◌∙◌, subst, arith}
+use Rattle.std.proofs.Common.{◌≡◌, ◌<◌, ◌≤◌, ◌+◌, ◌-◌, ◌==◌, ℕ, zero, suc, Bool, true, false, nat_lt, List, [], ◌∷◌, ◌++◌, filter, length, reverse, slice_get, take, All, IfSome, Option, Some, None, refl, sym, ap, ◌∙◌, subst, arith}
 use Rattle.std.specs.List.{cons_option, count_by, filter_map, flat_map, list_any}
 use Rattle.std.specs.Option.{option_map_or}
 use Rattle.std.specs.Str.{bytes_eq}
 use Rattle.std.proofs.lemmas.List.{append-nil, length-append}
 use Rattle.std.proofs.lemmas.List.Elements.{All-append, filter-append}
 use Rattle.std.proofs.lemmas.List.Sums.{sum_by-append}
-use Rattle.std.proofs.lemmas.Option.{slice_get_within}
 use Rattle.std.proofs.lemmas.Bool.Decides.{nat_tests}
 use Rattle.sed_units.specs.declared.classes.Member.{Member}
 use Rattle.sed_typed.specs.declared.number.SlotNo.{SlotNo}
@@ -15,28 +14,25 @@ use Rattle.sed_typed.specs.declared.schema.SlotForm.{SlotForm}
 use Rattle.sed_typed.specs.declared.schema.SlotForm.TheVariants.{Prop, Action}
 use Rattle.sed_typed.specs.declared.schema.SlotInfo.{SlotInfo}
 use Rattle.sed_typed.specs.TypedSchema.{in_slot}
-use Rattle.sed_faults.specs.Faults.{broken_if}
 use Rattle.sed_classes.specs.declared.kit_units.KitUnits.{KitUnits}
-use Rattle.sed_classes.specs.Declarations.{Declaration, all_classes, class_at}
+use Rattle.sed_classes.specs.Declarations.{Declaration, class_at}
 use Rattle.sed_classes.specs.Bases.{base_of, bases, is_below, lineage}
 use Rattle.sed_classes.specs.SysSource.{component_class}
-use Rattle.sed_classes.specs.Members.{declares, has_name, inherits, kit_of, members_of}
+use Rattle.sed_classes.specs.Members.{declares, has_name, kit_of, members_of}
 use Rattle.sed_classes.specs.Slots.{own_slots, slot_of, slots}
-use Rattle.sed_classes.specs.Faults.{declaration_faults}
-use Rattle.sed_program.specs.Fields.{own_fields}
 use Rattle.sed_outline.specs.Fits.{Unbroken}
 use Rattle.sed_outline.proofs.Unbroken.{not_broken}
 use Rattle.sed_order.proofs.Fields.{own_typed}
-use Rattle.sed_order.proofs.Lineages.{bases_cons, bases_none, climb, lineage_cons, lineage_one}
-use Rattle.sed_order.proofs.Lists.{count_cons, count_there, counted, is_same, weight}
+use Rattle.sed_order.proofs.Lineages.{bases_cons, climb, lineage_cons, lineage_one}
+use Rattle.sed_order.proofs.Lists.{count_cons, count_there, counted, weight}
 use Rattle.sed_order.proofs.Order.{number}
 use Rattle.sed_order.proofs.Upward.{up_cons}
 use Rattle.sed_outlined.proofs.Class.{slots_begin}
 use Rattle.sed_slotted.specs.Free.{AllFree}
 use Rattle.sed_slotted.proofs.Entry.{Adds, Entry, adding, entry}
-use Rattle.sed_depth.proofs.Has.{either, or_left, or_right}
+use Rattle.sed_depth.proofs.Has.{or_left, or_right}
 use Rattle.sed_outlined.proofs.Named.{NoTwo, any_front, at_most_one, bytes_itself, bytes_same}
-use Rattle.sed_slotted.proofs.Rows.{InStep, NamesOnce, SlotFrom, Slotted, in_step_from, none_above, none_below, none_in}
+use Rattle.sed_slotted.proofs.Rows.{InStep, NamesOnce, SlotFrom, Slotted, in_step_from, none_above, none_below}
 use Rattle.sed_depth.proofs.Rules.{name_new}
 use Rattle.std.specs.Prelude.{slice_index_or}
 
@@ -56,8 +52,13 @@ declares_at units class i m e = by_class (class_at units class) refl e
     by_class : (o : Option Declaration) → class_at units class ≡ o →
         slice_get (option_map_or (λ (d : Declaration). d.class.members) o []) i ≡ Some m → Declares units class i m
     by_class None s f = cc
-    by_class (Some d) s f = record { declared = d; there = s; kit = ap (λ (o : Option Declaration). option_map_or (λ
-        (x : Declaration). x.kit) o 0) s; at = f }
+    by_class (Some d) s f = record {
+      declared = d;
+      there = s;
+      kit = ap (λ (o : Option Declaration). option_map_or (λ
+          (x : Declaration). x.kit) o 0) s;
+      at = f;
+    }
 
 pub entries : (units : List KitUnits) → AllFree units → (n class i : ℕ) (m : Member) →
     slice_get (members_of units class) i ≡ Some m → Entry units n class m
@@ -81,7 +82,7 @@ found_in {X} {Y} f (x ∷ xs) k y e = by_found (f x) refl k e (λ j g. found_in 
   where
     by_found : (o : Option Y) → f x ≡ o → (j : ℕ) → slice_get (cons_option o (filter_map f xs)) j ≡ Some y →
         ((j : ℕ) → slice_get (filter_map f xs) j ≡ Some y →
-            (i : ℕ) × (z : X) × (slice_get xs i ≡ Some z) × (f z ≡ Some y)) →
+        (i : ℕ) × (z : X) × (slice_get xs i ≡ Some z) × (f z ≡ Some y)) →
         (i : ℕ) × (z : X) × (slice_get (x ∷ xs) i ≡ Some z) × (f z ≡ Some y)
     by_found None s j g rest = let found = rest j g in (suc found.0, found.1, found.2, found.3)
     by_found (Some z) s zero g rest = let same : z ≡ y = cc in (0, x, refl, s ∙ ap Some same)
@@ -121,7 +122,7 @@ no_two_members units free class name i j x y l e f s t =
 -- no more slots than members have a name
 slots_counted : (units : List KitUnits) (kit : ℕ) (name : List ℕ) (ms : List Member) →
     ((i : ℕ) (m : Member) (s : SlotInfo) → slice_get ms i ≡ Some m → slot_of units kit m ≡ Some s →
-        s.name ≡ m.name.bytes) →
+    s.name ≡ m.name.bytes) →
     count_by (λ s. bytes_eq s.name name) (filter_map (slot_of units kit) ms) ≤ count_by (has_name name) ms
 slots_counted units kit name [] h = omega arith
 slots_counted units kit name (m ∷ ms) h =
@@ -130,7 +131,7 @@ slots_counted units kit name (m ∷ ms) h =
     by_slot : (o : Option SlotInfo) → slot_of units kit m ≡ o →
         count_by (λ s. bytes_eq s.name name) (filter_map (slot_of units kit) ms) ≤ count_by (has_name name) ms →
         count_by (λ s. bytes_eq s.name name) (cons_option o (filter_map (slot_of units kit) ms)) ≤ count_by
-            (has_name name) (m ∷ ms)
+        (has_name name) (m ∷ ms)
     by_slot None e rest = omega (arith, rest, count_cons (has_name name) m ms)
     by_slot (Some s) e rest =
         omega (
@@ -147,8 +148,8 @@ own_once units free class name =
     omega (
       arith,
       slots_counted units (kit_of units class) name (members_of units class) (λ i m s e f.
-      let r = declares_at units class i m e in
-      (adding units class r.declared (free class r.declared r.there) r.kit i m r.at s f).1),
+          let r = declares_at units class i m e in
+          (adding units class r.declared (free class r.declared r.there) r.kit i m r.at s f).1),
       at_most_one (has_name name) (members_of units class) (no_two_members units free class name),
     )
 
@@ -161,7 +162,7 @@ own_declared units free class name n =
     let by = added_by units free class found.0 found.1 found.2 in
     let same : by.member.name.bytes ≡ name = sym by.named ∙ bytes_same found.1.name name found.3 in
     any_at (has_name name) (members_of units class) by.place by.member by.at (ap (λ b. bytes_eq b name) same
-        ∙ bytes_itself name)
+    ∙ bytes_itself name)
   where
     any_at : {X : Type 0} (p : X → Bool) (xs : List X) (i : ℕ) (x : X) → slice_get xs i ≡ Some x → p x ≡ true →
         list_any p xs ≡ true
@@ -175,21 +176,21 @@ counted_or_not (suc n) P f g = f (omega arith)
 
 up_declared : (units : List KitUnits) → AllFree units → (name : List ℕ) (xs : List ℕ) →
     1 ≤ count_by (λ s. bytes_eq s.name name) (flat_map (own_slots units) (reverse xs)) →
-        list_any (declares units name) xs ≡ true
+    list_any (declares units name) xs ≡ true
 up_declared units free name [] n = absurd (omega (arith, n))
 up_declared units free name (x ∷ xs) n =
     let whole : count_by (λ s. bytes_eq s.name name) (flat_map (own_slots units) (reverse (x ∷ xs)))
     ≡ count_by (λ s. bytes_eq s.name name) (flat_map (own_slots units) (reverse xs)) + count_by
-        (λ s. bytes_eq s.name name) (own_slots units x) =
+    (λ s. bytes_eq s.name name) (own_slots units x) =
     ap (count_by (λ s. bytes_eq s.name name)) (up_cons (own_slots units) x xs)
     ∙ sum_by-append (λ s. weight (bytes_eq s.name name)) (flat_map (own_slots units) (reverse xs))
-        (own_slots units x) in
+    (own_slots units x) in
     counted_or_not
     (count_by (λ s. bytes_eq s.name name) (own_slots units x))
     (list_any (declares units name) (x ∷ xs) ≡ true)
     (λ k. or_left (declares units name x) (list_any (declares units name) xs) (own_declared units free x name k))
     (λ k. or_right (declares units name x) (list_any (declares units name) xs) (up_declared units free name xs (omega
-        (arith, whole, n, k))))
+    (arith, whole, n, k))))
 
 -- what a class adds, no base has
 own_new : (units : List KitUnits) → AllFree units → (class : ℕ) (name : List ℕ) →
@@ -206,13 +207,13 @@ pub own_new_name : (units : List KitUnits) → AllFree units → (class i : ℕ)
     list_any (declares units x.name) (bases units class) ≡ false
 own_new_name units free class i x e =
     own_new units free class x.name (count_there (λ s. bytes_eq s.name x.name) (own_slots units class) i x e
-        (bytes_itself x.name))
+    (bytes_itself x.name))
 
 pub slots_one : (units : List KitUnits) → Unbroken units → (class : ℕ) → base_of units class ≡ None →
     slots units class ≡ own_slots units class
 slots_one units u class e =
     ap (λ xs. flat_map (own_slots units) (reverse xs)) (lineage_one units u class e)
-        ∙ append-nil (own_slots units class)
+    ∙ append-nil (own_slots units class)
 
 pub names_once : (units : List KitUnits) → Unbroken units → AllFree units → (class : ℕ) → NamesOnce (slots units class)
 names_once units u free class =
@@ -220,8 +221,12 @@ names_once units u free class =
     (λ c. NamesOnce (slots units c))
     units
     u
-    (λ c e name. omega (arith, ap (count_by (λ s. bytes_eq s.name name))
-        (slots_one units u c e), own_once units free c name))
+    (λ c e name. omega (
+      arith,
+      ap (count_by (λ s. bytes_eq s.name name))
+          (slots_one units u c e),
+      own_once units free c name,
+    ))
     (λ c b e p name. step c b e name (p name))
     class
   where
@@ -230,8 +235,8 @@ names_once units u free class =
         count_by (λ s. bytes_eq s.name name) (slots units c) ≤ 1
     step c b e name p =
         let whole : count_by (λ s. bytes_eq s.name name) (slots units c)
-            ≡ count_by (λ s. bytes_eq s.name name) (slots units b) + count_by (λ s. bytes_eq s.name name)
-            (own_slots units c) =
+        ≡ count_by (λ s. bytes_eq s.name name) (slots units b) + count_by (λ s. bytes_eq s.name name)
+        (own_slots units c) =
         ap (count_by (λ s. bytes_eq s.name name)) (slots_begin units u c b e)
         ∙ sum_by-append (λ s. weight (bytes_eq s.name name)) (slots units b) (own_slots units c) in
         counted_or_not
@@ -243,7 +248,7 @@ names_once units u free class =
         (count_by (λ s. bytes_eq s.name name) (slots units c) ≤ 1)
         (λ k.
         let above : list_any (declares units name) (lineage units b)
-            ≡ true = up_declared units free name (lineage units b) k in
+        ≡ true = up_declared units free name (lineage units b) k in
         let none : list_any (declares units name) (lineage units b) ≡ false =
         ap (list_any (declares units name)) (sym (bases_cons units u c b e)) ∙ own_new units free c name n in
         let no : false ≡ true = sym none ∙ above in
@@ -267,19 +272,19 @@ pub own_in_step : (units : List KitUnits) → Unbroken units → AllFree units �
     InStep (length front) (own_slots units class) (own_typed units class)
 own_in_step units u free class front e =
     in_step_from units (number units class) class front (members_of units class) (entries units free
-        (number units class) class) e (names_once units u free class)
+    (number units class) class) e (names_once units u free class)
 
 fields_cons : (units : List KitUnits) → Unbroken units → (class base : ℕ) → base_of units class ≡ Some base →
     up_fields units class ≡ up_fields units base ++ own_typed units class
 fields_cons units u class base e =
     ap (λ xs. flat_map (own_typed units) (reverse xs)) (lineage_cons units u class base e)
-        ∙ up_cons (own_typed units) class (lineage units base)
+    ∙ up_cons (own_typed units) class (lineage units base)
 
 fields_one : (units : List KitUnits) → Unbroken units → (class : ℕ) → base_of units class ≡ None →
     up_fields units class ≡ own_typed units class
 fields_one units u class e =
     ap (λ xs. flat_map (own_typed units) (reverse xs)) (lineage_one units u class e)
-        ∙ append-nil (own_typed units class)
+    ∙ append-nil (own_typed units class)
 
 widened : (low high above : ℕ) (fields : List Field) → high ≤ above → All (SlotFrom low high) fields →
     All (SlotFrom 0 above) fields
@@ -293,16 +298,23 @@ widened low high above fields le h i d k = one (slice_index_or fields i d).slot 
 -- one of both lists has it, and the other nothing
 slotted_front : (xs ys : List Field) (n : ℕ) (s : SlotInfo) (x : SlotForm) → filter (in_slot n) ys ≡ [] →
     Slotted xs n s x → Slotted (xs ++ ys) n s x
-slotted_front xs ys n s (Prop t) e h =
-    (h.0, filter-append (in_slot n) xs ys ∙ ap (λ r. filter (in_slot n) xs
-        ++ r) e ∙ append-nil (filter (in_slot n) xs) ∙ h.1, h.2)
+slotted_front xs ys n s (Prop t) e h = (
+  h.0,
+  filter-append (in_slot n) xs ys ∙ ap (λ r. filter (in_slot n) xs
+      ++ r) e ∙ append-nil (filter (in_slot n) xs) ∙ h.1,
+  h.2,
+)
 slotted_front xs ys n s (Action a) e h =
     filter-append (in_slot n) xs ys ∙ ap (λ r. filter (in_slot n) xs ++ r) e ∙ append-nil (filter (in_slot n) xs) ∙ h
 
 slotted_back : (xs ys : List Field) (n : ℕ) (s : SlotInfo) (x : SlotForm) → filter (in_slot n) xs ≡ [] →
     Slotted ys n s x → Slotted (xs ++ ys) n s x
-slotted_back xs ys n s (Prop t) e h = (h.0, filter-append (in_slot n) xs ys ∙ ap (λ r. r
-    ++ filter (in_slot n) ys) e ∙ h.1, h.2)
+slotted_back xs ys n s (Prop t) e h = (
+  h.0,
+  filter-append (in_slot n) xs ys ∙ ap (λ r. r
+      ++ filter (in_slot n) ys) e ∙ h.1,
+  h.2,
+)
 slotted_back xs ys n s (Action a) e h = filter-append (in_slot n) xs ys ∙ ap (λ r. r ++ filter (in_slot n) ys) e ∙ h
 
 pub get_left : {X : Type 0} (xs ys : List X) (k : ℕ) → k < length xs → slice_get (xs ++ ys) k ≡ slice_get xs k
@@ -320,9 +332,12 @@ laid_one : (units : List KitUnits) → Unbroken units → AllFree units → (cla
     Laid units class
 laid_one units u free class e =
     let own : InStep 0 (own_slots units class) (own_typed units class) = own_in_step units u free class []
-        (slots_one units u class e) in
-    let same : 0 + length (own_slots units class) ≡ length (slots units class) = omega (arith, ap length
-        (slots_one units u class e)) in
+    (slots_one units u class e) in
+    let same : 0 + length (own_slots units class) ≡ length (slots units class) = omega (
+      arith,
+      ap length
+          (slots_one units u class e),
+    ) in
     record {
       each = λ n s g.
           let zeroth : 0 + n ≡ n = omega arith in
@@ -338,7 +353,7 @@ laid_one units u free class e =
           (All (SlotFrom 0 (length (slots units class))))
           (sym (fields_one units u class e))
           (widened 0 (0 + length (own_slots units class)) (length (slots units class)) (own_typed units class) (omega
-              (arith, same)) own.within);
+          (arith, same)) own.within);
     }
 
 laid_cons : (units : List KitUnits) → Unbroken units → AllFree units → (class base : ℕ) →
@@ -354,7 +369,7 @@ laid_cons units u free class base e below = record {
       (up_fields units base)
       (own_typed units class)
       (widened 0 (length (slots units base)) (length (slots units class)) (up_fields units base) (omega
-          (arith, len)) below.within)
+      (arith, len)) below.within)
       (widened
       (length (slots units base))
       (length (slots units base) + length (own_slots units class))
@@ -388,9 +403,9 @@ laid_cons units u free class base e below = record {
         s
         s.form
         (none_below n (length (slots units base)) (length (slots units base) + length (own_slots units class))
-            (own_typed units class) l own.within)
+        (own_typed units class) l own.within)
         (below.each n s (sym (get_left (slots units base) (own_slots units class) n l)
-            ∙ sym (ap (λ xs. slice_get xs n) whole) ∙ g)))
+        ∙ sym (ap (λ xs. slice_get xs n) whole) ∙ g)))
     by_test n s g false t =
         let le : length (slots units base) ≤ n = grind (arith, nat_tests) in
         let at : n ≡ length (slots units base) + (n - length (slots units base)) = omega (arith, le) in
@@ -410,7 +425,7 @@ laid_cons units u free class base e below = record {
         s.form
         (none_above n 0 (length (slots units base)) (up_fields units base) le below.within)
         (subst (λ k. Slotted (own_typed units class) k s s.form) (sym at) (own.each (n - length
-            (slots units base)) s found)))
+        (slots units base)) s found)))
 
 pub laid : (units : List KitUnits) → Unbroken units → AllFree units → (class : ℕ) → Laid units class
 laid units u free class =
@@ -456,4 +471,4 @@ slots_below units u free class =
         (λ k.
         ap (list_any (λ x. x == component_class)) (lineage_cons units u c b e)
         ∙ or_right (c == component_class) (list_any (λ x. x == component_class) (lineage units b)) (p (omega
-            (arith, len, n, k))))
+        (arith, len, n, k))))
