@@ -48,9 +48,9 @@ use Rattle.sed_outlined.proofs.Named.{bytes_same}
 
 action_words : (a d s i : Bool) → (p : Bool) → a ≡ true →
     (nat_lt 1 ((if p then 1 else 0) + (if a then 1 else 0) + (if d then 1 else 0) + (if s then 1 else 0) + (if i then 1
-        else 0))
+    else 0))
     && not (s && i && (((if p then 1 else 0) + (if a then 1 else 0) + (if d then 1 else 0) + (if s then 1
-        else 0) + (if i then 1 else 0)) == 2))) ≡ false →
+    else 0) + (if i then 1 else 0)) == 2))) ≡ false →
     s ≡ false
 action_words false d s i p q e = cc
 action_words true d false i p q e = refl
@@ -75,7 +75,7 @@ one_unwrapped (x ∷ z ∷ zs) y e = cc
 module _ (units : List KitUnits) (class : ℕ) (d : Declaration) (free : declaration_faults units class d
     ≡ []) (kit : kit_of units class ≡ d.kit)
     (i : ℕ) (m : Member) (at : slice_get d.class.members i ≡ Some m) (a : is_action m ≡ true) (method : is_method m
-        ≡ true) where
+    ≡ true) where
   wrong_not : is_wrong_action units d.kit m ≡ false
   wrong_not = second_of (is_slot_elsewhere units class m || is_wrong_property units d.kit m)
       (is_wrong_action units d.kit m) (slot_so units class d free kit i m at)
@@ -97,7 +97,7 @@ module _ (units : List KitUnits) (class : ℕ) (d : Declaration) (free : declara
       (has_word word.Property m.modifiers)
       a
       (first_of (nat_lt 1 (exclusive_count m) && not (is_static_inline m)) (is_method m && has_no_method_words m)
-          (words_so units class d free kit i m at))
+      (words_so units class d free kit i m at))
 
   open_so : (is_open m || overrides m) ≡ true
   open_so =
@@ -116,7 +116,7 @@ module _ (units : List KitUnits) (class : ℕ) (d : Declaration) (free : declara
       (type_of units d.kit m.kind)
       (type_known units d.kit m.kind (member_typed units class d free i m at))
       (first_of (is_no_answer (type_of units d.kit m.kind)) (are_no_arguments units d.kit
-          (form_params m.form)) no_action_not)
+      (form_params m.form)) no_action_not)
     where
       by_type : (t : SourceType) → is_unknown t ≡ false → is_no_answer t ≡ false →
           result_of_type units t ≡ Some kind.Void
@@ -133,7 +133,7 @@ module _ (units : List KitUnits) (class : ℕ) (d : Declaration) (free : declara
   one_kind : (q : Param) → type_without_class units d.kit q.kind ≡ [] →
       is_no_argument (type_of units d.kit q.kind) ≡ false →
       (k : Kind) × (param_kind units d.kit q ≡ Some k) × (argument_kinds (argument_of (type_of units d.kit q.kind))
-          ≡ k ∷ [])
+      ≡ k ∷ [])
   one_kind q known e = by_type (type_of units d.kit q.kind) (type_known units d.kit q.kind known) e
     where
       by_type : (t : SourceType) → is_unknown t ≡ false → is_no_argument t ≡ false →
@@ -159,7 +159,7 @@ module _ (units : List KitUnits) (class : ℕ) (d : Declaration) (free : declara
       (form_params m.form)
       (params_none units class d free i m at)
       (second_of (is_no_answer (type_of units d.kit m.kind)) (are_no_arguments units d.kit
-          (form_params m.form)) no_action_not)
+      (form_params m.form)) no_action_not)
       e
     where
       by_params : (ps : List Param) → said_from (param_faults units d.kit) 0 ps ≡ [] →
@@ -168,7 +168,7 @@ module _ (units : List KitUnits) (class : ℕ) (d : Declaration) (free : declara
       by_params [] f g h = none_unwrapped ks h
       by_params (q ∷ []) f g h =
           let first : param_faults units d.kit 0 q ≡ [] = none_numbered (param_faults units d.kit)
-              (q ∷ []) 0 q f refl in
+          (q ∷ []) 0 q f refl in
           let known : type_without_class units d.kit q.kind ≡ [] =
           none_left
           (type_without_class units d.kit q.kind)
@@ -177,24 +177,26 @@ module _ (units : List KitUnits) (class : ℕ) (d : Declaration) (free : declara
           (type_without_class units d.kit q.kind ++ param_not_fit units d.kit q)
           (too_many_params 0 q)
           (none_left (type_without_class units d.kit q.kind ++ param_not_fit units d.kit q
-              ++ too_many_params 0 q) (too_long_in_param q) first)) in
+          ++ too_many_params 0 q) (too_long_in_param q) first)) in
           let one = one_kind q known g in
           one_unwrapped ks one.0 (h ∙ ap (λ o. o ∷ []) one.1) ∙ sym one.2
       by_params (q ∷ r ∷ ps) f g h = cc
 
   -- the method of an action is one
-  pub action_is : (n : ℕ) (x : Method) → IsHead units (record { class = n; owned = owned class
-      (kit_of units class) m }) x →
+  pub action_is : (n : ℕ) (x : Method) → IsHead units (record {
+    class = n;
+    owned = owned class
+        (kit_of units class) m;
+  }) x →
       IsAction (action_argument units (kit_of units class) (form_params m.form)) x
   action_is n x h =
       let answer : Some x.result ≡ Some kind.Void = h.result ∙ ap (λ k. result_kind units k m) kit ∙ answer_void in
-      let void : x.result ≡ kind.Void = cc in
-      (
+      let void : x.result ≡ kind.Void = cc in (
         h.static ∙ static_not,
         h.virtual ∙ open_so,
         void,
         params_are x.params (h.params ∙ ap (λ k. map (param_kind units k) (form_params m.form)) kit)
-        ∙ ap (λ k. argument_kinds (action_argument units k (form_params m.form))) (sym kit)
+            ∙ ap (λ k. argument_kinds (action_argument units k (form_params m.form))) (sym kit),
       )
 
 -- ---- what overrides an action is one
@@ -206,7 +208,7 @@ action_kept a x y o i = (o.instance, o.virtual, o.result ∙ i.2, o.params ∙ i
 pub overriding : (program : Program) (k base : ℕ) → HasMembers program k →
     typed.base_of program.schema.classes k ≡ Some base →
     (name : List ℕ) (n j : ℕ) (y : Method) → typed.declared_method program.methods name k ≡ Some n →
-        typed.find program base name ≡ Some j →
+    typed.find program base name ≡ Some j →
     slice_get program.methods j ≡ Some y → (x : Method) × (slice_get program.methods n ≡ Some x) × Overrides x y
 overriding program k base members b name n j y e f g =
     let found = position_at (λ (m : Method). (m.class.0 == k) && bytes_eq m.name name) program.methods n e in
@@ -215,10 +217,10 @@ overriding program k base members b name n j y e f g =
     let class : x.class.0 ≡ k = is_same x.class.0 k so.0 in
     let named : x.name ≡ name = bytes_same x.name name so.1 in
     let all : IfSome (typed.base_of program.schema.classes k) (λ c. IfSome (typed.find program c x.name) (λ m. IfSome
-        (slice_get program.methods m) (Overrides x))) =
+    (slice_get program.methods m) (Overrides x))) =
     all_at
     (λ (m : Method). m.class.0 ≡ k → IfSome (typed.base_of program.schema.classes k) (λ c. IfSome
-        (typed.find program c m.name) (λ q. IfSome (slice_get program.methods q) (Overrides m))))
+    (typed.find program c m.name) (λ q. IfSome (slice_get program.methods q) (Overrides m))))
     program.methods
     n
     x
@@ -227,10 +229,10 @@ overriding program k base members b name n j y e f g =
     class in
     let one : IfSome (typed.find program base x.name) (λ m. IfSome (slice_get program.methods m) (Overrides x)) =
     subst (λ o. IfSome o (λ c. IfSome (typed.find program c x.name) (λ m. IfSome (slice_get program.methods m)
-        (Overrides x)))) b all in
+    (Overrides x)))) b all in
     let two : IfSome (slice_get program.methods j) (Overrides x) =
     subst (λ o. IfSome o (λ m. IfSome (slice_get program.methods m) (Overrides x))) (ap (typed.find program base) named
-        ∙ f) one in
+    ∙ f) one in
     (x, found.1, subst (λ o. IfSome o (Overrides x)) g two)
   where
     both : (p q : Bool) → (p && q) ≡ true → (p ≡ true) × (q ≡ true)

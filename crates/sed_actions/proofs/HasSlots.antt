@@ -69,7 +69,7 @@ module _ (units : List KitUnits) (u : Unbroken units) (program : Program) (s : p
 
   find_class : (class : ℕ) (name : List ℕ) → class < places units →
       typed.find program (number units class) name ≡ typed.first_found (look name) (map (number units)
-          (lineage units class))
+      (lineage units class))
   find_class class name h = find_is (number units class) class name (place_is units u class h)
 
   find_here : (class : ℕ) (name : List ℕ) (n : ℕ) → class < places units → look name (number units class) ≡ Some n →
@@ -117,20 +117,20 @@ module _ (units : List KitUnits) (u : Unbroken units) (program : Program) (s : p
 
   runs_parts : (k : ℕ) (name : List ℕ) (a : ActionArg) → Runs k name a →
       (n : ℕ) × (x : Method) × (typed.find program k name ≡ Some n) × (slice_get program.methods n
-          ≡ Some x) × IsAction a x
+      ≡ Some x) × IsAction a x
   runs_parts k name a r = by_find (typed.find program k name) refl r
     where
       by_method : (n : ℕ) (o : Option Method) → typed.find program k name ≡ Some n → slice_get program.methods n ≡ o →
           IsSomeAnd o (IsAction a) →
           (n : ℕ) × (x : Method) × (typed.find program k name ≡ Some n) × (slice_get program.methods n
-              ≡ Some x) × IsAction a x
+          ≡ Some x) × IsAction a x
       by_method n None e g q = absurd q
       by_method n (Some x) e g q = (n, x, e, g, q)
 
       by_find : (o : Option ℕ) → typed.find program k name ≡ o →
           IsSomeAnd o (λ m. IsSomeAnd (slice_get program.methods m) (IsAction a)) →
           (n : ℕ) × (x : Method) × (typed.find program k name ≡ Some n) × (slice_get program.methods n
-              ≡ Some x) × IsAction a x
+          ≡ Some x) × IsAction a x
       by_find None e q = absurd q
       by_find (Some n) e q = by_method n (slice_get program.methods n) e refl q
 
@@ -140,14 +140,14 @@ module _ (units : List KitUnits) (u : Unbroken units) (program : Program) (s : p
     own_action : (class i : ℕ) (x : SlotInfo) (a : ActionArg) → class < places units →
         slice_get (own_slots units class) i ≡ Some x → x.form ≡ Action a →
         (n : ℕ) × (y : Method) × (look x.name (number units class) ≡ Some n) × (slice_get program.methods n
-            ≡ Some y) × IsAction a y × (x.config ≡ false)
+        ≡ Some y) × IsAction a y × (x.config ≡ false)
     own_action class i x a h e form =
         let by : AddedBy units class x = added_by units free class i x e in
         by_entry by (entries units free (number units class) class by.place by.member by.at)
       where
         by_entry : (by : AddedBy units class x) → Entry units (number units class) class by.member →
             (n : ℕ) × (y : Method) × (look x.name (number units class) ≡ Some n) × (slice_get program.methods n
-                ≡ Some y) × IsAction a y × (x.config ≡ false)
+            ≡ Some y) × IsAction a y × (x.config ≡ false)
         by_entry by (property y t fd slot yform name field is place p) =
             let some : Some y ≡ Some x = sym slot ∙ by.slot in
             let same : y ≡ x = cc in
@@ -161,17 +161,16 @@ module _ (units : List KitUnits) (u : Unbroken units) (program : Program) (s : p
             sym yform ∙ ap (λ (z : SlotInfo). z.form) same ∙ form in
             let argument : action_argument units (kit_of units class) (form_params by.member.form) ≡ a = cc in
             let r = declares_at units class by.place by.member by.at in
-            let head : HasHead units program class by.member = heads.declared class by.place by.member h by.at method in
-            (
+            let head : HasHead units program class by.member = heads.declared class by.place by.member h by.at method in (
               head.place,
               head.method,
               ap (λ n. look n (number units class)) by.named ∙ head.named,
               head.at,
               subst
-              (λ q. IsAction q head.method)
-              argument
-              (action_is units class r.declared (free class r.declared r.there) r.kit by.place by.member r.at acts method (number units class) head.method head.head),
-              sym (ap (λ (z : SlotInfo). z.config) same) ∙ config
+                  (λ q. IsAction q head.method)
+                  argument
+                  (action_is units class r.declared (free class r.declared r.there) r.kit by.place by.member r.at acts method (number units class) head.method head.head),
+              sym (ap (λ (z : SlotInfo). z.config) same) ∙ config,
             )
 
     abbrev AllRun : ℕ → Type 0
@@ -198,7 +197,7 @@ module _ (units : List KitUnits) (u : Unbroken units) (program : Program) (s : p
         by_look : (o : Option ℕ) → look x.name (number units class) ≡ o → Runs (number units class) x.name a
         by_look None e =
             runs_from (number units class) x.name a below.0 below.1 (find_base class base x.name h b e
-                ∙ below.2) below.3 below.4
+            ∙ below.2) below.3 below.4
         by_look (Some n) e =
             let over = overriding
             program
@@ -206,7 +205,7 @@ module _ (units : List KitUnits) (u : Unbroken units) (program : Program) (s : p
             (number units base)
             (members (number units class) (omega (arith, number_in units u class h, ap length classes_are, infos_len units u)))
             (ap (λ cs. typed.base_of cs (number units class)) classes_are
-                ∙ base_some units u (number units class) class base (place_is units u class h) b)
+            ∙ base_some units u (number units class) class base (place_is units u class h) b)
             x.name
             n
             below.0
@@ -215,7 +214,7 @@ module _ (units : List KitUnits) (u : Unbroken units) (program : Program) (s : p
             below.2
             below.3 in
             runs_from (number units class) x.name a n over.0 (find_here class x.name n h e) over.1
-                (action_kept a over.0 below.1 over.2 below.4)
+            (action_kept a over.0 below.1 over.2 below.4)
 
     all_run : (class : ℕ) → AllRun class
     all_run class =
@@ -234,7 +233,7 @@ module _ (units : List KitUnits) (u : Unbroken units) (program : Program) (s : p
             let l : n < length (slots units b) = grind (arith, nat_tests) in
             let at : slice_get (slots units b) n ≡ Some x =
             sym (get_left (slots units b) (own_slots units c) n l)
-                ∙ sym (ap (λ xs. slice_get xs n) (slots_begin units u c b e)) ∙ g in
+            ∙ sym (ap (λ xs. slice_get xs n) (slots_begin units u c b e)) ∙ g in
             let r = p (base_within units c b e) n x a at form in
             (base_run c b x a h e r.0, r.1)
         step c b e p h n x a g form false t =
@@ -288,39 +287,38 @@ module _ (units : List KitUnits) (u : Unbroken units) (program : Program) (s : p
           by_base : (o : Option ℕ) → base_of units class ≡ o → added_slots (class_infos units) k ≡ own_slots units class
           by_base None b =
               ap (λ q. drop (option_map_or (λ base. length (typed.slots (class_infos units) base)) q 0) (typed.slots
-                  (class_infos units) k)) (base_none units u k class e b)
+              (class_infos units) k)) (base_none units u k class e b)
               ∙ slots_at units u k class d e there
               ∙ slots_one units u class b
           by_base (Some base) b =
               let found = class_there units base (base_within units class base b) in
               ap (λ q. drop (option_map_or (λ c. length (typed.slots (class_infos units) c)) q 0) (typed.slots
-                  (class_infos units) k)) (base_some units u k class base e b)
+              (class_infos units) k)) (base_some units u k class base e b)
               ∙ ap (λ xs. drop (length (typed.slots (class_infos units) (number units base))) xs)
-                  (slots_at units u k class d e there ∙ slots_begin units u class base b)
+              (slots_at units u k class d e there ∙ slots_begin units u class base b)
               ∙ ap (λ xs. drop (length xs) (slots units base
-                  ++ own_slots units class)) (slots_at units u (number units base) base found.0 (place_is units u base
-                  (base_within units class base b)) found.1)
+              ++ own_slots units class)) (slots_at units u (number units base) base found.0 (place_is units u base
+              (base_within units class base b)) found.1)
               ∙ dropped (slots units base) (own_slots units class)
 
       new_method : (i : ℕ) (x : SlotInfo) (a : ActionArg) → slice_get (own_slots units class) i ≡ Some x →
           x.form ≡ Action a → IsNewMethod program k x.name
       new_method i x a g form =
-          let own = own_action class i x a within g form in
-          (
+          let own = own_action class i x a within g form in (
             subst IsSome (sym (ap (look x.name) (sym numbered) ∙ own.2)) refl,
-            by_base (base_of units class) refl
+            by_base (base_of units class) refl,
           )
         where
           by_base : (o : Option ℕ) → base_of units class ≡ o →
               IfSome (typed.base_of program.schema.classes k) (λ base. typed.find program base x.name ≡ None)
           by_base None b =
               subst (λ o. IfSome o (λ base. typed.find program base x.name
-                  ≡ None)) (sym (ap (λ cs. typed.base_of cs k) classes_are ∙ base_none units u k class e b)) tt
+              ≡ None)) (sym (ap (λ cs. typed.base_of cs k) classes_are ∙ base_none units u k class e b)) tt
           by_base (Some base) b =
               let h : base < places units = base_within units class base b in
               let none : list_any (declares units x.name) (lineage units base) ≡ false =
               ap (list_any (declares units x.name)) (sym (bases_cons units u class base b))
-                  ∙ own_new_name units free class i x g in
+              ∙ own_new_name units free class i x g in
               subst
               (λ o. IfSome o (λ c. typed.find program c x.name ≡ None))
               (sym (ap (λ cs. typed.base_of cs k) classes_are ∙ base_some units u k class base e b))
@@ -332,7 +330,7 @@ module _ (units : List KitUnits) (u : Unbroken units) (program : Program) (s : p
               (lineage units base)
               (λ c q. let same : base ≡ c = cc in omega (arith, same, h))
               (subst (Leads (base_of units) (Some base)) (sym (lineage_first units u base))
-                  (refl, bases_lead units u base))
+              (refl, bases_lead units u base))
               none)
 
       is_added : (i : ℕ) (x : SlotInfo) (form : SlotForm) → slice_get (own_slots units class) i ≡ Some x →
@@ -360,8 +358,11 @@ module _ (units : List KitUnits) (u : Unbroken units) (program : Program) (s : p
           by_base : (o : Option ℕ) → base_of units class ≡ o →
               (low : ℕ) × InStep low (own_slots units class) (own_typed units class)
           by_base None b = (0, own_in_step units u free class [] (slots_one units u class b))
-          by_base (Some base) b = (length (slots units base), own_in_step units u free class (slots units base)
-              (slots_begin units u class base b))
+          by_base (Some base) b = (
+            length (slots units base),
+            own_in_step units u free class (slots units base)
+                (slots_begin units u class base b),
+          )
 
       rising_at : (low : ℕ) (xs : List ℕ) → Rising low xs → (i : ℕ) → i + 1 < length xs →
           get_or xs i 0 < get_or xs (i + 1) 0
@@ -371,7 +372,7 @@ module _ (units : List KitUnits) (u : Unbroken units) (program : Program) (s : p
       rising_at low (x ∷ y ∷ ys) r (suc i) h =
           let same : suc i + 1 ≡ suc (i + 1) = omega arith in
           subst (λ j. get_or (y ∷ ys) i 0 < get_or (x ∷ y ∷ ys) j 0) (sym same) (rising_at (suc x) (y ∷ ys) r.1 i
-              (omega (arith, h)))
+          (omega (arith, h)))
 
       own_fields_are : typed.declared_fields program.fields k ≡ own_typed units class
       own_fields_are =
@@ -403,7 +404,7 @@ module _ (units : List KitUnits) (u : Unbroken units) (program : Program) (s : p
             (All (λ (x : Field). IfSome x.slot (λ (y : SlotNo). y.0 < length (slots units class))))
             (sym fields_are)
             (λ i x h. low_only (length (slots units class)) (slice_index_or (up_fields units class) i x).slot
-                ((laid units u free class).within i x h));
+            ((laid units u free class).within i x h));
       }
 
     pub has_slots : (k : ℕ) → IfSome (slice_get program.schema.classes k) (HasSlots program k)

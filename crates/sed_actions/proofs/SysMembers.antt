@@ -117,8 +117,10 @@ unfolding all_classes
 meta_so units n all e g = ap (λ xs. meta_at units n xs) (e ∙ g)
   where
     meta_at : List KitUnits → ℕ → List SlotInfo → List Field
-    meta_at us k xs = record (meta_field k) { slot = option_map slot_no (position (λ s. bytes_eq s.name
-        (codes "meta")) xs) } ∷ []
+    meta_at us k xs = record (meta_field k) {
+      slot = option_map slot_no (position (λ s. bytes_eq s.name
+          (codes "meta")) xs);
+    } ∷ []
 
 none_of : (units : List KitUnits) (own : ℕ → List Member) (k class : ℕ) → place_of units k ≡ Some class →
     own class ≡ [] → typed.declared_fields (all_fields units own) k ≡ []
@@ -137,13 +139,16 @@ AreBoth units es ms = ⊥
 
 both_from : (units : List KitUnits) (es : List MethodAt) (ms : List Method) → AreHeads units es ms →
     ((i : ℕ) (e : MethodAt) (m : Method) → slice_get es i ≡ Some e → slice_get ms i ≡ Some m →
-        form_body e.owned.member.form ≡ Some [] → IsEmptyBody m.body) →
+    form_body e.owned.member.form ≡ Some [] → IsEmptyBody m.body) →
     AreBoth units es ms
 both_from units [] [] h g = tt
 both_from units [] (m ∷ ms) h g = absurd h
 both_from units (e ∷ es) [] h g = absurd h
-both_from units (e ∷ es) (m ∷ ms) h g = ((h.0, g 0 e m refl refl), both_from units es ms h.1 (λ i x y p q r. g
-    (suc i) x y p q r))
+both_from units (e ∷ es) (m ∷ ms) h g = (
+  (h.0, g 0 e m refl refl),
+  both_from units es ms h.1 (λ i x y p q r. g
+      (suc i) x y p q r),
+)
 
 abbrev of_number : ℕ → MethodAt → Bool
 of_number k e = e.class == k
@@ -159,13 +164,13 @@ both_kept units k (e ∷ es) [] h = absurd h
 both_kept units k (e ∷ es) (m ∷ ms) h =
     subst
     (λ b. AreBoth units (filter (of_number k) (e ∷ es)) (if b then m ∷ filter (of_class k) ms
-        else filter (of_class k) ms))
+    else filter (of_class k) ms))
     (sym (ap (λ (t : TypeNo). t.0 == k) h.0.0.class))
     (by_test (of_number k e) (both_kept units k es ms h.1))
   where
     by_test : (b : Bool) → AreBoth units (filter (of_number k) es) (filter (of_class k) ms) →
         AreBoth units (if b then e ∷ filter (of_number k) es
-            else filter (of_number k) es) (if b then m ∷ filter (of_class k) ms else filter (of_class k) ms)
+        else filter (of_number k) es) (if b then m ∷ filter (of_class k) ms else filter (of_class k) ms)
     by_test true rest = (h.0, rest)
     by_test false rest = rest
 
@@ -179,7 +184,7 @@ same_kept : (units : List KitUnits) (n class : ℕ) (ms : List Member) →
 same_kept units n class [] = refl
 same_kept units n class (m ∷ ms) =
     ap (λ b. if b then at_class units n class m ∷ filter (of_number n) (map (at_class units n class) ms)
-        else filter (of_number n) (map (at_class units n class) ms)) (is_itself n)
+    else filter (of_number n) (map (at_class units n class) ms)) (is_itself n)
     ∙ ap (λ r. at_class units n class m ∷ r) (same_kept units n class ms)
 
 other_kept : (units : List KitUnits) (k n class : ℕ) → (n == k) ≡ false → (ms : List Member) →
@@ -187,7 +192,7 @@ other_kept : (units : List KitUnits) (k n class : ℕ) → (n == k) ≡ false �
 other_kept units k n class e [] = refl
 other_kept units k n class e (m ∷ ms) =
     ap (λ b. if b then at_class units n class m ∷ filter (of_number k) (map (at_class units n class) ms)
-        else filter (of_number k) (map (at_class units n class) ms)) e
+    else filter (of_number k) (map (at_class units n class) ms)) e
     ∙ other_kept units k n class e ms
 
 none_later : (units : List KitUnits) (n a : ℕ) (xs : List ℕ) → n < a →
@@ -197,7 +202,7 @@ none_later units n a (x ∷ xs) h =
     let no_one : (a == n) ≡ false = grind (arith, nat_tests) in
     filter-append (of_number n) (methods_in units (a, x)) (flat_map (methods_in units) (enumerate_from (a + 1) xs))
     ∙ ap (λ r. r ++ filter (of_number n) (flat_map (methods_in units) (enumerate_from (a + 1) xs)))
-        (other_kept units n a x no_one (own_methods units x))
+    (other_kept units n a x no_one (own_methods units x))
     ∙ none_later units n (a + 1) xs (omega (arith, h))
 
 found_methods : (units : List KitUnits) (a k class : ℕ) (xs : List ℕ) → slice_get xs k ≡ Some class →
@@ -217,7 +222,7 @@ found_methods units a (suc k) class (x ∷ xs) e =
     let further : a + suc k ≡ a + 1 + k = omega arith in
     let no_one : (a == a + suc k) ≡ false = grind (arith, nat_tests) in
     filter-append (of_number (a + suc k)) (methods_in units (a, x)) (flat_map (methods_in units) (enumerate_from
-        (a + 1) xs))
+    (a + 1) xs))
     ∙ ap
     (λ r. r ++ filter (of_number (a + suc k)) (flat_map (methods_in units) (enumerate_from (a + 1) xs)))
     (other_kept units (a + suc k) a x no_one (own_methods units x))
@@ -278,18 +283,22 @@ suits_sys : (units : List KitUnits) (n : ℕ) →
     × AllSuit units (sys_methods 3) (methods_in units (n, 3))
     × AllSuit units (sys_methods 4) (methods_in units (n, 4))
 unfolding all_classes
-suits_sys units n =
+suits_sys units n = (
+  tt,
+  tt,
+  (
+    (refl, refl, refl, refl, refl, refl),
     (
-      tt,
-      tt,
+      (refl, refl, refl, refl, refl, refl),
       (
         (refl, refl, refl, refl, refl, refl),
-        ((refl, refl, refl, refl, refl, refl), ((refl, refl, refl, refl, refl, refl),
-            ((refl, refl, refl, refl, refl, refl), tt)))
+        ((refl, refl, refl, refl, refl, refl), tt),
       ),
-      ((refl, refl, refl, refl, refl, refl), tt),
-      tt
-    )
+    ),
+  ),
+  ((refl, refl, refl, refl, refl, refl), tt),
+  tt,
+)
 
 -- the types of `sys` are numbered by their places
 number_0 : (units : List KitUnits) (d : Declaration) → class_at units 0 ≡ Some d → d.number ≡ 0
@@ -336,7 +345,7 @@ module _ (units : List KitUnits) (u : Unbroken units) (program : Program) (f : p
       (λ es. AreBoth units es (typed.declared_methods program.methods k))
       found
       (both_kept units k (methods_of units) program.methods (both_from units
-          (methods_of units) program.methods heads empty.empty)))
+      (methods_of units) program.methods heads empty.empty)))
 
   -- the members of a class by its number in `sys`
   abbrev Members : ℕ → ℕ → Type 0
@@ -354,22 +363,37 @@ module _ (units : List KitUnits) (u : Unbroken units) (program : Program) (f : p
   fieldless k class e none = ap (λ fs. typed.declared_fields fs k) f ∙ none_of units (own_fields units) k class e none
 
   members_so : (k class : ℕ) → class < 5 → place_of units k ≡ Some class → Members k class
-  members_so k zero h e = (fieldless k 0 e (sys_plain units).0, without k 0 e
-      (sys_statics units).0, methods_are k 0 0 e (suits_sys units k).0)
-  members_so k (suc zero) h e = (fieldless k 1 e (sys_plain units).1, without k 1 e
-      (sys_statics units).1, methods_are k 1 1 e (suits_sys units k).1)
-  members_so k (suc (suc zero)) h e =
-      (
-        ap (λ fs. typed.declared_fields fs k) f
+  members_so k zero h e = (
+    fieldless k 0 e (sys_plain units).0,
+    without k 0 e
+        (sys_statics units).0,
+    methods_are k 0 0 e (suits_sys units k).0,
+  )
+  members_so k (suc zero) h e = (
+    fieldless k 1 e (sys_plain units).1,
+    without k 1 e
+        (sys_statics units).1,
+    methods_are k 1 1 e (suits_sys units k).1,
+  )
+  members_so k (suc (suc zero)) h e = (
+    ap (λ fs. typed.declared_fields fs k) f
         ∙ declared_in_class units (own_fields units) k 2 e
         ∙ meta_so units k (slots units 2) refl (slots_2 units u),
-        without k 2 e (sys_statics units).2,
-        methods_are k 2 2 e (suits_sys units k).2
-      )
-  members_so k (suc (suc (suc zero))) h e = (fieldless k 3 e (sys_plain units).2, without k 3 e
-      (sys_statics units).3, methods_are k 3 3 e (suits_sys units k).3)
-  members_so k (suc (suc (suc (suc zero)))) h e = (fieldless k 4 e (sys_plain units).3, without k 4 e
-      (sys_statics units).4, methods_are k 4 4 e (suits_sys units k).4)
+    without k 2 e (sys_statics units).2,
+    methods_are k 2 2 e (suits_sys units k).2,
+  )
+  members_so k (suc (suc (suc zero))) h e = (
+    fieldless k 3 e (sys_plain units).2,
+    without k 3 e
+        (sys_statics units).3,
+    methods_are k 3 3 e (suits_sys units k).3,
+  )
+  members_so k (suc (suc (suc (suc zero)))) h e = (
+    fieldless k 4 e (sys_plain units).3,
+    without k 4 e
+        (sys_statics units).4,
+    methods_are k 4 4 e (suits_sys units k).4,
+  )
   members_so k (suc (suc (suc (suc (suc c))))) h e = absurd (omega (arith, h))
 
   sys_number : (class : ℕ) (d : Declaration) → class_at units class ≡ Some d → class < 5 → d.number ≡ class

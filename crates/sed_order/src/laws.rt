@@ -28,5 +28,5 @@ pub fn fields_stand_by_class()
     ensures { (units : List KitUnits) (program : Program) → Unbroken units → program.schema ≡ schema_of units
         → program.fields ≡ fields_of units
         → flat_map (declared_fields program.fields) (range_with_len 0 (length program.schema.classes))
-            ≡ program.fields }
+        ≡ program.fields }
 {}

@@ -40,13 +40,13 @@ named_base : (units : List KitUnits) (class kit : ℕ) (name : TypeName) →
     is_without_class units kit name ≡ false → is_no_base units class kit name ≡ false → Rooted units class
 named_base units class kit name e f g =
     let a = either_not (is_text_name name || is_buffer_name name || is_app (base_named units kit name))
-        (leads_back units class) g in
+    (leads_back units class) g in
     let b = either_not (is_text_name name || is_buffer_name name) (is_app (base_named units kit name)) a.0 in
     let c = either_not (is_text_name name) (is_buffer_name name) b.0 in
     let plain : base_named units kit name ≡ class_of_name units kit name =
     ap (λ t. if t then None else class_of_name units kit name) b.0 in
     let there : is_some (class_of_name units kit name) ≡ true = some_is (is_text_name name) (is_buffer_name name)
-        (is_some (class_of_name units kit name)) c.0 c.1 f in
+    (is_some (class_of_name units kit name)) c.0 c.1 f in
     by_class (class_of_name units kit name) refl (e ∙ plain) there (sym (ap is_app plain) ∙ b.1)
   where
     some_is : (p q r : Bool) → p ≡ false → q ≡ false → (not p && not q && not r) ≡ false → r ≡ true

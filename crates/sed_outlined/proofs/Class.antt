@@ -97,7 +97,7 @@ pub slots_begin : (units : List KitUnits) → Unbroken units → (class base : �
     slots units class ≡ slots units base ++ own_slots units class
 slots_begin units u class base e =
     ap (λ xs. flat_map (own_slots units) (reverse xs)) (lineage_cons units u class base e)
-        ∙ up_cons (own_slots units) class (lineage units base)
+    ∙ up_cons (own_slots units) class (lineage units base)
 
 pub slots_at : (units : List KitUnits) → Unbroken units → (k class : ℕ) (d : Declaration) →
     place_of units k ≡ Some class → class_at units class ≡ Some d →
@@ -135,7 +135,7 @@ module _ (units : List KitUnits) (u : Unbroken units) (program : Program) (s : p
   pub size_at : (k class : ℕ) → place_of units k ≡ Some class → sizes.data_size program k ≡ data_size units class
   size_at k class e =
       ap (sizes.data_size program) (sym (number_at units u k class e))
-          ∙ data_same units u program s f class (place_in units u k class e).1
+      ∙ data_same units u program s f class (place_in units u k class e).1
 
   module _ (k class : ℕ) (d : Declaration) (e : place_of units k ≡ Some class) (there : class_at units class
       ≡ Some d) where
@@ -151,20 +151,19 @@ module _ (units : List KitUnits) (u : Unbroken units) (program : Program) (s : p
               sym (sys_type units u d 3 (omega arith)) ∙ ap (λ cs. schemas.type_at cs 0 3) (sym classes_are) ∙ t in
               let number_three : 3 ≡ number units base = cc in
               let some : Some base ≡ Some 3 = sym at ∙ ap (place_of units) (sym number_three)
-                  ∙ sys_place units u 3 (omega arith) in
+              ∙ sys_place units u 3 (omega arith) in
               let same : base ≡ 3 = cc in
               let no : false ≡ true = sym ((rooted units u class).no_app base b) ∙ ap (λ x. x == 3) same in
               cc;
-          slots =
-              (
-                own_slots units class,
-                ap (λ cs. typed.slots cs k) classes_are
+          slots = (
+            own_slots units class,
+            ap (λ cs. typed.slots cs k) classes_are
                 ∙ slots_at units u k class d e there
                 ∙ slots_begin units u class base b
                 ∙ ap (λ xs. xs ++ own_slots units class) (sym (slots_at units u
-                    (number units base) base found.0 at found.1))
-                ∙ ap (λ cs. typed.slots cs (number units base) ++ own_slots units class) (sym classes_are)
-              );
+                (number units base) base found.0 at found.1))
+                ∙ ap (λ cs. typed.slots cs (number units base) ++ own_slots units class) (sym classes_are),
+          );
           size = omega (arith, size_at (number units base) base at, size_at k class e, size_more units u class base b);
         }
 

@@ -79,7 +79,7 @@ refs_count units p = from 0 (kit_names units)
     from a [] = refl
     from a (n ∷ ns) =
         count_cons (λ (kit : KitRef). p kit.name) (signed_kit units (a, n)) (map (signed_kit units) (enumerate_from
-            (a + 1) ns))
+        (a + 1) ns))
         ∙ ap (λ k. weight (p n) + k) (from (a + 1) ns)
         ∙ sym (count_cons p n ns)
 
@@ -116,7 +116,7 @@ module _ (units : List KitUnits) (u : Unbroken units) where
       by_places (suc k) s =
           ap (λ j. size_within units j class) s
           ∙ ap (λ b. if b then 0 else sum_by (own_size units (size_within units k)) (lineage units class))
-              (none_in_itself units u class)
+          (none_in_itself units u class)
           ∙ ap (sum_by (own_size units (size_within units k))) e
           ∙ h (size_within units k)
 
@@ -130,12 +130,22 @@ module _ (units : List KitUnits) (u : Unbroken units) where
   size_2 = sized 2 4 (2 ∷ 1 ∷ 0 ∷ []) lineage_2 (λ f. omega (arith, (own_sizes f).0, (own_sizes f).1, (own_sizes f).2))
 
   size_3 : data_size units 3 ≡ 4
-  size_3 = sized 3 4 (3 ∷ 2 ∷ 1 ∷ 0 ∷ []) lineage_3 (λ f. omega (arith, (own_sizes f).0, (own_sizes f).1,
-      (own_sizes f).2, (own_sizes f).3))
+  size_3 = sized 3 4 (3 ∷ 2 ∷ 1 ∷ 0 ∷ []) lineage_3 (λ f. omega (
+    arith,
+    (own_sizes f).0,
+    (own_sizes f).1,
+    (own_sizes f).2,
+    (own_sizes f).3,
+  ))
 
   size_4 : data_size units 4 ≡ 4
-  size_4 = sized 4 4 (4 ∷ 2 ∷ 1 ∷ 0 ∷ []) lineage_4 (λ f. omega (arith, (own_sizes f).0, (own_sizes f).1,
-      (own_sizes f).2, (own_sizes f).4))
+  size_4 = sized 4 4 (4 ∷ 2 ∷ 1 ∷ 0 ∷ []) lineage_4 (λ f. omega (
+    arith,
+    (own_sizes f).0,
+    (own_sizes f).1,
+    (own_sizes f).2,
+    (own_sizes f).4,
+  ))
 
   own_slots_are : (own_slots units 0 ≡ []) × (own_slots units 1 ≡ []) × (own_slots units 2
       ≡ meta_slot ∷ []) × (own_slots units 3 ≡ save_slot ∷ []) × (own_slots units 4 ≡ [])
@@ -163,11 +173,11 @@ module _ (units : List KitUnits) (u : Unbroken units) where
   -- the base of one is one
   numbered_base : (class base : ℕ) → base_of units class ≡ Some base → base < 5 → Declaration →
       option_map (λ (t : TypeNo). t.0) (option_map type_no (option_and_then (type_number units) (base_of units class)))
-          ≡ schemas.type_at (class_infos units) 0 base
+      ≡ schemas.type_at (class_infos units) 0 base
   numbered_base class base e h d =
       ap (λ o. option_map (λ (t : TypeNo). t.0) (option_map type_no (option_and_then (type_number units) o))) e
       ∙ ap (λ o. option_map (λ (t : TypeNo). t.0) (option_map type_no o)) (number_is units u base (omega
-          (arith, h, others units)))
+      (arith, h, others units)))
       ∙ ap Some (sys_numbers units u base h)
       ∙ sym (sys_type units u d base h)
 
@@ -292,7 +302,7 @@ kits_known : (units : List KitUnits) → Unbroken units → All (λ (c : ClassIn
 kits_known units u i info h =
     let at = info_of units u i (get_or (class_infos units) i info) (slice_get-get_or (class_infos units) i info h) in
     let w : Written (length units) at.declared = all_at (Written (length units))
-        (all_classes units) at.class at.declared at.there (fits units u).written in
+    (all_classes units) at.class at.declared at.there (fits units u).written in
     subst (λ (c : ClassInfo). c.kit < length (kit_refs units)) (sym at.is) (omega (arith, w.kit, refs_len units))
 
 pub has_kits : (units : List KitUnits) → Unbroken units → KitsNamed units → HasKits (schema_of units)

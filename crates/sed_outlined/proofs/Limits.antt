@@ -46,20 +46,20 @@ module _ (most : ℕ) (count : ℕ → Member → ℕ) (units : List KitUnits) (
   alone : (class : ℕ) → base_of units class ≡ None → comes_to count units class ≡ own_sum count units class
   alone class e =
       ap (sum_by (own_sum count units)) (lineage_one units u class e)
-          ∙ omega (arith, sum_by-cons (own_sum count units) class [])
+      ∙ omega (arith, sum_by-cons (own_sum count units) class [])
 
   with_base : (class base : ℕ) → base_of units class ≡ Some base →
       comes_to count units class ≡ own_sum count units class + comes_to count units base
   with_base class base e =
       ap (sum_by (own_sum count units)) (lineage_cons units u class base e)
-          ∙ sum_by-cons (own_sum count units) class (lineage units base)
+      ∙ sum_by-cons (own_sum count units) class (lineage units base)
 
   own_is : (class : ℕ) (d : Declaration) → class_at units class ≡ Some d →
       own_sum count units class ≡ sum_by (count d.kit) d.class.members
   own_is class d e =
       ap
       (λ (o : Option Declaration). sum_by (count (option_map_or (λ (x : Declaration). x.kit) o 0)) (option_map_or (λ
-          (x : Declaration). x.class.members) o []))
+      (x : Declaration). x.class.members) o []))
       e
 
   -- within the limit with what a class declares, if its bases are
@@ -117,8 +117,12 @@ module _ (most : ℕ) (count : ℕ → Member → ℕ) (units : List KitUnits) (
           (λ h. omega (arith, obj, virtual, component, with_base 3 2 (base_app units), sys.app))
           (λ h. omega (arith, obj, virtual, component, with_base 4 2 (base_folder units), sys.folder))
           (λ c d l at free. declared none c d at free)
-          (λ c le h. omega (arith, alone c (base_behind units c le), ap (sum_by (count (kit_of units c)))
-              (members_behind units c le)))
+          (λ c le h. omega (
+            arith,
+            alone c (base_behind units c le),
+            ap (sum_by (count (kit_of units c)))
+                (members_behind units c le),
+          ))
           u.faultless
           c
 
@@ -181,7 +185,7 @@ slots_most units u class =
         22
         m.at
         (none_numbered (λ j (n : Member). broken_if (passes_at 64
-            (sloted units slot_count) units c d j n) 22 n.at) d.class.members i m (slots_few units c d free) at)
+        (sloted units slot_count) units c d j n) 22 n.at) d.class.members i m (slots_few units c d free) at)
 
 pub config_most : (units : List KitUnits) → Unbroken units → (class : ℕ) → config_size (slots units class) ≤ 400
 config_most units u class =
@@ -204,7 +208,7 @@ config_most units u class =
         22
         m.at
         (none_numbered (λ j (n : Member). broken_if (passes_at 400
-            (sloted units config_of) units c d j n) 22 n.at) d.class.members i m (config_small units c d free) at)
+        (sloted units config_of) units c d j n) 22 n.at) d.class.members i m (config_small units c d free) at)
 
 pub runtime_most : (units : List KitUnits) → Unbroken units → (class : ℕ) → runtime_size (slots units class) ≤ 400
 runtime_most units u class =
@@ -232,4 +236,4 @@ runtime_most units u class =
         22
         m.at
         (none_numbered (λ j (n : Member). broken_if (passes_at 400
-            (sloted units runtime_of) units c d j n) 22 n.at) d.class.members i m (runtime_small units c d free) at)
+        (sloted units runtime_of) units c d j n) 22 n.at) d.class.members i m (runtime_small units c d free) at)

@@ -125,7 +125,7 @@ declared_fresh units class d free =
     (is_reserved d.class.name.bytes)
     (is_named_before units class d)
     (not_broken (is_reserved d.class.name.bytes || is_named_before units class d) 2 d.class.at
-        (name_free units class d free))
+    (name_free units class d free))
 
 pub fresh : (units : List KitUnits) → Unbroken units → (class : ℕ) → AllFresh units class
 fresh units u class =
@@ -169,7 +169,7 @@ no_two_named units u name kit i j x y l e f s t =
     let so : is_named y.class.name.bytes y.kit x ≡ true =
     ap (λ n. is_named n y.kit x) b.1 ∙ ap (λ k. is_named name k x) b.0 ∙ s in
     let before : is_named_before units j y ≡ true = any_front (is_named y.class.name.bytes y.kit)
-        (all_classes units) i j x l e so in
+    (all_classes units) i j x l e so in
     let none : is_named_before units j y ≡ false = (fresh units u j y f).1 in
     cc
 
@@ -184,4 +184,4 @@ named_once units u class d e =
     (λ x. weight (is_named d.class.name.bytes d.kit x))
     (λ c x. refl)
     ∙ just_one (is_named d.class.name.bytes d.kit) (all_classes units) class d
-        (no_two_named units u d.class.name.bytes d.kit) e (is_named_so d)
+    (no_two_named units u d.class.name.bytes d.kit) e (is_named_so d)

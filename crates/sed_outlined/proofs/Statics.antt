@@ -38,12 +38,12 @@ taken units class = option_map_or (statics_of units) (class_at units class) 0
 
 taken_is : (units : List KitUnits) (class : ℕ) →
     sum_by (λ m. if is_static_field m then field_size units (data_size units) (kit_of units class) m
-        else 0) (members_of units class) ≡ taken units class
+    else 0) (members_of units class) ≡ taken units class
 taken_is units class = by_class (class_at units class)
   where
     by_class : (o : Option Declaration) →
         sum_by (λ m. if is_static_field m then field_size units (data_size units) (option_map_or (λ
-            (d : Declaration). d.kit) o 0) m else 0)
+        (d : Declaration). d.kit) o 0) m else 0)
         (option_map_or (λ (d : Declaration). d.class.members) o [])
         ≡ option_map_or (statics_of units) o 0
     by_class None = refl
@@ -69,7 +69,7 @@ no_member_passes units class d free i m h =
     found.at
     (none_numbered
     (λ j (n : Member). broken_if (passes 65535 (statics_before units class + sum_by (static_of units d.kit)
-        (take j d.class.members)) (static_of units d.kit n)) 22 n.at)
+    (take j d.class.members)) (static_of units d.kit n)) 22 n.at)
     d.class.members
     i
     found
@@ -167,7 +167,7 @@ statics_most units u program s f t =
           (λ (c : ℕ × ℕ). filter_map (field_of units c.0 c.1) (own_statics units c.1))
           (λ c.
           fields_sized units u (sizes.data_size program) (data_size units) (data_same units u program s f) c.0 c.1
-              (own_statics units c.1)
+          (own_statics units c.1)
           ∙ sum_filter is_static_field (field_size units (data_size units) (kit_of units c.1)) (members_of units c.1)
           ∙ taken_is units c.1)
           0

@@ -36,8 +36,12 @@ one_more : (known : List (List ℕ)) (text : List ℕ) → Kept known → length
     nat_lt (length known) 4096 ≡ true →
     list_any (λ t. bytes_eq t text) known ≡ false → Kept (known ++ text ∷ [])
 one_more known text k short room new = record {
-  once = λ name. omega (arith, sum_by_push (λ t. weight (bytes_eq t name)) known text, by_name name
-      (bytes_eq text name) refl);
+  once = λ name. omega (
+    arith,
+    sum_by_push (λ t. weight (bytes_eq t name)) known text,
+    by_name name
+        (bytes_eq text name) refl,
+  );
   few =
       let less : length known < 4096 = grind (arith, nat_tests) in
       omega (arith, length-append known (text ∷ []), less);
