@@ -11,20 +11,20 @@ use Rattle.app_cycle.proofs.cycles.run_if_it_may.Goals as goal
 pub returns-in_default-clause-left : goal.returns-in_default-clause-left
 returns-in_default-clause-left g c =
     let h = c.args.app.now.tree in
-    let none = subst (λ (h : Held _). map.get (components_of g.E.Engine h).by_id c.args.id.0 ≡ None) c.tree.ensures c.in_default.ensures in
+    let none = subst (λ (h : Held _). map.get (components_of g.E.Engine h).by_id c.args.id.0 ≡ None) c.tree.ensures c.in_default.ensures.told in
     sym (ap (λ (r : Ran). r.left) (run_none (g.E.Engine.meaning h.engine) (components_of g.E.Engine h) c.args.id.0 Execute Nothing c.args.turns c.args.ticks none))
 
 pub returns-in_default-clause-traps : goal.returns-in_default-clause-traps
 returns-in_default-clause-traps g c =
     let h = c.args.app.now.tree in
-    let none = subst (λ (h : Held _). map.get (components_of g.E.Engine h).by_id c.args.id.0 ≡ None) c.tree.ensures c.in_default.ensures in
+    let none = subst (λ (h : Held _). map.get (components_of g.E.Engine h).by_id c.args.id.0 ≡ None) c.tree.ensures c.in_default.ensures.told in
     sym (ap (λ (r : Ran). traps_of r.end) (run_none (g.E.Engine.meaning h.engine) (components_of g.E.Engine h) c.args.id.0 Execute Nothing c.args.turns c.args.ticks none))
 
 pub returns-then-entry-ne0-clause-left : goal.returns-then-entry-ne0-clause-left
 returns-then-entry-ne0-clause-left g c =
     let h = c.args.app.now.tree in
     let fault = sym (ap (λ (h : Held _). fault_of (components_of g.E.Engine h).by_id c.args.id.0) c.tree.ensures)
-    ∙ entry_fault (g.E.Engine.live c.tree.result.now.engine) (map.get (components_of g.E.Engine c.tree.result.now).by_id c.args.id.0) c.in-Some.entry c.in-Some.ensures
+    ∙ entry_fault (g.E.Engine.live c.tree.result.now.engine) (map.get (components_of g.E.Engine c.tree.result.now).by_id c.args.id.0) c.in-Some.entry c.in-Some.ensures.told
     in
     sym (ap (λ (r : Ran). r.left) (run_faulted (g.E.Engine.meaning h.engine) (components_of g.E.Engine h) c.args.id.0 Execute Nothing c.args.turns c.args.ticks (λ none. c.if-entry-ne0.true (sym fault ∙ none))))
 
@@ -32,17 +32,17 @@ pub returns-then-entry-ne0-clause-traps : goal.returns-then-entry-ne0-clause-tra
 returns-then-entry-ne0-clause-traps g c =
     let h = c.args.app.now.tree in
     let fault = sym (ap (λ (h : Held _). fault_of (components_of g.E.Engine h).by_id c.args.id.0) c.tree.ensures)
-    ∙ entry_fault (g.E.Engine.live c.tree.result.now.engine) (map.get (components_of g.E.Engine c.tree.result.now).by_id c.args.id.0) c.in-Some.entry c.in-Some.ensures
+    ∙ entry_fault (g.E.Engine.live c.tree.result.now.engine) (map.get (components_of g.E.Engine c.tree.result.now).by_id c.args.id.0) c.in-Some.entry c.in-Some.ensures.told
     in
     sym (ap (λ (r : Ran). traps_of r.end) (run_faulted (g.E.Engine.meaning h.engine) (components_of g.E.Engine h) c.args.id.0 Execute Nothing c.args.turns c.args.ticks (λ none. c.if-entry-ne0.true (sym fault ∙ none))))
 
 pub execute-requires-clause-live : goal.execute-requires-clause-live
 execute-requires-clause-live g c =
     subst (λ (h : Held _). IsSome (map.get (components_of g.E.Engine h).by_id c.args.id.0)) c.tree.ensures
-    (entry_live (g.E.Engine.live c.tree.result.now.engine) (map.get (components_of g.E.Engine c.tree.result.now).by_id c.args.id.0) c.in-Some.entry c.in-Some.ensures)
+    (entry_live (g.E.Engine.live c.tree.result.now.engine) (map.get (components_of g.E.Engine c.tree.result.now).by_id c.args.id.0) c.in-Some.entry c.in-Some.ensures.told)
 
 pub execute-requires-clause-no_fault : goal.execute-requires-clause-no_fault
 execute-requires-clause-no_fault g c =
     sym (ap (λ (h : Held _). fault_of (components_of g.E.Engine h).by_id c.args.id.0) c.tree.ensures)
-    ∙ entry_fault (g.E.Engine.live c.tree.result.now.engine) (map.get (components_of g.E.Engine c.tree.result.now).by_id c.args.id.0) c.in-Some.entry c.in-Some.ensures
+    ∙ entry_fault (g.E.Engine.live c.tree.result.now.engine) (map.get (components_of g.E.Engine c.tree.result.now).by_id c.args.id.0) c.in-Some.entry c.in-Some.ensures.told
     ∙ c.if-entry-ne0.false
