@@ -1,0 +1,5 @@
+use Rattle.sed_typed_units.proofs.Whole.{typed}
+use Rattle.sed_typed_units.proofs.laws.what_units_spell_is_typed.Goals as goal
+
+pub returns : goal.returns
+returns c = typed
