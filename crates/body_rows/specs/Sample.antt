@@ -26,6 +26,8 @@ own_member name = if bytes_eq name (codes "x") then Some (member.Field (Some (fo
     else if bytes_eq name (codes "broken") then Some (member.Field None 9)
     else if bytes_eq name (codes "all") then Some (member.Static (Some (form.Prim prim.Int)) 0)
     else if bytes_eq name (codes "TEN") then Some (member.Define (Some (constant.Int (pos 10))))
+    else if bytes_eq name (codes "FAR") then Some (member.Define (Some (constant.Long (pos 10))))
+    else if bytes_eq name (codes "YES") then Some (member.Define (Some (constant.Bool 1)))
     else if bytes_eq name (codes "plain") then Some member.Method
     else if bytes_eq name (codes "a_name_of_thirty_one_characters") then Some (member.Field (Some (form.Prim prim.Int)) 10)
     else if bytes_eq name (codes "a_name_of_thirty_two_characters_") then Some (member.Field (Some (form.Prim prim.Bool)) 11)
@@ -34,6 +36,7 @@ own_member name = if bytes_eq name (codes "x") then Some (member.Field (Some (fo
 abbrev pub part_member : List ℕ → Option Member
 part_member name = if bytes_eq name (codes "n") then Some (member.Field (Some (form.Prim prim.Int)) 0)
     else if bytes_eq name (codes "made") then Some (member.Static (Some (form.Prim prim.Int)) 1)
+    else if bytes_eq name (codes "SIX") then Some (member.Define (Some (constant.Int (pos 6))))
     else None
 
 abbrev pub method_of : Sample → List ℕ → Option Signature
@@ -48,7 +51,8 @@ abbrev pub sample_names : Sample → Names
 sample_names s = record {
   below = λ above class. (above == class) || (above == 0);
   base = λ class. if class == 4 then Some (class_at 2) else None;
-  class = λ name. if bytes_eq name (codes "Part") then Some (class_at 3) else None;
+  class = λ name.
+      if bytes_eq name (codes "Part") then Some (class_at 3) else if bytes_eq name (codes "Obj") then Some (class_at 0) else None;
   class_in = λ kit name. None;
   member = λ class name. if class == 4 then own_member name else if class == 3 then part_member name else None;
   method = λ class name. method_of s name;

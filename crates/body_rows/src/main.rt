@@ -1,16 +1,19 @@
 //! The rows of the judgement of bodies.
 //!
-//! The table of data/ has an expression for each row, which stands in a method of a class that the program makes up,
-//! and what it comes to there: a kind, or the least fault with its place in the expression.
+//! The tables of data/ have an expression, statements, or a method for each row, which stand in a class that the
+//! program makes up, and what they come to there: a kind, nothing wrong, or the least fault with its place in the row.
 #![tactic(auto)]
 
 mod expressions;
 mod sample;
+mod statements;
 
 use rows::run;
 use std::io;
 
 fn main(rt: HostRuntime) -> io::Result<()> {
     run(&rt, &expressions::Expressions)?;
-    run(&rt, &expressions::InStatic)
+    run(&rt, &expressions::InStatic)?;
+    run(&rt, &statements::Statements)?;
+    run(&rt, &statements::Methods)
 }

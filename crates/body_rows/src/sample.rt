@@ -90,6 +90,10 @@ fn own_member(name: &[u8]) -> Option<Member>
         Some(Member::Static(Some(FieldForm::Prim(Prim::Int)), 0))
     } else if name == b"TEN".as_slice() {
         Some(Member::Define(Some(Constant::Int(10))))
+    } else if name == b"FAR".as_slice() {
+        Some(Member::Define(Some(Constant::Long(10))))
+    } else if name == b"YES".as_slice() {
+        Some(Member::Define(Some(Constant::Bool(1))))
     } else if name == b"plain".as_slice() {
         Some(Member::Method)
     } else if name == b"a_name_of_thirty_one_characters".as_slice() {
@@ -108,6 +112,8 @@ fn part_member(name: &[u8]) -> Option<Member>
         Some(Member::Field(Some(FieldForm::Prim(Prim::Int)), 0))
     } else if name == b"made".as_slice() {
         Some(Member::Static(Some(FieldForm::Prim(Prim::Int)), 1))
+    } else if name == b"SIX".as_slice() {
+        Some(Member::Define(Some(Constant::Int(6))))
     } else {
         None
     }
@@ -127,6 +133,8 @@ impl Lookup for Sample {
     fn class(&self, name: &[u8]) -> Option<TypeNo> {
         if name == b"Part".as_slice() {
             Some(TypeNo(3))
+        } else if name == b"Obj".as_slice() {
+            Some(TypeNo(0))
         } else {
             None
         }
