@@ -1,0 +1,32 @@
+-- What a request leaves: the application, what is asked of the node, and the bytes of the reply.
+use Rattle.std.specs.Prelude.{ℕ, ℤ, ◌≡◌, ◌⊎◌, false, List}
+use Rattle.sed_engine.specs.declared.engine.Engine.{Ghosts}
+use Rattle.link_prop.specs.Linked.{Linked, application_of}
+use Rattle.sox_msg.specs.Command.{Asked}
+use Rattle.sox_commands.specs.Answer.{Answer, WantsMemory, answer}
+use Rattle.sox_commands.specs.Replies.{reply_bytes}
+use Rattle.sox_commands.specs.declared.served.Served.{Served}
+
+-- what a command to an application over an engine comes to, with so many turns for each root call, at a moment
+abbrev pub answer_over : {E : Type 0} → Ghosts E → Linked E → Asked → ℕ → ℤ → Answer
+answer_over g h asked turns moment = answer (g.meaning h.tree.engine) (application_of g h) asked turns moment
+
+-- an answer is done: the application is the one after it, it is asked what the answer asks, and the reply to the request
+-- of this number has these bytes. The code is the same, and whether the engine is fixed.
+pub record Gives {E : Type 0} (g : Ghosts E) (old new : Linked E) (asks : Served) (bytes : List ℕ) (number : ℕ) (given : Answer) : Type 0 where
+  pub application : application_of g new ≡ given.application
+  pub served : asks ≡ given.served
+  pub reply : bytes ≡ reply_bytes number given.reply
+  pub meaning : g.meaning new.tree.engine ≡ g.meaning old.tree.engine
+  pub steady : g.fixed new.tree.engine ≡ g.fixed old.tree.engine
+
+-- it is the answer to the command, or want of memory, which comes only where the engine is not fixed
+abbrev pub IsAnswered : {E : Type 0} → Ghosts E → Linked E → Asked → ℕ → ℤ → Answer → Type 0
+IsAnswered g h asked turns moment given =
+    (given ≡ answer_over g h asked turns moment)
+    ⊎ ((g.fixed h.tree.engine ≡ false) × WantsMemory (g.meaning h.tree.engine) (application_of g h) asked turns moment given)
+
+pub record Serves {E : Type 0} (g : Ghosts E) (old new : Linked E) (asked : Asked) (number turns : ℕ) (moment : ℤ) (asks : Served) (bytes : List ℕ) : Type 0 where
+  pub given : Answer
+  pub is : IsAnswered g old asked turns moment given
+  pub gives : Gives g old new asks bytes number given
