@@ -1,7 +1,10 @@
 //! One request.
-ghost use Rattle.std.specs.Prelude.{◌≡◌, ◌≤◌, true, Some};
+ghost use Rattle.std.specs.Prelude.{◌≡◌, ◌≤◌, ◌↔◌, [], true, IsTrue, Some, None};
 ghost use Rattle.sed_value.specs.declared.refusal.Refusal.{Refusal};
 ghost use Rattle.link_prop.specs.Linked.{application_of};
+ghost use Rattle.comp_tree.specs.Refusals.{first_refusal};
+ghost use Rattle.sox_commands.specs.Answer.{asks_for_save};
+ghost use Rattle.sox_commands.specs.Table.{refusals_of};
 ghost use Rattle.sox_commands.specs.Replies.{reply_bytes};
 ghost use Rattle.sox_msg.specs.Answered.{refused as refused_as};
 ghost use Rattle.sox_msg.specs.Command.{CanBeAsked};
@@ -18,7 +21,7 @@ use crate::values::serve_values;
 use crate::watching::serve_watch;
 use link_prop::App;
 use sed_engine::Engine;
-use sox_commands::Served;
+use sox_commands::{Served, refused_commands_change_nothing};
 use sox_msg::Request;
 
 /// Does one request on an application, and puts its reply in the place of what there was. The callbacks and actions that
@@ -41,9 +44,12 @@ pub fn serve<E: Engine>(
     ensures served { Serves E.Engine app.old app.new (asked_of request.now.command) request.now.number turns ticks result into.new }
     ensures refused { (refusal : Refusal) → into.new ≡ reply_bytes request.now.number (Some (refused_as refusal)) → application_of E.Engine app.new ≡ application_of E.Engine app.old }
     ensures exact { E.fixed app.old.tree.engine ≡ true → Gives E.Engine app.old app.new result into.new request.now.number (answer_over E.Engine app.old (asked_of request.now.command) turns ticks) }
+    ensures saves { (result ≡ Served.SaveAsked) ↔ (IsTrue (asks_for_save (asked_of request.now.command)) × (first_refusal (refusals_of (E.meaning app.old.tree.engine) (application_of E.Engine app.old) (asked_of request.now.command)) ≡ None)) }
+    ensures saving { result ≡ Served.SaveAsked → (application_of E.Engine app.new ≡ application_of E.Engine app.old) × (into.new ≡ []) }
     ensures meaning { E.meaning app.new.tree.engine ≡ E.meaning app.old.tree.engine }
     ensures steady { E.fixed app.new.tree.engine ≡ E.fixed app.old.tree.engine }
 {
+    refused_commands_change_nothing();
     let group = group_of(request.command);
     serve_group(app, &group, request.number, turns, ticks, into)
 }
