@@ -33,25 +33,25 @@ use sox_msg::Request;
 /// answered that memory is wanted, and then nothing is changed; over a fixed engine that never comes.
 pub fn serve<E: Engine>(
     app: &mut App<E>,
-    request: &Request<'_>,
     turns: u32,
     ticks: i64,
-    into: &mut ReplyBuf,
+    request: &Request<'_>,
+    reply: &mut ReplyBuf,
 ) -> Served
     requires can { CanBeAsked (asked_of request.now.command) }
     requires some_turns { 1 ≤ turns }
     requires most_turns { turns ≤ 1000000 }
-    ensures served { Serves E.Engine app.old app.new (asked_of request.now.command) request.now.number turns ticks result into.new }
-    ensures refused { (refusal : Refusal) → into.new ≡ reply_bytes request.now.number (Some (refused_as refusal)) → application_of E.Engine app.new ≡ application_of E.Engine app.old }
-    ensures exact { E.fixed app.old.tree.engine ≡ true → Gives E.Engine app.old app.new result into.new request.now.number (answer_over E.Engine app.old (asked_of request.now.command) turns ticks) }
+    ensures served { Serves E.Engine app.old app.new (asked_of request.now.command) request.now.number turns ticks result reply.new }
+    ensures refused { (refusal : Refusal) → reply.new ≡ reply_bytes request.now.number (Some (refused_as refusal)) → application_of E.Engine app.new ≡ application_of E.Engine app.old }
+    ensures exact { E.fixed app.old.tree.engine ≡ true → Gives E.Engine app.old app.new result reply.new request.now.number (answer_over E.Engine app.old (asked_of request.now.command) turns ticks) }
     ensures saves { (result ≡ Served.SaveAsked) ↔ (IsTrue (asks_for_save (asked_of request.now.command)) × (first_refusal (refusals_of (E.meaning app.old.tree.engine) (application_of E.Engine app.old) (asked_of request.now.command)) ≡ None)) }
-    ensures saving { result ≡ Served.SaveAsked → (application_of E.Engine app.new ≡ application_of E.Engine app.old) × (into.new ≡ []) }
+    ensures saving { result ≡ Served.SaveAsked → (application_of E.Engine app.new ≡ application_of E.Engine app.old) × (reply.new ≡ []) }
     ensures meaning { E.meaning app.new.tree.engine ≡ E.meaning app.old.tree.engine }
     ensures steady { E.fixed app.new.tree.engine ≡ E.fixed app.old.tree.engine }
 {
     refused_commands_change_nothing();
     let group = group_of(request.command);
-    serve_group(app, &group, request.number, turns, ticks, into)
+    serve_group(app, &group, request.number, turns, ticks, reply)
 }
 
 // Does a command in its group.
