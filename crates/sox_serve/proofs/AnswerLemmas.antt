@@ -104,7 +104,7 @@ module _ {E : Type 0} (g : Ghosts E) (old new : Linked E) (parent kit kind : ℕ
         ok_if_none (first_refusal (refusals_of_add (g.meaning old.tree.engine) (components_of g old.tree) parent kit kind name config)) edited_by (memory is).1 in
         let wants : WantsMemory (g.meaning old.tree.engine) (application_of g old) (add parent kit kind name config) turns moment (refused_by (application_of g old) refusal) =
         record { may = refl; allowed = may; given_is = ap (refused_by (application_of g old)) is } in
-        record { given = refused_by (application_of g old) refusal; is = inr ((memory is).0, wants); gives = gives_refused }
+        record { given = refused_by (application_of g old) refusal; is = inr (record { add = refl; not_fixed = (memory is).0; wants = wants }); gives = gives_refused }
 
     pub serves_refused : Serves g old new (add parent kit kind name config) number turns moment Replied bytes
     serves_refused = elim (wants_or_not refusal) [ inl is ↦ by_memory is | inr other ↦ by_row other ]

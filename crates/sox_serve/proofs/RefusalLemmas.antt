@@ -65,7 +65,7 @@ module _ {E : Type 0} (g : Ghosts E) (old new : Linked E) (asked : Asked) (numbe
       ap (λ (x : Answer). x.application) is
       ∙ stays_if_refused (application_of g old) asked (Edit (g.meaning old.tree.engine) (application_of g old) (command_of asked) turns moment) number refusal
       (ap (λ (x : Answer). reply_bytes number x.reply) (sym is) ∙ same)
-  given_stays refusal given (inr wants) same = ap (λ (x : Answer). x.application) wants.1.given_is
+  given_stays refusal given (inr lacks) same = ap (λ (x : Answer). x.application) lacks.wants.given_is
 
   pub refused_stays : (refusal : Refusal) → bytes ≡ reply_bytes number (Some (told.refused refusal)) → application_of g new ≡ application_of g old
   refused_stays refusal same = s.gives.application ∙ given_stays refusal s.given s.is (sym s.gives.reply ∙ same)
@@ -73,7 +73,7 @@ module _ {E : Type 0} (g : Ghosts E) (old new : Linked E) (asked : Asked) (numbe
   -- over a fixed engine it is the answer itself
   exactly : (given : Answer) → IsAnswered g old asked turns moment given → g.fixed old.tree.engine ≡ true → given ≡ answer_over g old asked turns moment
   exactly given (inl is) fixed = is
-  exactly given (inr wants) fixed = absurd (let no : true ≡ false = sym fixed ∙ wants.0 in cc)
+  exactly given (inr lacks) fixed = absurd (let no : true ≡ false = sym fixed ∙ lacks.not_fixed in cc)
 
   pub exactly_served : g.fixed old.tree.engine ≡ true → Gives g old new asks bytes number (answer_over g old asked turns moment)
   exactly_served fixed = subst (λ (given : Answer). Gives g old new asks bytes number given) (exactly s.given s.is fixed) s.gives

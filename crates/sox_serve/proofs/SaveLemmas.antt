@@ -107,13 +107,13 @@ module _ {E : Type 0} (g : Ghosts E) (old new : Linked E) (asked : Asked) (numbe
   -- want of memory asks for nothing
   is_answer : (given : Answer) → IsAnswered g old asked turns moment given → given.served ≡ SaveAsked → given ≡ answer m a asked turns moment
   is_answer given (inl is) asked_for = is
-  is_answer given (inr wants) asked_for =
-      absurd (let no : true ≡ false = ap is_save_asked (sym asked_for ∙ ap (λ (x : Answer). x.served) wants.1.given_is) in cc)
+  is_answer given (inr lacks) asked_for =
+      absurd (let no : true ≡ false = ap is_save_asked (sym asked_for ∙ ap (λ (x : Answer). x.served) lacks.wants.given_is) in cc)
 
   is_answer_of_save : (given : Answer) → IsAnswered g old asked turns moment given → IsTrue (asks_for_save asked) → given ≡ answer m a asked turns moment
   is_answer_of_save given (inl is) save = is
-  is_answer_of_save given (inr wants) save =
-      absurd (let none : asks_for_save asked ≡ false = subst (λ (b : Bool). (b && asks_for_save asked) ≡ false) wants.1.may (save_wants_none asked) in
+  is_answer_of_save given (inr lacks) save =
+      absurd (let none : asks_for_save asked ≡ false = subst (λ (b : Bool). (b && asks_for_save asked) ≡ false) lacks.wants.may (save_wants_none asked) in
       let no : true ≡ false = sym save ∙ none in cc)
 
   pub saves : (asks ≡ SaveAsked) ↔ (IsTrue (asks_for_save asked) × (first_refusal (refusals_of m a asked) ≡ None))
