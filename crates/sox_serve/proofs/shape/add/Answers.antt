@@ -1,0 +1,23 @@
+use Rattle.std.proofs.Common.{ℤ, ◌≡◌, Err, ap, subst, w64}
+use Rattle.std.proofs.lemmas.Int.{to_z-of_z}
+use Rattle.comp_tree.specs.Edit.{class_or_none}
+use Rattle.comp_tree.specs.Edits.{after_add}
+use Rattle.comp_tree.specs.Held.{components_of}
+use Rattle.sox_serve.proofs.AnswerLemmas.{serves_added, serves_refused}
+use Rattle.sox_serve.proofs.shape.add.Goals as goal
+
+pub returns-in-Ok : goal.returns-in-Ok
+returns-in-Ok g c =
+    let m = g.E.Engine.meaning c.args.app.now.tree.engine in
+    let all = components_of g.E.Engine c.args.app.now.tree in
+    let after = λ (t : ℤ). (after_add m all c.args.parent.0 (class_or_none m c.args.kit c.args.kind) c.args.name.now c.args.config.now c.args.turns t).left in
+    let done = subst (λ (t : ℤ). components_of g.E.Engine c.add.new.self.tree ≡ after t) (to_z-of_z w64 c.args.ticks c.ranges.ticks) c.in-Ok.ensures.done in
+    serves_added g.E.Engine c.args.app.now c.add.new.self c.args.parent.0 c.args.kit c.args.kind c.args.name.now c.args.config.now c.args.number c.args.turns c.args.ticks
+    c.in-Ok.id.0 c.reply_added.new.into c.in-Ok.ensures.id c.in-Ok.ensures.allowed done c.in-Ok.ensures.links c.reply_added.ensures
+    c.in-Ok.ensures.meaning c.in-Ok.ensures.steady
+
+pub returns-in-Err : goal.returns-in-Err
+returns-in-Err g c =
+    serves_refused g.E.Engine c.args.app.now c.add.new.self c.args.parent.0 c.args.kit c.args.kind c.args.name.now c.args.config.now c.args.number c.args.turns c.args.ticks
+    c.in-Err.refusal c.reply_refused.new.into c.in-Err.ensures.refused (λ same. c.in-Err.ensures.memory (ap Err same))
+    c.in-Err.ensures.stays c.in-Err.ensures.links c.reply_refused.ensures c.in-Err.ensures.meaning c.in-Err.ensures.steady

@@ -1,0 +1,122 @@
+//! Commands that change which components there are, or what they are called.
+ghost use Rattle.std.specs.Prelude.{◌≤◌, ℕ, ℤ};
+ghost use Rattle.sox_msg.specs.Command.{add as added, delete as deleted, rename as renamed, reorder as reordered};
+ghost use Rattle.sox_serve.specs.Groups.{asked_of_shape};
+ghost use Rattle.sox_serve.specs.Serves.{Gives, Serves, answer_over};
+
+use crate::answering::reply_to;
+use crate::groups::ShapeCommand;
+use crate::replies::{reply_added, reply_done, reply_refused};
+use crate::reply_buf::ReplyBuf;
+use link_prop::App;
+use sed_engine::Engine;
+use sed_value::{Id, Refusal};
+use sox_commands::Served;
+
+/// Does such a command.
+pub fn serve_shape<E: Engine>(
+    app: &mut App<E>,
+    command: &ShapeCommand<'_>,
+    number: u8,
+    turns: u32,
+    ticks: i64,
+    into: &mut ReplyBuf,
+) -> Served
+    requires some_turns { 1 ≤ turns }
+    requires most_turns { turns ≤ 1000000 }
+    ensures { Serves E.Engine app.old app.new (asked_of_shape command.now) number turns ticks result into.new }
+{
+    match command {
+        ShapeCommand::Add {
+            parent,
+            kit,
+            kind,
+            name,
+            config,
+        } => add(
+            app, *parent, *kit, *kind, name, config, number, turns, ticks, into,
+        ),
+        ShapeCommand::Delete { id } => delete(app, *id, number, turns, ticks, into),
+        ShapeCommand::Rename { id, name } => rename(app, *id, name, number, into),
+        ShapeCommand::Reorder { id, children } => reorder(app, *id, children, number, into),
+    }
+}
+
+// Adds a component.
+fn add<E: Engine>(
+    app: &mut App<E>,
+    parent: Id,
+    kit: u8,
+    kind: u8,
+    name: &[u8],
+    config: &[u8],
+    number: u8,
+    turns: u32,
+    ticks: i64,
+    into: &mut ReplyBuf,
+) -> Served
+    requires some_turns { 1 ≤ turns }
+    requires most_turns { turns ≤ 1000000 }
+    ensures { Serves E.Engine app.old app.new (added parent.0 kit kind name.now config.now) number turns ticks result into.new }
+{
+    match app.add(parent, kit, kind, name, config, turns, ticks) {
+        Ok(id) => reply_added(into, number, id),
+        Err(refusal) => reply_refused(into, number, refusal),
+    }
+    Served::Replied
+}
+
+// Deletes a component and those below it.
+fn delete<E: Engine>(
+    app: &mut App<E>,
+    id: Id,
+    number: u8,
+    turns: u32,
+    ticks: i64,
+    into: &mut ReplyBuf,
+) -> Served
+    requires some_turns { 1 ≤ turns }
+    requires most_turns { turns ≤ 1000000 }
+    ensures { Gives E.Engine app.old app.new result into.new number (answer_over E.Engine app.old (deleted id.0) turns ticks) }
+{
+    match app.delete(id, turns, ticks) {
+        Ok(()) => {
+            reply_done(into, number, b'D');
+            Served::Deleted
+        }
+        Err(refusal) => {
+            reply_refused(into, number, refusal);
+            Served::Replied
+        }
+    }
+}
+
+// Gives a component another name.
+fn rename<E: Engine>(
+    app: &mut App<E>,
+    id: Id,
+    name: &[u8],
+    number: u8,
+    into: &mut ReplyBuf,
+) -> Served
+    ensures { (turns : ℕ) (moment : ℤ) → Gives E.Engine app.old app.new result into.new number (answer_over E.Engine app.old (renamed id.0 name.now) turns moment) }
+{
+    let end = app.rename(id, name);
+    reply_to(into, number, b'N', end);
+    Served::Replied
+}
+
+// Puts a component's children in another order.
+fn reorder<E: Engine>(
+    app: &mut App<E>,
+    id: Id,
+    children: &[u8],
+    number: u8,
+    into: &mut ReplyBuf,
+) -> Served
+    ensures { (turns : ℕ) (moment : ℤ) → Gives E.Engine app.old app.new result into.new number (answer_over E.Engine app.old (reordered id.0 children.now) turns moment) }
+{
+    let end = app.reorder(id, children);
+    reply_to(into, number, b'O', end);
+    Served::Replied
+}
