@@ -1,0 +1,7 @@
+mod Kept
+mod Spelled
+mod Trees
+mod Expressions
+mod Statements
+mod Units
+mod Texts
