@@ -32,10 +32,11 @@ pub record LacksMemory {E : Type 0} (g : Ghosts E) (h : Linked E) (asked : Asked
   pub not_fixed : g.fixed h.tree.engine ≡ false
   pub wants : WantsMemory (g.meaning h.tree.engine) (application_of g h) asked turns moment given
 
+-- what a request is given: the answer of its command, or want of memory
 abbrev pub IsAnswered : {E : Type 0} → Ghosts E → Linked E → Asked → ℕ → ℤ → Answer → Type 0
 IsAnswered g h asked turns moment given = (given ≡ answer_over g h asked turns moment) ⊎ LacksMemory g h asked turns moment given
 
--- a request with this command and number is served
+-- a request with this command and number is served: what it is given is done
 pub record Serves {E : Type 0} (g : Ghosts E) (old new : Linked E) (asked : Asked) (number turns : ℕ) (moment : ℤ) (asks : Served) (bytes : List ℕ) : Type 0 where
   pub given : Answer
   pub is : IsAnswered g old asked turns moment given

@@ -17,5 +17,5 @@ mod shape;
 mod values;
 mod watching;
 
-pub use reply_buf::{LONGEST_REPLY, ReplyBuf};
+pub use reply_buf::ReplyBuf;
 pub use serving::serve;

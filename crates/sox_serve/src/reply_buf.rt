@@ -7,9 +7,6 @@ ghost use Rattle.sox_msg.specs.Reply.{MayReply, reply_text};
 use sox_msg::{Reply, write_reply};
 use std::marker::Model;
 
-/// How many bytes a reply has at most.
-pub const LONGEST_REPLY: usize = 498;
-
 /// The text of one reply in place, at most 498 bytes, and empty where there is none. Contracts see it as its bytes.
 #[derive(Drop)]
 pub struct ReplyBuf {
