@@ -1,0 +1,2 @@
+mod AsRead
+mod First
