@@ -1,0 +1,16 @@
+use Rattle.std.proofs.Common.{◌≡◌, List, ℕ, ap, Err, subst}
+use Rattle.std.specs.Prelude.{◌⊎◌, IsSomeAnd}
+use Rattle.sed_classes.specs.declared.kit_units.KitUnits.{KitUnits}
+use Rattle.kit_sources.specs.Refusals.{name_at}
+use Rattle.sed_elaborate.specs.Checked.{first_fault, IsFault}
+use Rattle.sed_kits.specs.declared.refusal.KitsRefusal.TheVariants.{Rule, Memory}
+use Rattle.sed_kits.proofs.Loads.{broken_there}
+use Rattle.sed_kits.proofs.checking.checked.Goals as goal
+
+pub returns-in-Err-Fault-clause-said : goal.returns-in-Err-Fault-clause-said
+returns-in-Err-Fault-clause-said c =
+    let f = c.in-Err-Fault in
+    broken_there c.args.sources.now c.args.cycles f.file f.at f.rule c.broken.result
+    (subst (λ (names : List (List ℕ)). (c.broken.result ≡ Rule (name_at names f.file) f.at f.rule) ⊎ (c.broken.result ≡ Memory)) c.as_slice-in-Err-Fault.ensures c.broken.ensures)
+    (subst (λ (kits : List KitUnits). IsSomeAnd (first_fault kits c.args.cycles) (IsFault kits f.rule f.file f.at)) c.as_slice.ensures
+    (f.ensures.fault f.rule f.file f.at (ap Err f.field-0-is)))

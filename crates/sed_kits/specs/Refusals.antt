@@ -1,0 +1,52 @@
+-- Why a program is not loaded, and what a call that loads one leaves.
+use Rattle.std.specs.Prelude.{◌≡◌, ◌⊎◌, ℕ, Bool, true, false, List, [], ◌∷◌, Option, Some, None, Result, Ok, Err}
+use Rattle.sed_typed.specs.declared.program.Program.{Program}
+use Rattle.kit_sources.specs.declared.refusal.SourcesRefusal.{SourcesRefusal}
+use Rattle.kit_sources.specs.declared.refusal.SourcesRefusal.TheVariants as sources
+use Rattle.sed_kits.specs.declared.refusal.KitsRefusal.{KitsRefusal}
+use Rattle.sed_kits.specs.declared.refusal.KitsRefusal.TheVariants.{FileFault, Refused, Rule, Memory}
+
+-- it is want of memory
+abbrev pub is_want : KitsRefusal → Bool
+is_want (FileFault file) = false
+is_want (Refused file why) = false
+is_want (Rule file at rule) = false
+is_want Memory = true
+
+-- the refusal that ends the reading of sources, as one of the loading
+abbrev pub of_sources : SourcesRefusal → KitsRefusal
+of_sources (sources.FileFault file) = FileFault file
+of_sources (sources.Refused file why) = Refused file why
+of_sources sources.Memory = Memory
+
+-- the refusal, none where a program is loaded
+abbrev pub refusal_of : Result Program KitsRefusal → Option KitsRefusal
+refusal_of (Ok program) = None
+refusal_of (Err refusal) = Some refusal
+
+-- It ends as the other does: both with a program, or with the same refusal.
+abbrev pub HasRefusalOf : Result Program KitsRefusal → Result Program KitsRefusal → Type 0
+HasRefusalOf end other = refusal_of other ≡ refusal_of end
+
+-- the names of the reads that failed, by the refusal, and by how it ended
+abbrev pub failed_of : KitsRefusal → List (List ℕ)
+failed_of (FileFault file) = file ∷ []
+failed_of (Refused file why) = []
+failed_of (Rule file at rule) = []
+failed_of Memory = []
+
+abbrev pub failed_in : Result Program KitsRefusal → List (List ℕ)
+failed_in (Ok program) = []
+failed_in (Err refusal) = failed_of refusal
+
+-- A file could not be read.
+abbrev pub IsFileFault : Result Program KitsRefusal → Type 0
+IsFileFault (Err (FileFault file)) = Unit {0}
+IsFileFault (Err (Refused file why)) = ⊥
+IsFileFault (Err (Rule file at rule)) = ⊥
+IsFileFault (Err Memory) = ⊥
+IsFileFault (Ok program) = ⊥
+
+-- It ends as the other does, or a file could not be read.
+abbrev pub EndsAs : Result Program KitsRefusal → Result Program KitsRefusal → Type 0
+EndsAs end other = HasRefusalOf end other ⊎ IsFileFault other
