@@ -1,3 +1,4 @@
-pub mod Maps
 pub mod Puts
-pub mod Classes
+pub mod Comings
+pub mod Answering
+pub mod Names

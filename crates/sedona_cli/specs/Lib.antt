@@ -1,12 +1,9 @@
 pub use Rattle.sed_outside.specs.Cause
 pub use Rattle.sed_outside.specs.Files
 pub use Rattle.sed_outside.specs.Sink
-pub use Rattle.sed_lexer.specs.Lexes
-pub use Rattle.sed_first.specs.FirstForm
+pub use Rattle.sed_kits.specs.Loading
 pub mod Command
-pub mod Cycles
-pub mod Text
+pub mod Asked
+pub mod Lines
 pub mod Program
-pub mod Refused
-pub mod Slots
 pub mod Status

@@ -1,6 +1,8 @@
 //! The status of the process.
 ghost use Rattle.std.specs.Prelude.{◌≡◌};
-ghost use Rattle.sedona_cli.specs.Status.{number_of};
+ghost use Rattle.sedona_cli.specs.Status.{number_of, status_of};
+
+use sed_kits::KitsRefusal;
 
 /// How a command ended.
 #[derive(Clone, Copy, Debug, PartialEq, Eq)]
@@ -9,7 +11,7 @@ pub enum Status {
     Done,
     /// The words are outside the table of words.
     Usage,
-    /// A text is refused.
+    /// A manifest or a source is refused, or the kits break a rule.
     Refused,
     /// A file could not be read.
     FileFault,
@@ -31,6 +33,18 @@ impl Status {
             Status::FileFault => 3,
             Status::NoMemory => 7,
             Status::SinkFault => 8,
+        }
+    }
+
+    /// That of a refusal.
+    pub fn of(refusal: &KitsRefusal) -> Status
+        ensures { result ≡ status_of refusal.now }
+    {
+        match refusal {
+            KitsRefusal::FileFault { .. } => Status::FileFault,
+            KitsRefusal::Refused { .. } => Status::Refused,
+            KitsRefusal::Rule { .. } => Status::Refused,
+            KitsRefusal::Memory => Status::NoMemory,
         }
     }
 }

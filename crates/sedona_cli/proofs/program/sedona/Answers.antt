@@ -1,24 +1,19 @@
-use Rattle.std.proofs.Common.{◌≡◌, ℕ, List, Some, sym, subst, ◌∙◌}
-use Rattle.sedona_cli.specs.declared.status.Status.{Status}
-use Rattle.sedona_cli.specs.declared.status.Status.TheVariants.{Done, Usage, Refused, FileFault, NoMemory, SinkFault}
-use Rattle.sedona_cli.specs.Status.{number_of}
-use Rattle.sedona_cli.specs.Command.{Cycles}
-use Rattle.sedona_cli.specs.Program.{Puts, file_fault_line}
+use Rattle.std.proofs.Common.{◌≡◌, ℕ, Some, subst, sym, ◌∙◌}
+use Rattle.sedona_cli.specs.Asked.{asked_command}
+use Rattle.sedona_cli.specs.Command.{Command}
+use Rattle.sedona_cli.specs.Program.{Comes, Follows}
+use Rattle.sedona_cli.proofs.Answering.{answer_follows, known_agree}
 use Rattle.sedona_cli.proofs.program.sedona.Goals as goal
 
-is_file_fault : (status : Status) → number_of status ≡ 3 → status ≡ FileFault
-is_file_fault Done e = cc
-is_file_fault Usage e = cc
-is_file_fault Refused e = cc
-is_file_fault FileFault e = cc
-is_file_fault NoMemory e = cc
-is_file_fault SinkFault e = cc
+same_command : (a b : Command) → Some a ≡ Some b → a ≡ b
+same_command a b e = cc
 
-same_file : (asked file : List ℕ) (n count : ℕ) → Some (Cycles asked n) ≡ Some (Cycles file count) → asked ≡ file
-same_file asked file n count e = cc
-
-pub returns-in-Some-clause-file_fault_line : goal.returns-in-Some-clause-file_fault_line
-returns-in-Some-clause-file_fault_line g c = λ three file count words.
-    subst (λ (f : List ℕ). Puts (g.O.Sink.text c.args.out.now) (g.O.Sink.text c.cycles_of.new.out) (g.O.Sink.faults c.args.out.now) (g.O.Sink.faults c.cycles_of.new.out) (file_fault_line f))
-    (same_file _ file _ count (c.in-Some.ensures ∙ words))
-    (c.cycles_of.ensures.file_fault_line (is_file_fault _ (sym c.number.ensures ∙ three)))
+pub returns-in-Some-clause-comes : goal.returns-in-Some-clause-comes
+returns-in-Some-clause-comes g c = λ command is told end known comes unfailed.
+    let asked = asked_command c.in-Some.asked in
+    let same : asked ≡ command = same_command asked command (c.in-Some.ensures.command ∙ is) in
+    let made = c.command.ensures.reads in
+    subst (λ (n : ℕ). Follows (g.O.Sink.faults c.args.out.now) (g.O.Sink.faults c.command.new.out) end n) (sym c.number.ensures)
+    (answer_follows asked made told _ _ _ _ _ end (c.one_end.ensures asked) (subst (λ (k : Command). Comes k told end) (sym same) comes)
+    (known_agree (g.F.Files.known c.args.files.now) (g.F.Files.failed_reads c.args.files.now) (g.F.Files.failed_reads c.command.new.files) made told
+    c.command.ensures.given c.command.ensures.counts.rose known unfailed) c.command.ensures.holds)
