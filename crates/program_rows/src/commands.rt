@@ -27,6 +27,7 @@ impl Table for Commands {
 }
 
 // Which reads and which puts fail, by their numbers from 0, and the room of the sink.
+#[derive(Drop)]
 struct Plan {
     reads: Vec<usize>,
     puts: Vec<usize>,
