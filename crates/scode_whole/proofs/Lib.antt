@@ -10,3 +10,4 @@ pub mod Limits
 pub mod FirstBytes
 pub mod FirstFits
 pub mod Whole
+pub mod Examples
