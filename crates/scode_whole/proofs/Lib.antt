@@ -1,0 +1,13 @@
+pub mod Truths
+pub mod Rule
+pub mod Counts
+pub mod Kits
+pub mod Rows
+pub mod SysTypes
+pub mod Bases
+pub mod SlotFields
+pub mod Limits
+pub mod FirstBytes
+pub mod FirstFits
+pub mod Whole
+pub mod Examples
