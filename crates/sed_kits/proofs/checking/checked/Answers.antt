@@ -1,11 +1,15 @@
-use Rattle.std.proofs.Common.{◌≡◌, List, ℕ, ap, Err, subst}
+use Rattle.std.proofs.Common.{◌≡◌, List, ℕ, ap, Err, subst, sym}
 use Rattle.std.specs.Prelude.{◌⊎◌, IsSomeAnd}
 use Rattle.sed_classes.specs.declared.kit_units.KitUnits.{KitUnits}
 use Rattle.kit_sources.specs.Refusals.{name_at}
+use Rattle.sed_read.specs.Read.{AreRead}
 use Rattle.sed_elaborate.specs.Checked.{first_fault, IsFault}
 use Rattle.sed_kits.specs.declared.refusal.KitsRefusal.TheVariants.{Rule, Memory}
 use Rattle.sed_kits.proofs.Loads.{broken_there}
 use Rattle.sed_kits.proofs.checking.checked.Goals as goal
+
+pub check-requires-clause-read : goal.check-requires-clause-read
+check-requires-clause-read c = subst (λ (kits : List KitUnits). AreRead kits) (sym c.as_slice.ensures) c.requires.read
 
 pub returns-in-Err-Fault-clause-said : goal.returns-in-Err-Fault-clause-said
 returns-in-Err-Fault-clause-said c =
