@@ -1,5 +1,5 @@
 -- What one poll of a round leaves.
-use Rattle.std.proofs.Common.{◌≡◌, ℕ, zero, suc, ◌-◌, ◌<◌, List, [], ◌∷◌, take, Option, Some, None, IfSome, refl, sym, ap, ◌∙◌, arith, sub-one}
+use Rattle.std.proofs.Common.{◌≡◌, ℕ, zero, suc, ◌-◌, ◌<◌, List, [], ◌∷◌, take, Option, Some, None, IfSome, refl, sym, ap, arith, sub-one}
 use Rattle.std.specs.Option.{option_map}
 use Rattle.sed_outside.specs.declared.addr.Addr.{Addr}
 use Rattle.live_outside.specs.declared.polling.Polling.{Polling}

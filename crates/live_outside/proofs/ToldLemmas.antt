@@ -1,5 +1,5 @@
 -- What is told of a list once items came behind it.
-use Rattle.std.proofs.Common.{◌≡◌, Bool, true, false, List, [], ◌∷◌, ◌++◌, Option, Some, None, refl, sym, ap, ◌∙◌, append_assoc, append-nil}
+use Rattle.std.proofs.Common.{◌≡◌, true, false, List, [], ◌∷◌, ◌++◌, Option, Some, None, refl, sym, ap, ◌∙◌, append_assoc, append-nil}
 use Rattle.live_outside.specs.Told.{Told, Tells, Adds, AddsWhereTold, Bounded, HasRoom, has_any, with_item, with_more}
 
 -- a list that has nothing is empty

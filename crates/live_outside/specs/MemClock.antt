@@ -1,5 +1,5 @@
 -- What contracts see of a clock in memory.
-use Rattle.std.specs.Prelude.{ℤ, List, drop}
+use Rattle.std.specs.Prelude.{ℤ, drop}
 use Rattle.live_outside.specs.declared.mem_clock.MemClock.{MemClock}
 use Rattle.live_outside.specs.Clock.{Moments}
 use Rattle.live_outside.specs.Told.{Bounded}

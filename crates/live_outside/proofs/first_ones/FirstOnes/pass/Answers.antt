@@ -1,4 +1,3 @@
-use Rattle.std.proofs.Common.{List}
 use Rattle.live_outside.proofs.ToldLemmas.{adds_more}
 use Rattle.live_outside.proofs.first_ones.FirstOnes.pass.Goals as goal
 
