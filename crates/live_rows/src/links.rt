@@ -35,8 +35,8 @@ impl Table for Links {
     }
 }
 
-// The polls that are written with blanks between them, none where the text is `none`.
-fn polls_of(alloc: Global, text: &str) -> io::Result<Vec<Polling>> {
+/// The polls that are written with blanks between them, none where the text is `none`.
+pub fn polls_of(alloc: Global, text: &str) -> io::Result<Vec<Polling>> {
     let mut polls = Vec::new(alloc);
     if text == "none" {
         return Ok(polls);
