@@ -1,0 +1,6 @@
+pub mod Told
+pub mod Link
+pub mod Clock
+pub mod Rounds
+pub mod MemLink
+pub mod MemClock

@@ -1,0 +1,13 @@
+-- What contracts see of a clock in memory.
+use Rattle.std.specs.Prelude.{ℤ, drop}
+use Rattle.live_outside.specs.declared.mem_clock.MemClock.{MemClock}
+use Rattle.live_outside.specs.Clock.{Moments}
+use Rattle.live_outside.specs.Told.{Bounded}
+
+-- The moments still to come, and the last one.
+abbrev pub moments_in : MemClock → Moments
+moments_in clock = record { last = clock.last; to_come = drop clock.next clock.moments.items }
+
+-- The moments that were asked of sleeps, and the room for them.
+abbrev pub asked_in : MemClock → Bounded ℤ
+asked_in clock = clock.asked

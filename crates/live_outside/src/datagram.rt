@@ -1,0 +1,15 @@
+//! A datagram, kept in place.
+use sed_outside::Addr;
+use sed_value::InPlace;
+
+/// The longest datagram, in bytes.
+pub const LONGEST_DATAGRAM: usize = 512;
+
+/// A datagram and its peer. Contracts see the bytes as a list.
+#[derive(Drop)]
+pub struct Datagram {
+    /// Whom it goes to.
+    pub peer: Addr,
+    /// Its bytes, at most 512.
+    pub bytes: InPlace<512>,
+}

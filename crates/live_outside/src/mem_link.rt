@@ -1,0 +1,176 @@
+//! A link in memory.
+ghost use Rattle.std.specs.Prelude.{◌≡◌, ◌≤◌, ◌+◌, ◌-◌, ◌^◌, ◌↔◌, [], ◌∷◌, min, Some, IfOk, IsOk, IsErr, IsTrue};
+ghost use Rattle.std.specs.Bool.{OnTrue, OnFalse};
+ghost use Rattle.sed_outside.specs.Cause.{HasCause};
+ghost use Rattle.sed_outside.specs.Failing.{begins_with, FailsNow, after_call};
+ghost use Rattle.live_outside.specs.Link.{next_poll, later_polls, answered, IsShort, KeepsUnlessGot};
+ghost use Rattle.live_outside.specs.MemLink.{polls_in, offered_in, bound_in, plan_of, faults_of, HasRoomFor};
+ghost use Rattle.live_outside.specs.Told.{told_none, Adds, with_item, with_more};
+
+use crate::datagram::{Datagram, LONGEST_DATAGRAM};
+use crate::first_ones::FirstOnes;
+use crate::link::{Link, LinkFault, Polled};
+use crate::polling::{Polling, Polls};
+use sed_outside::{Addr, FailingCalls};
+use sed_value::{InPlace, Memory};
+use std::alloc::Global;
+
+/// A link in memory, whose polls are given and whose binds and sends fail by number. It tells its polls, how often a
+/// port was asked for and which, and of the datagrams that were offered the first ones, as many as its room, and
+/// whether there were more.
+#[derive(Drop)]
+pub struct MemLink {
+    polls: Polls,
+    offered: FirstOnes<Datagram>,
+    binds: u64,
+    port: u16,
+    calls: FailingCalls,
+    faults: u64,
+}
+
+impl MemLink {
+    /// A link whose polls give these in their order, with room for so many datagrams, for which it takes all its memory
+    /// here. `fails` has the numbers, from 0, of the calls that fail, binds and sends numbered together. No port was
+    /// asked for yet; the last one is told as 0.
+    pub fn new(
+        alloc: Global,
+        polls: Vec<Polling>,
+        room: usize,
+        fails: Vec<usize>,
+    ) -> Result<MemLink, Memory>
+        ensures polls { IfOk result (λ link. ⟦<MemLink as Link>⟧.polls link ≡ Some polls.items) }
+        ensures offered { IfOk result (λ link. ⟦<MemLink as Link>⟧.offered link ≡ Some told_none) }
+        ensures bound { IfOk result (λ link. ⟦<MemLink as Link>⟧.bound link ≡ Some (record { count = 0; port = 0 })) }
+        ensures faults { IfOk result (λ link. ⟦<MemLink as Link>⟧.faults link ≡ 0) }
+        ensures to_come { IfOk result (λ link. polls_in link ≡ polls.items) }
+        ensures room { IfOk result (λ link. offered_in link ≡ record { told = told_none; room = room }) }
+        ensures fails { IfOk result (λ link. plan_of link ≡ begins_with fails.items) }
+    {
+        match FirstOnes::new(alloc, room) {
+            Ok(offered) => Ok(MemLink {
+                polls: Polls::new(polls),
+                offered,
+                binds: 0,
+                port: 0,
+                calls: FailingCalls::new(fails),
+                faults: 0,
+            }),
+            Err(Memory) => Err(Memory),
+        }
+    }
+
+    /// The first datagrams that were offered, as many as the room.
+    pub fn offered(&self) -> &[Datagram]
+        ensures { result.now ≡ (offered_in self.now).told.first }
+    {
+        self.offered.first()
+    }
+
+    /// Whether more datagrams were offered.
+    pub fn offered_more(&self) -> bool
+        ensures { result ≡ (offered_in self.now).told.more }
+    {
+        self.offered.has_more()
+    }
+}
+
+// Counts a fault.
+fn counted(faults: &mut u64) -> LinkFault
+    ensures count { faults.new ≡ min (faults.old + 1) (2 ^ 64 - 1) }
+    ensures later { faults.old ≤ faults.new }
+{
+    *faults = faults.saturating_add(1);
+    LinkFault::Failed
+}
+
+// Keeps a datagram behind those that were offered before, where there is room for it, and answers whether there was.
+fn keep(offered: &mut FirstOnes<Datagram>, peer: Addr, bytes: &[u8]) -> bool
+    ensures room { IsTrue result ↔ HasRoomFor offered.old bytes.now }
+    ensures kept { OnTrue result (offered.new ≡ with_item offered.old (record { peer = peer; bytes = bytes.now })) }
+    ensures passed { OnFalse result (offered.new ≡ with_more offered.old) }
+    ensures adds { Adds offered.old.told offered.new.told (record { peer = peer; bytes = bytes.now } ∷ []) }
+{
+    if bytes.len() > LONGEST_DATAGRAM || !offered.has_room() {
+        offered.pass();
+        return false;
+    }
+    offered.put(Datagram {
+        peer,
+        bytes: InPlace::new(bytes),
+    });
+    true
+}
+
+impl Link for MemLink {
+    ghost polls = { λ m. Some (polls_in m) };
+
+    ghost offered = { λ m. Some (offered_in m).told };
+
+    ghost bound = { λ m. Some (bound_in m) };
+
+    ghost faults = { faults_of };
+
+    /// As every bind, and: the call is counted, and is a fault exactly where its number is among those that fail.
+    fn bind(&mut self, port: u16) -> Result<(), LinkFault>
+        ensures bound { bound_in self.new ≡ record { count = min ((bound_in self.old).count + 1) (2 ^ 64 - 1); port = port } }
+        ensures polls { polls_in self.new ≡ polls_in self.old }
+        ensures offered { offered_in self.new ≡ offered_in self.old }
+        ensures cause { HasCause (faults_of self.old) (faults_of self.new) (IsErr result) }
+        ensures by_one { faults_of self.new ≤ faults_of self.old + 1 }
+
+        ensures calls { plan_of self.new ≡ after_call (plan_of self.old) }
+        ensures planned { IsErr result ↔ FailsNow (plan_of self.old) }
+    {
+        self.binds = self.binds.saturating_add(1);
+        self.port = port;
+        if self.calls.fails_now() {
+            return Err(counted(&mut self.faults));
+        }
+        Ok(())
+    }
+
+    /// As every poll. It is no call that is counted.
+    fn poll(&mut self, into: &mut [u8; 512]) -> Polled
+        ensures told { answered result into.new ≡ next_poll (polls_in self.old) }
+        ensures later { polls_in self.new ≡ later_polls (polls_in self.old) }
+        ensures short { IsShort result }
+        ensures kept { KeepsUnlessGot result into.old into.new }
+        ensures offered { offered_in self.new ≡ offered_in self.old }
+        ensures bound { bound_in self.new ≡ bound_in self.old }
+        ensures cause { HasCause (faults_of self.old) (faults_of self.new) (result ≡ Polled.Failed) }
+        ensures by_one { faults_of self.new ≤ faults_of self.old + 1 }
+
+        ensures calls { plan_of self.new ≡ plan_of self.old }
+    {
+        let polled = self.polls.poll(into);
+        if polled == Polled::Failed {
+            self.faults = self.faults.saturating_add(1);
+        }
+        polled
+    }
+
+    /// As every send, and: the call is counted. It is a fault where its number is among those that fail, and past the
+    /// room; any other is done. A datagram is told where there is room for it, whether it is sent or not. One above 512
+    /// bytes has no room, and once one was not told, no later one is.
+    fn send(&mut self, to: Addr, bytes: &[u8]) -> Result<(), LinkFault>
+        ensures offered { Adds (offered_in self.old).told (offered_in self.new).told (record { peer = to; bytes = bytes.now } ∷ []) }
+        ensures polls { polls_in self.new ≡ polls_in self.old }
+        ensures bound { bound_in self.new ≡ bound_in self.old }
+        ensures cause { HasCause (faults_of self.old) (faults_of self.new) (IsErr result) }
+        ensures by_one { faults_of self.new ≤ faults_of self.old + 1 }
+
+        ensures calls { plan_of self.new ≡ after_call (plan_of self.old) }
+        ensures kept { HasRoomFor (offered_in self.old) bytes.now
+            → offered_in self.new ≡ with_item (offered_in self.old) (record { peer = to; bytes = bytes.now }) }
+        ensures passed { (HasRoomFor (offered_in self.old) bytes.now → ⊥)
+            → IsErr result × (offered_in self.new ≡ with_more (offered_in self.old)) }
+        ensures planned { FailsNow (plan_of self.old) → IsErr result }
+        ensures done { (FailsNow (plan_of self.old) → ⊥) → HasRoomFor (offered_in self.old) bytes.now → IsOk result }
+    {
+        let fails = self.calls.fails_now();
+        if keep(&mut self.offered, to, bytes) && !fails {
+            return Ok(());
+        }
+        Err(counted(&mut self.faults))
+    }
+}
