@@ -5,15 +5,19 @@
 #![tactic(auto)]
 
 mod change;
+mod decoding;
 mod edit;
 mod image;
 mod reading;
+mod values;
 mod verifying;
 
 use rows::run;
 use std::io;
 
 fn main(rt: HostRuntime) -> io::Result<()> {
+    run(&rt, &decoding::Decoding)?;
     run(&rt, &reading::Reading)?;
-    run(&rt, &verifying::Verifying)
+    run(&rt, &verifying::Verifying)?;
+    run(&rt, &values::Values)
 }

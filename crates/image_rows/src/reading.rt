@@ -1,8 +1,10 @@
 //! The table of reading: a change of an image, and what is read of it.
+ghost use Rattle.scode_image.specs.Grammar.{HasText};
+
 use crate::edit::edited;
 use crate::image::SYS;
 use rows::Table;
-use scode_image::{ImageRefusal, read_image, write_image};
+use scode_image::{Image, ImageRefusal, read_image, write_image};
 use std::alloc::Global;
 use std::io::{self, ErrorKind, Write};
 
@@ -18,25 +20,34 @@ impl Table for Reading {
     fn outcome(&self, alloc: Global, inputs: &[Vec<u8>], out: &mut Vec<u8>) -> io::Result<()> {
         let words = str::from_utf8(inputs[0].as_slice()).unwrap_or("");
         let bytes = edited(alloc, SYS, words)?;
-        write_read(alloc, bytes.as_slice(), out)
+        match read_written(alloc, bytes.as_slice(), out)? {
+            Some(_) => write!(out, "image"),
+            None => Ok(()),
+        }
     }
 }
 
-// What is read of bytes.
-fn write_read(alloc: Global, bytes: &[u8], out: &mut Vec<u8>) -> io::Result<()> {
+/// The image that bytes are, where it is then written alike. Else says what they are.
+pub fn read_written(alloc: Global, bytes: &[u8], out: &mut Vec<u8>) -> io::Result<Option<Image>> {
     match read_image(alloc, bytes) {
         Ok(image) => {
-            let mut again = Vec::new(alloc);
-            if write_image(&image, &mut again).is_err() {
-                return Err(io::Error::from(ErrorKind::OutOfMemory));
+            if is_written_alike(alloc, &image, bytes)? {
+                return Ok(Some(image));
             }
-            if again.as_slice() == bytes {
-                write!(out, "image")
-            } else {
-                write!(out, "image that is written otherwise")
-            }
+            write!(out, "image that is written otherwise")?;
         }
-        Err(ImageRefusal::NotAnImage { at }) => write!(out, "no image at {at}"),
-        Err(ImageRefusal::Memory) => Err(io::Error::from(ErrorKind::OutOfMemory)),
+        Err(ImageRefusal::NotAnImage { at }) => write!(out, "no image at {at}")?,
+        Err(ImageRefusal::Memory) => return Err(io::Error::from(ErrorKind::OutOfMemory)),
     }
+    Ok(None)
+}
+
+fn is_written_alike(alloc: Global, image: &Image, bytes: &[u8]) -> io::Result<bool>
+    requires { HasText image.now }
+{
+    let mut again = Vec::new(alloc);
+    if write_image(image, &mut again).is_err() {
+        return Err(io::Error::from(ErrorKind::OutOfMemory));
+    }
+    Ok(again.as_slice() == bytes)
 }

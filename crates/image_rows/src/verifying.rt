@@ -2,7 +2,7 @@
 use crate::change::changed;
 use crate::image::SYS;
 use rows::Table;
-use scode_image::read_image;
+use scode_image::{Image, read_image};
 use scode_verify::{VerifyRefusal, verify};
 use std::alloc::Global;
 use std::io::{self, ErrorKind, Write};
@@ -19,15 +19,15 @@ impl Table for Verifying {
     fn outcome(&self, alloc: Global, inputs: &[Vec<u8>], out: &mut Vec<u8>) -> io::Result<()> {
         let words = str::from_utf8(inputs[0].as_slice()).unwrap_or("");
         let bytes = changed(alloc, SYS, words)?;
-        read_verify(alloc, bytes.as_slice(), out)
+        match read_image(alloc, bytes.as_slice()) {
+            Ok(image) => tell_verified(alloc, image, out),
+            Err(_) => write!(out, "no image"),
+        }
     }
 }
 
-// Whether the image that bytes are is verified.
-fn read_verify(alloc: Global, bytes: &[u8], out: &mut Vec<u8>) -> io::Result<()> {
-    let Ok(image) = read_image(alloc, bytes) else {
-        return write!(out, "no image");
-    };
+/// Whether an image is verified.
+pub fn tell_verified(alloc: Global, image: Image, out: &mut Vec<u8>) -> io::Result<()> {
     match verify(alloc, image) {
         Ok(_) => write!(out, "verified"),
         Err(VerifyRefusal::Fault { method, at, rule }) => {
