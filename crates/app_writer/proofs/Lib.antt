@@ -1,0 +1,5 @@
+pub mod EntriesFrom
+pub mod RowsLeft
+pub mod Siblings
+pub mod FoundRows
+pub mod Lengths
