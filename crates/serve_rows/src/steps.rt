@@ -1,0 +1,130 @@
+//! The steps of a script, each with its answer:
+//!
+//! - a payload (payloads.rt) is read and served, and answers with the reply's bytes, and behind them what else is asked: `save`
+//!   (then there is no reply), `subscribe 1 15`, `unsubscribe 1 1`, `deleted`; what is no request gives its refusal's cause;
+//! - `200 * ` and a payload are so many requests one after another: how many of them are done, and the last answer;
+//! - `cycle`, `7 cycles` and `begin` give how many calls trapped;
+//! - `turns 100` and `moment 5000` set what each root call gets from then on.
+ghost use Rattle.std.specs.Prelude.{◌≤◌};
+
+use crate::inputs::{moment, number, split};
+use crate::payloads::payload;
+use crate::stage::Stage;
+use app_cycle::{begin, cycle};
+use sox_commands::Served;
+use sox_msg::read_request;
+use sox_serve::{ReplyBuf, serve};
+use std::alloc::Global;
+use std::io::{self, Write};
+
+/// Does a step, and writes its answer.
+pub fn do_step(alloc: Global, stage: &mut Stage, step: &str, out: &mut Vec<u8>) -> io::Result<()> {
+    let (word, rest) = split(step);
+    match word {
+        "begin" => {
+            let ended = begin(&mut stage.app, budget(stage.turns), stage.moment);
+            write!(out, "{}", ended.traps)
+        }
+        "cycle" => write!(out, "{}", run_cycles(stage, 1)),
+        "turns" => {
+            stage.turns = number(rest)?;
+            write!(out, "ok")
+        }
+        "moment" => {
+            stage.moment = moment(rest)?;
+            write!(out, "ok")
+        }
+        _ => do_other(alloc, stage, step, out),
+    }
+}
+
+fn do_other(alloc: Global, stage: &mut Stage, step: &str, out: &mut Vec<u8>) -> io::Result<()> {
+    let (word, rest) = split(step);
+    if rest == "cycles" {
+        return write!(out, "{}", run_cycles(stage, number(word)?));
+    }
+    if let Some(words) = rest.strip_prefix("* ") {
+        return repeat(alloc, stage, number(word)?, words, out);
+    }
+    let payload = payload(alloc, step, 0)?;
+    ask(stage, payload.as_slice(), out)?;
+    Ok(())
+}
+
+// So many turns, as many as a root call may have.
+fn budget(turns: u32) -> u32
+    ensures some { 1 ≤ result }
+    ensures most { result ≤ 1000000 }
+{
+    turns.clamp(1, 1_000_000)
+}
+
+// Runs so many cycles, and says how many calls trapped.
+fn run_cycles(stage: &mut Stage, count: u32) -> u64 {
+    let mut traps = 0u64;
+    for _ in 0..count {
+        let ended = cycle(&mut stage.app, budget(stage.turns), stage.moment);
+        traps = traps.saturating_add(u64::from(ended.traps));
+    }
+    traps
+}
+
+// Does so many requests, and writes how many of them were done, and the answer of the last.
+fn repeat(
+    alloc: Global,
+    stage: &mut Stage,
+    count: u32,
+    words: &str,
+    out: &mut Vec<u8>,
+) -> io::Result<()> {
+    let mut done = 0u32;
+    let mut last = Vec::new(alloc);
+    for before in 0..count {
+        let payload = payload(alloc, words, before)?;
+        last.clear();
+        if ask(stage, payload.as_slice(), &mut last)? {
+            done = done.saturating_add(1);
+        }
+    }
+    write!(out, "{done} ")?;
+    out.write_all(last.as_slice())
+}
+
+// Asks for what a payload is, writes the answer, and says whether it is done.
+fn ask(stage: &mut Stage, payload: &[u8], out: &mut Vec<u8>) -> io::Result<bool> {
+    let request = match read_request(payload) {
+        Ok(request) => request,
+        Err(refusal) => {
+            write!(out, "{}", refusal.text())?;
+            return Ok(false);
+        }
+    };
+    let mut reply = ReplyBuf::new();
+    let served = serve(
+        &mut stage.app,
+        budget(stage.turns),
+        stage.moment,
+        &request,
+        &mut reply,
+    );
+    write_bytes(reply.bytes(), out)?;
+    write_served(served, out)?;
+    Ok(!reply.bytes().starts_with(b"!"))
+}
+
+fn write_bytes(bytes: &[u8], out: &mut Vec<u8>) -> io::Result<()> {
+    for byte in bytes {
+        write!(out, "{byte:02x}")?;
+    }
+    Ok(())
+}
+
+fn write_served(served: Served, out: &mut Vec<u8>) -> io::Result<()> {
+    match served {
+        Served::Replied => Ok(()),
+        Served::SaveAsked => write!(out, "save"),
+        Served::Deleted => write!(out, " deleted"),
+        Served::Subscribe { id, mask } => write!(out, " subscribe {} {mask}", id.0),
+        Served::Unsubscribe { id, mask } => write!(out, " unsubscribe {} {mask}", id.0),
+    }
+}
