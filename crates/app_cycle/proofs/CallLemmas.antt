@@ -75,7 +75,7 @@ module _ (m : Meaning) (a : Components) (id : ℕ) (which : Root) (argument : Va
   ran_if None there = refl
   ran_if (Some c) there = ran c there (c.fault == 0)
 
-  run_live : is_live (run_at m a id which argument turns moment).left.by_id q ≡ is_live a.by_id q
+  pub run_live : is_live (run_at m a id which argument turns moment).left.by_id q ≡ is_live a.by_id q
   run_live = ran_if (map.get a.by_id id) refl
 
 pub call_live : (m : Meaning) (a : Components) (id : ℕ) (c : CallbackKind) (slot turns : ℕ) (moment : ℤ) (q : ℕ) → is_live (Call m a id c slot turns moment).left.by_id q ≡ is_live a.by_id q

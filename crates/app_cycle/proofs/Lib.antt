@@ -1,2 +1,3 @@
 pub mod CallLemmas
 pub mod CountedCalls
+pub mod CycleMarks

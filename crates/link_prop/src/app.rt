@@ -1,5 +1,5 @@
 //! The application.
-ghost use Rattle.std.specs.Prelude.{◌≡◌, ◌≤◌, ◌<◌, [], not, IsTrue, IsSome, IfOk, OnOk, OnErr, MatchResult, Some, None, length, slice_get};
+ghost use Rattle.std.specs.Prelude.{◌≡◌, ◌≤◌, ◌<◌, ℕ, true, [], not, IsTrue, IsSome, IfOk, OnOk, OnErr, MatchResult, Some, None, length, slice_get};
 ghost use Rattle.std.specs.FinMap as map;
 ghost use Rattle.link_table.specs.Links.{links_at, with_link, without_link};
 ghost use Rattle.comp_tree.specs.Application.{fault_of, most_links, most_links_at_component};
@@ -7,27 +7,32 @@ ghost use Rattle.comp_tree.specs.Calls.{Call, execute_at};
 ghost use Rattle.comp_tree.specs.Edit.{is_save};
 ghost use Rattle.comp_tree.specs.Edits.{after_clear, after_invoke, after_rename, after_reorder, after_write};
 ghost use Rattle.comp_tree.specs.Refusals.{first_refusal, refusals_of_clear, refusals_of_invoke, refusals_of_link, refusals_of_rename, refusals_of_reorder, refusals_of_unlink, refusals_of_write};
+ghost use Rattle.link_prop.specs.Marks.{is_marked};
+ghost use Rattle.link_prop.specs.Marks.AppPart.{OfLinks};
 
 mod commands;
 mod copying;
 mod deleting;
 mod linking;
+mod marking;
 
 use comp_tree::Tree;
+use link_marks::LinkMarks;
 use link_table::{LinkRec, Links};
 use sed_engine::Engine;
 use sed_value::{Id, Memory};
 use std::alloc::Global;
 use std::marker::Model;
 
-/// The components of an application over an engine, and the links between their slots.
+/// The components of an application over an engine, the links between their slots, and the marks of what may have changed.
 ///
-/// Contracts speak of the application that it stands for, by its tree and its links. Where the engine is fixed, no call
-/// after `new` wants memory.
+/// Contracts speak of the application that it stands for, by its tree and its links. Each call says besides what it does to
+/// the marks. Where the engine is fixed, no call after `new` wants memory.
 #[derive(Drop)]
 pub struct App<E: Engine> {
     tree: Tree<E>,
     links: Links,
+    marks: LinkMarks,
 }
 
 impl<E: Engine> Model for App<E> {
@@ -39,19 +44,22 @@ impl<E: Engine> Model for App<E> {
 
     ghost coded = { linked_code E.code node.the_row.coded };
 
-    ghost view = { λ a. record { tree = a.tree; links = a.links } };
+    ghost view = { λ a. record { tree = a.tree; links = a.links; marks = a.marks } };
 
     ghost invariant = { λ a. AreLinked (E.meaning a.tree.engine) (components_of E.Engine a.tree).by_id a.links };
 }
 
 impl<E: Engine> App<E> {
-    /// A tree without links. Room for the 8,192 links that there may be is taken here.
+    /// A tree without links. Room for the 8,192 links that there may be, and for the marks, is taken here. The links at each
+    /// component are marked, for every place; the other marks are those of the tree.
     pub fn new(alloc: Global, tree: Tree<E>) -> Result<App<E>, Memory>
         ensures tree { IfOk result (λ a. a.tree ≡ tree) }
         ensures links { IfOk result (λ a. a.links ≡ []) }
+        ensures marks { IfOk result (λ a. (id place : ℕ) → is_marked a id place OfLinks ≡ true) }
     {
         let links = Links::new(alloc)?;
-        Ok(App { tree, links })
+        let marks = LinkMarks::new(alloc)?;
+        Ok(App { tree, links, marks })
     }
 
     /// The tree of components.

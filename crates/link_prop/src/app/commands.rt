@@ -1,5 +1,5 @@
 //! Calls that are the tree's own. Each leaves the links as they were.
-ghost use Rattle.std.specs.Prelude.{◌≡◌, ◌≢◌, ◌≤◌, not, false, IsTrue, IsSome, IfErr, IfOk, OnOk, OnErr, MatchResult, Some, None, Err};
+ghost use Rattle.std.specs.Prelude.{◌≡◌, ◌≢◌, ◌≤◌, ◌||◌, ℕ, not, true, false, IsTrue, IsSome, IfErr, IfOk, OnOk, OnErr, MatchResult, Some, None, Err};
 ghost use Rattle.std.specs.FinMap as map;
 ghost use Rattle.comp_tree.specs.Application.{fault_of};
 ghost use Rattle.comp_tree.specs.Calls.{Call, execute_at};
@@ -8,8 +8,10 @@ ghost use Rattle.comp_tree.specs.Edit.{class_or_none, is_save};
 ghost use Rattle.comp_tree.specs.Edits.{after_add, after_clear, after_invoke, after_rename, after_reorder, after_write};
 ghost use Rattle.comp_tree.specs.Order.{least_free};
 ghost use Rattle.comp_tree.specs.Refusals.{first_refusal, refusals_of_add, refusals_of_clear, refusals_of_invoke, refusals_of_rename, refusals_of_reorder, refusals_of_write};
+ghost use Rattle.link_prop.specs.Marks.{AppPart, KeepsAppMarks, added_at, has_mark, is_marked, links_of_new, no_links, no_marks, tree_at, values_at};
 
 use crate::app::App;
+use link_marks::LinkMarks;
 use sed_engine::{CallEnd, Callback, Engine};
 use sed_value::{Id, Refusal};
 
@@ -41,12 +43,17 @@ impl<E: Engine> App<E> {
         ensures refused { IfErr result (λ refusal. refusal ≢ OutOfMemory → first_refusal (refusals_of_add (E.meaning self.old.tree.engine) (components_of E.Engine self.old.tree) parent.0 kit number name.now config.now) ≡ Some refusal) }
         ensures memory { result ≡ Err OutOfMemory → (E.fixed self.old.tree.engine ≡ false) × (first_refusal (refusals_of_add (E.meaning self.old.tree.engine) (components_of E.Engine self.old.tree) parent.0 kit number name.now config.now) ≡ None) }
         ensures stays { OnErr result (components_of E.Engine self.new.tree ≡ components_of E.Engine self.old.tree) }
+        ensures marks { MatchResult result (λ id. KeepsAppMarks E.Engine (added_at parent.0 id.0) (links_of_new id.0) self.old self.new) (λ _. KeepsAppMarks E.Engine no_marks no_links self.old self.new) }
+        ensures set { IfOk result (λ id. (at : ℕ) (part : AppPart) → is_marked self.new id.0 at part ≡ true) }
         ensures links { self.new.links ≡ self.old.links }
         ensures meaning { E.meaning self.new.tree.engine ≡ E.meaning self.old.tree.engine }
         ensures steady { E.fixed self.new.tree.engine ≡ E.fixed self.old.tree.engine }
     {
-        self.tree
-            .add(parent, kit, number, name, config, turns, ticks)
+        let added = self
+            .tree
+            .add(parent, kit, number, name, config, turns, ticks);
+        mark_added(&mut self.marks, added);
+        added
     }
 
     /// Gives a component another name. The first refusal of its row comes exactly where one holds, and then all is as it was.
@@ -55,6 +62,7 @@ impl<E: Engine> App<E> {
         ensures refused { MatchResult result (λ _. first_refusal (refusals_of_rename (components_of E.Engine self.old.tree).by_id id.0 name.now) ≡ None)
             (λ refusal. first_refusal (refusals_of_rename (components_of E.Engine self.old.tree).by_id id.0 name.now) ≡ Some refusal) }
         ensures stays { OnErr result (self.new ≡ self.old) }
+        ensures marks { KeepsAppMarks E.Engine (tree_at id.0) no_links self.old self.new }
         ensures links { self.new.links ≡ self.old.links }
         ensures meaning { E.meaning self.new.tree.engine ≡ E.meaning self.old.tree.engine }
         ensures steady { E.fixed self.new.tree.engine ≡ E.fixed self.old.tree.engine }
@@ -69,6 +77,7 @@ impl<E: Engine> App<E> {
         ensures refused { MatchResult result (λ _. first_refusal (refusals_of_reorder (components_of E.Engine self.old.tree).by_id id.0 children.now) ≡ None)
             (λ refusal. first_refusal (refusals_of_reorder (components_of E.Engine self.old.tree).by_id id.0 children.now) ≡ Some refusal) }
         ensures stays { OnErr result (self.new ≡ self.old) }
+        ensures marks { KeepsAppMarks E.Engine (tree_at id.0) no_links self.old self.new }
         ensures links { self.new.links ≡ self.old.links }
         ensures meaning { E.meaning self.new.tree.engine ≡ E.meaning self.old.tree.engine }
         ensures steady { E.fixed self.new.tree.engine ≡ E.fixed self.old.tree.engine }
@@ -93,6 +102,7 @@ impl<E: Engine> App<E> {
         ensures refused { MatchResult result (λ _. first_refusal (refusals_of_write (E.meaning self.old.tree.engine) (components_of E.Engine self.old.tree).by_id id.0 slot value.now) ≡ None)
             (λ refusal. first_refusal (refusals_of_write (E.meaning self.old.tree.engine) (components_of E.Engine self.old.tree).by_id id.0 slot value.now) ≡ Some refusal) }
         ensures stays { OnErr result (self.new ≡ self.old) }
+        ensures marks { KeepsAppMarks E.Engine (values_at id.0) no_links self.old self.new }
         ensures links { self.new.links ≡ self.old.links }
         ensures meaning { E.meaning self.new.tree.engine ≡ E.meaning self.old.tree.engine }
         ensures steady { E.fixed self.new.tree.engine ≡ E.fixed self.old.tree.engine }
@@ -119,6 +129,7 @@ impl<E: Engine> App<E> {
         ensures refused { MatchResult result (λ _. first_refusal (refusals_of_invoke (E.meaning self.old.tree.engine) (components_of E.Engine self.old.tree).by_id id.0 slot arg.now) ≡ None)
             (λ refusal. first_refusal (refusals_of_invoke (E.meaning self.old.tree.engine) (components_of E.Engine self.old.tree).by_id id.0 slot arg.now) ≡ Some refusal) }
         ensures stays { OnErr result (self.new ≡ self.old) }
+        ensures marks { KeepsAppMarks E.Engine (values_at id.0) no_links self.old self.new }
         ensures links { self.new.links ≡ self.old.links }
         ensures meaning { E.meaning self.new.tree.engine ≡ E.meaning self.old.tree.engine }
         ensures steady { E.fixed self.new.tree.engine ≡ E.fixed self.old.tree.engine }
@@ -132,6 +143,7 @@ impl<E: Engine> App<E> {
         ensures refused { MatchResult result (λ _. first_refusal (refusals_of_clear (components_of E.Engine self.old.tree).by_id id.0) ≡ None)
             (λ refusal. first_refusal (refusals_of_clear (components_of E.Engine self.old.tree).by_id id.0) ≡ Some refusal) }
         ensures stays { OnErr result (self.new ≡ self.old) }
+        ensures marks { KeepsAppMarks E.Engine no_marks no_links self.old self.new }
         ensures links { self.new.links ≡ self.old.links }
         ensures meaning { E.meaning self.new.tree.engine ≡ E.meaning self.old.tree.engine }
         ensures steady { E.fixed self.new.tree.engine ≡ E.fixed self.old.tree.engine }
@@ -148,6 +160,7 @@ impl<E: Engine> App<E> {
         requires most_turns { turns ≤ 1000000 }
         ensures left { components_of E.Engine self.new.tree ≡ (execute_at (E.meaning self.old.tree.engine) (components_of E.Engine self.old.tree) id.0 turns ticks).left }
         ensures end { result ≡ (execute_at (E.meaning self.old.tree.engine) (components_of E.Engine self.old.tree) id.0 turns ticks).end }
+        ensures marks { KeepsAppMarks E.Engine (values_at id.0) no_links self.old self.new }
         ensures links { self.new.links ≡ self.old.links }
         ensures meaning { E.meaning self.new.tree.engine ≡ E.meaning self.old.tree.engine }
         ensures steady { E.fixed self.new.tree.engine ≡ E.fixed self.old.tree.engine }
@@ -163,10 +176,20 @@ impl<E: Engine> App<E> {
         requires most_turns { turns ≤ 1000000 }
         ensures left { components_of E.Engine self.new.tree ≡ (Call (E.meaning self.old.tree.engine) (components_of E.Engine self.old.tree) id.0 c slot turns ticks).left }
         ensures end { result ≡ (Call (E.meaning self.old.tree.engine) (components_of E.Engine self.old.tree) id.0 c slot turns ticks).end }
+        ensures marks { KeepsAppMarks E.Engine (values_at id.0) no_links self.old self.new }
         ensures links { self.new.links ≡ self.old.links }
         ensures meaning { E.meaning self.new.tree.engine ≡ E.meaning self.old.tree.engine }
         ensures steady { E.fixed self.new.tree.engine ≡ E.fixed self.old.tree.engine }
     {
         self.tree.callback(id, c, slot, turns, ticks)
+    }
+}
+
+// Marks the links at a component that was added.
+fn mark_added(marks: &mut LinkMarks, added: Result<Id, Refusal>)
+    ensures { MatchResult added (λ new. (id place : ℕ) → has_mark marks.new id place ≡ (links_of_new new.0 id || has_mark marks.old id place)) (λ _. marks.new ≡ marks.old) }
+{
+    if let Ok(new) = added {
+        marks.mark(new);
     }
 }

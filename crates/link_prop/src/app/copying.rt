@@ -7,6 +7,8 @@ ghost use Rattle.link_prop.specs.Linked.{one_if};
 ghost use Rattle.comp_tree.specs.Links.{copy_along, copy_into as copied_into};
 ghost use Rattle.comp_tree.specs.Whole.{IsLink};
 ghost use Rattle.comp_tree.specs.Held.{components_of};
+ghost use Rattle.comp_tree.specs.Marks.{KeepsMarks};
+ghost use Rattle.link_prop.specs.Marks.{KeepsAppMarks, no_links, values_at};
 
 use crate::app::App;
 use comp_tree::Tree;
@@ -25,23 +27,32 @@ impl<E: Engine> App<E> {
         requires most_turns { turns ≤ 1000000 }
         ensures copied { (before : ℕ) → copied_into (E.meaning self.old.tree.engine) self.old.links turns ticks (record { left = components_of E.Engine self.old.tree; traps = before }) id.0 ≡ (let s : Counted = record { left = components_of E.Engine self.new.tree; traps = before + result } in s) }
         ensures few { result ≤ most_links }
+        ensures marks { KeepsAppMarks E.Engine (values_at id.0) no_links self.old self.new }
         ensures links { self.new.links ≡ self.old.links }
         ensures meaning { E.meaning self.new.tree.engine ≡ E.meaning self.old.tree.engine }
         ensures steady { E.fixed self.new.tree.engine ≡ E.fixed self.old.tree.engine }
     {
         let _few = self.links.len();
-        copy_all(&mut self.tree, self.links.into_component(id), turns, ticks)
+        copy_all(
+            &mut self.tree,
+            self.links.into_component(id),
+            id,
+            turns,
+            ticks,
+        )
     }
 }
 
-// Copies along links one after another, and says how many calls of `changed` trapped.
-fn copy_all<E: Engine>(tree: &mut Tree<E>, links: &[LinkRec], turns: u32, ticks: i64) -> u32
+// Copies along links into a component one after another, and says how many calls of `changed` trapped.
+fn copy_all<E: Engine>(tree: &mut Tree<E>, links: &[LinkRec], id: Id, turns: u32, ticks: i64) -> u32
     requires typed { All (IsLink (E.meaning tree.old.engine) (components_of E.Engine tree.old).by_id) links.now }
+    requires into { All (λ l. l.to ≡ id.0) links.now }
     requires few { length links.now ≤ most_links }
     requires some_turns { 1 ≤ turns }
     requires most_turns { turns ≤ 1000000 }
     ensures copied { (before : ℕ) → fold (copy_along (E.meaning tree.old.engine) turns ticks) (record { left = components_of E.Engine tree.old; traps = before }) links.now ≡ (let s : Counted = record { left = components_of E.Engine tree.new; traps = before + result } in s) }
     ensures few { result ≤ length links.now }
+    ensures marks { KeepsMarks E.Engine (values_at id.0) tree.old tree.new }
     ensures meaning { E.meaning tree.new.engine ≡ E.meaning tree.old.engine }
     ensures steady { E.fixed tree.new.engine ≡ E.fixed tree.old.engine }
 {
@@ -67,6 +78,7 @@ fn copy_one<E: Engine>(tree: &mut Tree<E>, link: LinkRec, turns: u32, ticks: i64
     requires some_turns { 1 ≤ turns }
     requires most_turns { turns ≤ 1000000 }
     ensures copied { (traps : ℕ) → copy_along (E.meaning tree.old.engine) turns ticks (record { left = components_of E.Engine tree.old; traps = traps }) link ≡ (let s : Counted = record { left = components_of E.Engine tree.new; traps = traps + one_if result } in s) }
+    ensures marks { KeepsMarks E.Engine (values_at link.to) tree.old tree.new }
     ensures meaning { E.meaning tree.new.engine ≡ E.meaning tree.old.engine }
     ensures steady { E.fixed tree.new.engine ≡ E.fixed tree.old.engine }
 {

@@ -6,8 +6,10 @@ ghost use Rattle.comp_tree.specs.Application.{most_components};
 ghost use Rattle.comp_tree.specs.Edits.{after_delete};
 ghost use Rattle.comp_tree.specs.Order.{subtree as subtree_of};
 ghost use Rattle.comp_tree.specs.Refusals.{first_refusal, refusals_of_delete};
+ghost use Rattle.link_prop.specs.Marks.{KeepsAppMarks, links_with, tree_above};
 
 use crate::app::App;
+use crate::app::marking::mark_linked;
 use crate::ends::is_live;
 use comp_tree::MOST_COMPONENTS;
 use link_table::laws::links_taken_out_are_gone;
@@ -28,6 +30,7 @@ impl<E: Engine> App<E> {
         ensures refused { MatchResult result (λ _. first_refusal (refusals_of_delete (components_of E.Engine self.old.tree).by_id id.0) ≡ None)
             (λ refusal. first_refusal (refusals_of_delete (components_of E.Engine self.old.tree).by_id id.0) ≡ Some refusal) }
         ensures stays { OnErr result (self.new ≡ self.old) }
+        ensures marks { KeepsAppMarks E.Engine (tree_above (components_of E.Engine self.old.tree).by_id id.0) (links_with (subtree_of (components_of E.Engine self.old.tree).by_id id.0) self.old.links) self.old self.new }
         ensures meaning { E.meaning self.new.tree.engine ≡ E.meaning self.old.tree.engine }
         ensures steady { E.fixed self.new.tree.engine ≡ E.fixed self.old.tree.engine }
     {
@@ -35,11 +38,12 @@ impl<E: Engine> App<E> {
             return Err(Refusal::NoComponent);
         }
         let gone = self.tree.subtree(id);
-        let marks = marks_of(gone.as_slice());
+        let leaving = marks_of(gone.as_slice());
         links_taken_out_are_gone();
         match self.tree.delete(id, turns, ticks) {
             Ok(()) => {
-                self.links.remove_at(&marks);
+                mark_linked(&mut self.marks, &self.links, &leaving);
+                self.links.remove_at(&leaving);
                 Ok(())
             }
             Err(refusal) => Err(refusal),

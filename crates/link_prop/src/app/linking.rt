@@ -6,8 +6,10 @@ ghost use Rattle.comp_tree.specs.Application.{most_links_at_component};
 ghost use Rattle.comp_tree.specs.Held.{components_of};
 ghost use Rattle.comp_tree.specs.Refusals.{first_refusal, refusals_of_link, refusals_of_unlink};
 ghost use Rattle.link_prop.specs.Ends.{goes_together, has_target_of, lacks_component, lacks_property, lacks_slot};
+ghost use Rattle.link_prop.specs.Marks.{KeepsAppMarks, links_at_ends, no_marks};
 
 use crate::app::App;
+use crate::app::marking::mark_ends;
 use crate::ends::{form_at, go_together, is_live, type_of};
 use comp_tree::Tree;
 use link_table::laws::{a_new_link_joins_the_others, links_taken_out_are_gone};
@@ -28,6 +30,7 @@ impl<E: Engine> App<E> {
         ensures refused { MatchResult result (λ _. first_refusal (refusals_of_link (E.meaning self.old.tree.engine) (components_of E.Engine self.old.tree).by_id self.old.links l) ≡ None)
             (λ refusal. first_refusal (refusals_of_link (E.meaning self.old.tree.engine) (components_of E.Engine self.old.tree).by_id self.old.links l) ≡ Some refusal) }
         ensures stays { OnErr result (self.new ≡ self.old) }
+        ensures marks { KeepsAppMarks E.Engine no_marks (links_at_ends l) self.old self.new }
         ensures tree { self.new.tree ≡ self.old.tree }
     {
         match refusal_of_link(&self.tree, &self.links, l) {
@@ -35,6 +38,7 @@ impl<E: Engine> App<E> {
             None => {
                 a_new_link_joins_the_others();
                 self.links.insert(l);
+                mark_ends(&mut self.marks, l);
                 Ok(())
             }
         }
@@ -46,6 +50,7 @@ impl<E: Engine> App<E> {
         ensures refused { MatchResult result (λ _. first_refusal (refusals_of_unlink self.old.links l) ≡ None)
             (λ refusal. first_refusal (refusals_of_unlink self.old.links l) ≡ Some refusal) }
         ensures stays { OnErr result (self.new ≡ self.old) }
+        ensures marks { KeepsAppMarks E.Engine no_marks (links_at_ends l) self.old self.new }
         ensures tree { self.new.tree ≡ self.old.tree }
     {
         if !self.links.contains(l) {
@@ -53,6 +58,7 @@ impl<E: Engine> App<E> {
         }
         links_taken_out_are_gone();
         let _there = self.links.remove(l);
+        mark_ends(&mut self.marks, l);
         Ok(())
     }
 }

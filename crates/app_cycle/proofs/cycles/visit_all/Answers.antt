@@ -7,6 +7,7 @@ use Rattle.comp_tree.specs.Calls.{Counted}
 use Rattle.comp_tree.specs.Cycle.{visit}
 use Rattle.comp_tree.specs.Held.{components_of}
 use Rattle.app_cycle.proofs.CountedCalls.{counted_all, counted_more}
+use Rattle.app_cycle.proofs.CycleMarks.{marked_again, marked_none}
 use Rattle.app_cycle.proofs.cycles.visit_all.Goals as goal
 
 pub loop-id-preserved : goal.loop-id-preserved
@@ -25,6 +26,7 @@ loop-id-preserved g c =
           (ap (λ (n : Meaning). visit n links c.args.turns t s x) (sym c.loop-id.invariant.meaning)
           ∙ ap (λ (ls : List Link). visit (g.E.Engine.meaning c.loop-id.app.tree.engine) ls c.args.turns t s x) (sym c.loop-id.invariant.links)
           ∙ c.visit-traps.ensures.visited c.loop-id.traps);
+      marks = marked_again g.E.Engine c.args.app.now c.loop-id.app c.visit-traps.new.app c.loop-id.invariant.marks c.visit-traps.ensures.marks c.visit-traps.ensures.live;
       links = c.visit-traps.ensures.links ∙ c.loop-id.invariant.links;
       meaning = c.visit-traps.ensures.meaning ∙ c.loop-id.invariant.meaning;
       steady = c.visit-traps.ensures.steady ∙ c.loop-id.invariant.steady;

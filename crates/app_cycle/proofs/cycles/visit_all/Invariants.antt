@@ -1,6 +1,8 @@
 use Rattle.std.proofs.Common.{◌≡◌}
 use Rattle.comp_tree.specs.Cycle.{visit}
 use Rattle.comp_tree.specs.Held.{components_of}
+use Rattle.link_prop.specs.Marks.{KeepsAppMarks, no_links}
+use Rattle.app_cycle.specs.Marks.{values_of_any}
 use Rattle.app_cycle.proofs.CountedCalls.{CountedSoFar}
 use Rattle.app_cycle.proofs.cycles.visit_all.Given as goal
 
@@ -8,6 +10,7 @@ use Rattle.app_cycle.proofs.cycles.visit_all.Given as goal
 abbrev pub invariant-loop-id : goal.invariant-loop-id
 invariant-loop-id g l = record {
   counted : CountedSoFar (visit (g.E.Engine.meaning l.fn.app.tree.engine) l.fn.app.links l.turns l.ticks) (components_of g.E.Engine l.fn.app.tree) (components_of g.E.Engine l.app.tree) l.ids l.id-index l.traps;
+  marks : KeepsAppMarks g.E.Engine values_of_any no_links l.fn.app l.app;
   links : l.app.links ≡ l.fn.app.links;
   meaning : g.E.Engine.meaning l.app.tree.engine ≡ g.E.Engine.meaning l.fn.app.tree.engine;
   steady : g.E.Engine.fixed l.app.tree.engine ≡ g.E.Engine.fixed l.fn.app.tree.engine;

@@ -7,6 +7,7 @@ use Rattle.comp_tree.specs.Calls.{Call, call_each, then_run, traps_of}
 use Rattle.comp_tree.specs.Held.{components_of}
 use Rattle.app_cycle.proofs.CallLemmas.{call_live}
 use Rattle.app_cycle.proofs.CountedCalls.{counted_all, counted_more}
+use Rattle.app_cycle.proofs.CycleMarks.{marked_again, marked_any, marked_none}
 use Rattle.app_cycle.proofs.starts.start_all.Goals as goal
 
 pub loop-id-preserved : goal.loop-id-preserved
@@ -24,6 +25,8 @@ loop-id-preserved g c =
           0 c.traps_of-traps.result (components_of g.E.Engine c.callback.new.self.tree) c.loop-id-test.true (few c.traps_of-traps.ensures.few)
           (λ i. record { left = sym left i; traps = c.loop-id.traps + sym traps i });
       live = λ q. ap (λ (b : Components). is_live b.by_id q) left ∙ call_live m now x Start 0 c.args.turns t q ∙ c.loop-id.invariant.live q;
+      marks = marked_again g.E.Engine c.args.app.now c.loop-id.app c.callback.new.self c.loop-id.invariant.marks (marked_any g.E.Engine x c.loop-id.app c.callback.new.self c.callback.ensures.marks)
+          (λ q. ap (λ (b : Components). is_live b.by_id q) c.callback.ensures.left ∙ call_live (g.E.Engine.meaning c.loop-id.app.tree.engine) now x Start 0 c.args.turns t q);
       links = c.callback.ensures.links ∙ c.loop-id.invariant.links;
       meaning = c.callback.ensures.meaning ∙ c.loop-id.invariant.meaning;
       steady = c.callback.ensures.steady ∙ c.loop-id.invariant.steady;

@@ -1,11 +1,14 @@
-use Rattle.std.proofs.Common.{ℕ, ◌≤◌, length, List, sym, ap, subst, w64, to_z, of_z, arith}
+use Rattle.std.proofs.Common.{ℕ, ◌≡◌, ◌≤◌, length, List, sym, ap, subst, w64, to_z, of_z, arith}
 use Rattle.std.specs.List.{All}
 use Rattle.link_table.specs.Link.{Link, most_links}
 use Rattle.comp_tree.specs.Calls.{Counted}
 use Rattle.comp_tree.specs.Held.{components_of}
 use Rattle.comp_tree.specs.Whole.{IsLink}
 use Rattle.link_prop.proofs.AlikeComponents.{linked_if}
+use Rattle.link_prop.specs.Marks.{values_at}
+use Rattle.link_prop.proofs.AppMarks.{keeps_own}
 use Rattle.link_prop.proofs.CopiedLinks.{alike_copies, all_into, few_into}
+use Rattle.link_prop.proofs.CopiedMarks.{all_to}
 use Rattle.link_prop.proofs.app.App.copy_into.Goals as goal
 
 pub copy_all-requires-clause-typed : goal.copy_all-requires-clause-typed
@@ -33,3 +36,11 @@ returns-clause-few g c =
   where
     no_more : {a b c : ℕ} → a ≤ b → b ≤ c → a ≤ c
     no_more p q = omega arith
+
+pub copy_all-requires-clause-into : goal.copy_all-requires-clause-into
+copy_all-requires-clause-into g c =
+    subst (All (λ (l : Link). l.to ≡ c.args.id.0)) (sym c.into_component.ensures) (all_to c.args.id.0 c.self.inside.links)
+
+pub returns-clause-marks : goal.returns-clause-marks
+returns-clause-marks g c =
+    keeps_own g.E.Engine (values_at c.args.id.0) c.self.inside.tree c.copy_all.new.tree c.self.inside.links c.self.inside.marks _ c.self.view_is c.copy_all.ensures.marks

@@ -1,6 +1,8 @@
 use Rattle.std.proofs.Common.{ap}
 use Rattle.comp_tree.specs.Held.{components_of}
 use Rattle.link_prop.proofs.AlikeComponents.{after_result, linked_after_invoke, linked_same}
+use Rattle.link_prop.specs.Marks.{values_at}
+use Rattle.link_prop.proofs.AppMarks.{keeps_own}
 use Rattle.link_prop.proofs.app.App.invoke.Goals as goal
 
 pub invariant_of-self : goal.invariant_of-self
@@ -14,3 +16,7 @@ invariant_of-self g c =
     (components_of g.E.Engine c.self.inside.tree) (components_of g.E.Engine c.invoke.new.self) c.self.inside.links
     c.self.invariant c.invoke.ensures.meaning
     (ap (components_of g.E.Engine) is))
+
+pub returns-clause-marks : goal.returns-clause-marks
+returns-clause-marks g c =
+    keeps_own g.E.Engine (values_at c.args.id.0) c.self.inside.tree c.invoke.new.self c.self.inside.links c.self.inside.marks _ c.self.view_is c.invoke.ensures.marks

@@ -1,10 +1,14 @@
-use Rattle.std.proofs.Common.{◌+◌, sym, ◌∙◌, ap, subst, w64, to_z, of_z}
+use Rattle.std.proofs.Common.{ℕ, ◌+◌, sym, ◌∙◌, ap, subst, w64, to_z, of_z}
 use Rattle.sed_engine.specs.Code.{Meaning}
 use Rattle.link_table.specs.Link.{Link}
 use Rattle.comp_tree.specs.Held.{components_of}
 use Rattle.comp_tree.specs.Links.{copy_along}
 use Rattle.comp_tree.specs.Whole.{IsLink}
-use Rattle.link_prop.proofs.CopiedLinks.{CopiedSoFar, copied_more, linked_now}
+use Rattle.comp_tree.specs.Calls.{Counted}
+use Rattle.comp_tree.specs.Marks.{KeepsMarks, values_at}
+use Rattle.link_prop.proofs.AlikeComponents.{class_at}
+use Rattle.link_prop.proofs.CopiedLinks.{CopiedSoFar, alike_copy, copied_more, linked_now}
+use Rattle.link_prop.proofs.CopiedMarks.{keeps_more}
 use Rattle.link_prop.proofs.app.copying.copy_all.Goals as goal
 
 pub copy_one-trapped-requires-clause-typed : goal.copy_one-trapped-requires-clause-typed
@@ -30,6 +34,10 @@ loop-at-preserved g c =
           (λ k. ap (λ (l : Link). copy_along m c.args.turns moment (record { left = now; traps = k }) l) (sym c.index-links-at.is)
           ∙ ap (λ (n : Meaning). copy_along n c.args.turns moment (record { left = now; traps = k }) c.index-links-at.result) (sym c.loop-at.invariant.meaning)
           ∙ c.copy_one-trapped.ensures.copied k));
+      marks = keeps_more g.E.Engine c.args.id.0 c.args.tree.now c.loop-at.tree c.copy_one-trapped.new.tree c.loop-at.invariant.marks
+          (subst (λ (to : ℕ). KeepsMarks g.E.Engine (values_at to) c.loop-at.tree c.copy_one-trapped.new.tree)
+          (ap (λ (l : Link). l.to) c.index-links-at.is ∙ c.requires.into c.loop-at.at c.index-links-at.result c.loop-at-test.true) c.copy_one-trapped.ensures.marks)
+          (λ q. ap (λ (s : Counted). class_at s.left.by_id q) (sym (c.copy_one-trapped.ensures.copied 0)) ∙ alike_copy (g.E.Engine.meaning c.loop-at.tree.engine) c.args.turns moment (record { left = now; traps = 0 }) c.index-links-at.result q);
       meaning = c.copy_one-trapped.ensures.meaning ∙ c.loop-at.invariant.meaning;
       steady = c.copy_one-trapped.ensures.steady ∙ c.loop-at.invariant.steady;
     }
