@@ -38,14 +38,20 @@ impl KitFiles {
 
 /// Reads the files, which lie where the program runs, or in data/ below that.
 pub fn read_kits<R: Files + AllocGlobal>(rt: &R) -> io::Result<KitFiles> {
+    Ok(KitFiles {
+        files: read_all(rt, FILES.as_slice())?,
+    })
+}
+
+fn read_all<R: Files + AllocGlobal>(rt: &R, names: &[&str]) -> io::Result<Vec<(String, Vec<u8>)>> {
     let alloc = rt.alloc();
     let mut files = Vec::new(alloc);
-    for name in FILES {
+    for name in names {
         let text = text_of(rt, name)?;
         let text = Vec::from_slice(alloc, text.as_bytes())?;
         files.push((String::from_str(alloc, name)?, text))?;
     }
-    Ok(KitFiles { files })
+    Ok(files)
 }
 
 fn text_of<R: Files + AllocGlobal>(rt: &R, name: &str) -> io::Result<String> {

@@ -12,11 +12,11 @@ mod stage;
 mod steps;
 mod tables;
 
+use kits::read_kits;
 use rows::run;
 use std::io;
 
 fn main(rt: HostRuntime) -> io::Result<()> {
-    let kits = kits::read_kits(&rt)?;
-    run(&rt, &tables::Requests(&kits))?;
-    run(&rt, &tables::Cycles(&kits))
+    run(&rt, &tables::Requests(read_kits(&rt)?))?;
+    run(&rt, &tables::Cycles(read_kits(&rt)?))
 }

@@ -56,7 +56,13 @@ fn budget(turns: u32) -> u32
     ensures some { 1 ≤ result }
     ensures most { result ≤ 1000000 }
 {
-    turns.clamp(1, 1_000_000)
+    if turns == 0 {
+        1
+    } else if turns > 1_000_000 {
+        1_000_000
+    } else {
+        turns
+    }
 }
 
 // Runs so many cycles, and says how many calls trapped.

@@ -8,10 +8,10 @@ use std::alloc::Global;
 use std::io::{self, Write};
 
 /// Requests and their replies.
-#[derive(Clone, Copy)]
-pub struct Requests<'a>(pub &'a KitFiles);
+#[derive(Drop)]
+pub struct Requests(pub KitFiles);
 
-impl Table for Requests<'_> {
+impl Table for Requests {
     const NAME: &'static str = "requests";
 
     const INPUTS: usize = 3;
@@ -19,15 +19,15 @@ impl Table for Requests<'_> {
     ghost INPUTS = { 3 };
 
     fn outcome(&self, alloc: Global, inputs: &[Vec<u8>], out: &mut Vec<u8>) -> io::Result<()> {
-        run_row(alloc, self.0, &inputs[0], &inputs[1], &inputs[2], out)
+        run_row(alloc, &self.0, &inputs[0], &inputs[1], &inputs[2], out)
     }
 }
 
 /// Cycles, callbacks, and marks.
-#[derive(Clone, Copy)]
-pub struct Cycles<'a>(pub &'a KitFiles);
+#[derive(Drop)]
+pub struct Cycles(pub KitFiles);
 
-impl Table for Cycles<'_> {
+impl Table for Cycles {
     const NAME: &'static str = "cycles";
 
     const INPUTS: usize = 3;
@@ -35,7 +35,7 @@ impl Table for Cycles<'_> {
     ghost INPUTS = { 3 };
 
     fn outcome(&self, alloc: Global, inputs: &[Vec<u8>], out: &mut Vec<u8>) -> io::Result<()> {
-        run_row(alloc, self.0, &inputs[0], &inputs[1], &inputs[2], out)
+        run_row(alloc, &self.0, &inputs[0], &inputs[1], &inputs[2], out)
     }
 }
 
