@@ -13,6 +13,7 @@ use Rattle.comp_tree.specs.Held.{components_of}
 use Rattle.comp_tree.specs.Order.{least_free}
 use Rattle.comp_tree.specs.Refusals.{first_refusal, refusals_of_add}
 use Rattle.link_prop.specs.Linked.{Linked, application_of}
+use Rattle.link_prop.specs.Marks.{Tells}
 use Rattle.sox_msg.specs.Answered as told
 use Rattle.sox_msg.specs.Command.{Asked, add}
 use Rattle.sox_commands.specs.Answer.{Answer, WantsMemory, answer_by, command_of, done_with, refusal_of, refused_by}
@@ -66,15 +67,16 @@ module _ {E : Type 0} (g : Ghosts E) (old new : Linked E) (parent kit kind : ℕ
       → bytes ≡ reply_bytes number (Some (told.added id))
       → g.meaning new.tree.engine ≡ g.meaning old.tree.engine
       → g.fixed new.tree.engine ≡ g.fixed old.tree.engine
+      → Tells g old new
       → Serves g old new (add parent kit kind name config) number turns moment Replied bytes
-  serves_added id bytes least none done links reply meaning steady =
+  serves_added id bytes least none done links reply meaning steady tells =
       let whole : application_of g new ≡ edited_by.application = λ i. record { components = done i; links = links i } in
       let text : bytes ≡ reply_bytes number (Some (told.added (least_free (components_of g old.tree).by_id))) =
       reply ∙ ap (λ (n : ℕ). reply_bytes number (Some (told.added n))) least in
       let is : answer_over g old (add parent kit kind name config) turns moment ≡ done_with (add parent kit kind name config) edited_by =
       done_if_none (application_of g old) (add parent kit kind name config) _ edited_by none in
       let gives : Gives g old new Replied bytes number (done_with (add parent kit kind name config) edited_by) =
-      record { application = whole; served = refl; reply = text; meaning = meaning; steady = steady } in
+      record { application = whole; served = refl; reply = text; meaning = meaning; steady = steady; tells = tells } in
       serves_exactly g old new (add parent kit kind name config) number turns moment Replied bytes
       (subst (λ (given : Answer). Gives g old new Replied bytes number given) (sym is) gives)
 
@@ -85,12 +87,13 @@ module _ {E : Type 0} (g : Ghosts E) (old new : Linked E) (parent kit kind : ℕ
       (links : new.links ≡ old.links)
       (reply : bytes ≡ reply_bytes number (Some (told.refused refusal)))
       (meaning : g.meaning new.tree.engine ≡ g.meaning old.tree.engine)
-      (steady : g.fixed new.tree.engine ≡ g.fixed old.tree.engine) where
+      (steady : g.fixed new.tree.engine ≡ g.fixed old.tree.engine)
+      (tells : Tells g old new) where
     -- nothing is changed
     gives_refused : Gives g old new Replied bytes number (refused_by (application_of g old) refusal)
     gives_refused =
         let whole : application_of g new ≡ application_of g old = λ i. record { components = same i; links = links i } in
-        record { application = whole; served = refl; reply = reply; meaning = meaning; steady = steady }
+        record { application = whole; served = refl; reply = reply; meaning = meaning; steady = steady; tells = tells }
 
     by_row : refusal ≢ OutOfMemory → Serves g old new (add parent kit kind name config) number turns moment Replied bytes
     by_row other =

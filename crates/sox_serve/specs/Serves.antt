@@ -2,6 +2,7 @@
 use Rattle.std.specs.Prelude.{ℕ, ℤ, ◌≡◌, ◌⊎◌, Bool, true, false, IsTrue, List}
 use Rattle.sed_engine.specs.declared.engine.Engine.{Ghosts}
 use Rattle.link_prop.specs.Linked.{Linked, application_of}
+use Rattle.link_prop.specs.Marks.{Tells}
 use Rattle.sox_msg.specs.Command.{Asked, add}
 use Rattle.sox_commands.specs.Answer.{Answer, WantsMemory, answer}
 use Rattle.sox_commands.specs.Replies.{reply_bytes}
@@ -12,13 +13,14 @@ abbrev pub answer_over : {E : Type 0} → Ghosts E → Linked E → Asked → �
 answer_over g h asked turns moment = answer (g.meaning h.tree.engine) (application_of g h) asked turns moment
 
 -- an answer is done: the application is the one after it, it is asked what the answer asks, and the reply to the request
--- of this number has these bytes. The code is the same, and whether the engine is fixed.
+-- of this number has these bytes. The code is the same, and whether the engine is fixed; and the marks tell what has changed.
 pub record Gives {E : Type 0} (g : Ghosts E) (old new : Linked E) (asks : Served) (bytes : List ℕ) (number : ℕ) (given : Answer) : Type 0 where
   pub application : application_of g new ≡ given.application
   pub served : asks ≡ given.served
   pub reply : bytes ≡ reply_bytes number given.reply
   pub meaning : g.meaning new.tree.engine ≡ g.meaning old.tree.engine
   pub steady : g.fixed new.tree.engine ≡ g.fixed old.tree.engine
+  pub tells : Tells g old new
 
 -- a new component
 abbrev pub is_add : Asked → Bool

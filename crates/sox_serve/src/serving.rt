@@ -2,6 +2,7 @@
 ghost use Rattle.std.specs.Prelude.{◌≡◌, ◌≤◌, ◌↔◌, [], true, IsTrue, Some, None};
 ghost use Rattle.sed_value.specs.declared.refusal.Refusal.{Refusal};
 ghost use Rattle.link_prop.specs.Linked.{application_of};
+ghost use Rattle.link_prop.specs.Marks.{Tells};
 ghost use Rattle.comp_tree.specs.Refusals.{first_refusal};
 ghost use Rattle.sox_commands.specs.Answer.{asks_for_save};
 ghost use Rattle.sox_commands.specs.Table.{refusals_of};
@@ -30,7 +31,8 @@ use sox_msg::Request;
 /// The application after it, what is asked of the node and the bytes of the reply are those of the answer to its command.
 /// So a refusal is the first of the command's row, and leaves the application as it was; and a save is asked for exactly
 /// where the App's `save` may be invoked, and then there is no reply yet. Where an add is refused by no row, it may be
-/// answered that memory is wanted, and then nothing is changed; over a fixed engine that never comes.
+/// answered that memory is wanted, and then nothing is changed; over a fixed engine that never comes. A part whose mark is clear
+/// after it had a clear mark before it, and has the same bytes.
 pub fn serve<E: Engine>(
     app: &mut App<E>,
     turns: u32,
@@ -47,6 +49,7 @@ pub fn serve<E: Engine>(
     ensures saves { (result ≡ Served.SaveAsked) ↔ (IsTrue (asks_for_save (asked_of request.now.command)) × (first_refusal (refusals_of (E.meaning app.old.tree.engine) (application_of E.Engine app.old) (asked_of request.now.command)) ≡ None)) }
     ensures saving { result ≡ Served.SaveAsked → (application_of E.Engine app.new ≡ application_of E.Engine app.old) × (reply.new ≡ []) }
     ensures meaning { E.meaning app.new.tree.engine ≡ E.meaning app.old.tree.engine }
+    ensures tells { Tells E.Engine app.old app.new }
     ensures steady { E.fixed app.new.tree.engine ≡ E.fixed app.old.tree.engine }
 {
     refused_commands_change_nothing();

@@ -29,3 +29,6 @@ returns-clause-saving g c =
     saving g.E.Engine c.args.app.now c.serve_group.new.app (asked_of c.args.request.now.command) c.args.request.now.number c.args.turns c.args.ticks
     c.serve_group.result c.serve_group.new.into (returns-clause-served g c)
     (c.refused_commands_change_nothing.ensures.save (g.E.Engine.meaning c.args.app.now.tree.engine) (application_of g.E.Engine c.args.app.now) (asked_of c.args.request.now.command) c.args.turns c.args.ticks)
+
+pub returns-clause-tells : goal.returns-clause-tells
+returns-clause-tells g c = c.serve_group.ensures.gives.tells
