@@ -1,6 +1,6 @@
 //! Calls of methods.
 ghost use Rattle.std.specs.Prelude.{◌≡◌, ◌≤◌, ◌<◌, map};
-ghost use Rattle.sed_engine.specs.Expressions.{eval as eval_of, put_all, invoke as invoke_of};
+ghost use Rattle.sed_engine.specs.Expressions.{eval as eval_of, put_all, invoke as invoke_of, call_static, call_super};
 ghost use Rattle.sed_engine.specs.Root.{calls_with, run_method as run_method_of};
 ghost use Rattle.sed_cells.specs.Places.{classes_in};
 ghost use Rattle.walk_steps.specs.Seen.{seen, ends, framed};
@@ -45,8 +45,58 @@ pub(crate) fn eval_call(
     call(plan, class, frames, usize::from(method), frame, store)
 }
 
+// A call of a static method: the arguments, then the turn.
+#[cycle(walk)]
+#[inline(never)]
+pub(crate) fn eval_static(
+    plan: &Plan,
+    class: usize,
+    frames: u8,
+    method: u16,
+    args: &[Expr],
+    store: &mut Store,
+    locals: &mut [Word],
+) -> Result<Word, Stop>
+    requires { class < classes_in plan.now }
+    ensures end { let w = setting_of plan.now class frames in
+        ended plan.now class (ends plan.now class result) store.new locals.new
+        ≡ call_static w method (map (eval_of w) args.now) (state_of plan.now class store.old locals.old) }
+    ensures turns { store.new.turns ≤ store.old.turns }
+{
+    let mut frame = locals::new_frame();
+    eval_call(
+        plan, class, frames, 0, method, args, &mut frame, store, locals,
+    )
+}
+
+// A call of the method that is named, on the receiver: the arguments, then the turn.
+#[cycle(walk)]
+#[inline(never)]
+pub(crate) fn eval_super(
+    plan: &Plan,
+    class: usize,
+    frames: u8,
+    method: u16,
+    args: &[Expr],
+    store: &mut Store,
+    locals: &mut [Word],
+) -> Result<Word, Stop>
+    requires { class < classes_in plan.now }
+    ensures end { let w = setting_of plan.now class frames in
+        ended plan.now class (ends plan.now class result) store.new locals.new
+        ≡ call_super w method (map (eval_of w) args.now) (state_of plan.now class store.old locals.old) }
+    ensures turns { store.new.turns ≤ store.old.turns }
+{
+    let this = locals::this(locals)?;
+    let mut frame = locals::frame_of(this);
+    eval_call(
+        plan, class, frames, 1, method, args, &mut frame, store, locals,
+    )
+}
+
 // The arguments, then the test for null, then the turn.
 #[cycle(walk)]
+#[inline(never)]
 pub(crate) fn eval_invoke(
     plan: &Plan,
     class: usize,

@@ -11,7 +11,7 @@ ghost use Rattle.walk_steps.specs.Stored.{ended, state_of};
 ghost use Rattle.walk_steps.specs.Targets.{setting_of, targets};
 ghost use Rattle.sed_walk.specs.Forms.{update_with};
 
-use crate::calls::eval_call;
+use crate::calls::{eval_static, eval_super};
 use crate::links::eval_links;
 use sed_cells::Plan;
 use sed_typed::{Expr, Place, Update};
@@ -79,22 +79,42 @@ pub fn eval(
             eval_update(plan, class, frames, *update, place, operand, store, locals)
         }
         Expr::Call(_, method, args) => {
-            let mut frame = locals::new_frame();
-            eval_call(
-                plan, class, frames, 0, *method, args, &mut frame, store, locals,
-            )
+            eval_static(plan, class, frames, *method, args, store, locals)
         }
         Expr::Super(_, method, args) => {
-            let this = locals::this(locals)?;
-            let mut frame = locals::frame_of(this);
-            eval_call(
-                plan, class, frames, 1, *method, args, &mut frame, store, locals,
-            )
+            eval_super(plan, class, frames, *method, args, store, locals)
         }
         Expr::Chain(head, links) => {
-            let value = eval(plan, class, frames, head, store, locals)?;
+            let value = eval_operand(plan, class, frames, head, store, locals)?;
             eval_links(plan, class, frames, links, value, store, locals)
         }
+    }
+}
+
+/// The value of an operand: what is most often one, an int, a local or the receiver, with no further call.
+#[cycle(walk)]
+#[inline(always)]
+pub(crate) fn eval_operand(
+    plan: &Plan,
+    class: usize,
+    frames: u8,
+    e: &Expr,
+    store: &mut Store,
+    locals: &mut [Word],
+) -> Result<Word, Stop>
+    requires { class < classes_in plan.now }
+    ensures end { ended plan.now class (ends plan.now class result) store.new locals.new
+        ≡ eval_of (setting_of plan.now class frames) e.now (state_of plan.now class store.old locals.old) }
+    ensures turns { store.new.turns ≤ store.old.turns }
+{
+    match e {
+        Expr::Int(number) => Ok(Word::Int(*number)),
+        Expr::This(_) => locals::this(locals),
+        Expr::Local(kind, number) => {
+            let target = Target::Local(*kind, *number);
+            fetch(plan, class, target, store, locals)
+        }
+        _ => eval(plan, class, frames, e, store, locals),
     }
 }
 
@@ -118,7 +138,7 @@ fn eval_update(
 {
     let target = locate(plan, class, frames, place, store, locals)?;
     let old = fetch(plan, class, target, store, locals)?;
-    let operand = eval(plan, class, frames, operand, store, locals)?;
+    let operand = eval_operand(plan, class, frames, operand, store, locals)?;
     let value = arithmetic(update.arithmetic, update.width, old, operand)?;
     let new = put(plan, class, target, value, store, locals)?;
     Ok(given(update.gives, old, new))
@@ -143,7 +163,7 @@ fn locate(
         Place::Local(kind, number) => Ok(Target::Local(*kind, *number)),
         Place::Static(prim, number) => Ok(Target::Static(*prim, *number)),
         Place::Field(prim, object, number) => {
-            let object = eval(plan, class, frames, object, store, locals)?;
+            let object = eval_operand(plan, class, frames, object, store, locals)?;
             Ok(Target::Field(*prim, object, *number))
         }
         Place::Element(prim, count, object, number, index) => {

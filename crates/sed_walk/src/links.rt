@@ -7,7 +7,7 @@ ghost use Rattle.walk_steps.specs.Stored.{ended, state_of};
 ghost use Rattle.walk_steps.specs.Targets.{setting_of};
 
 use crate::calls::{eval_args, eval_invoke};
-use crate::expressions::eval;
+use crate::expressions::{eval, eval_operand};
 use sed_cells::Plan;
 use sed_typed::Link;
 use walk_steps::operators::binary;
@@ -58,7 +58,7 @@ fn eval_link(
 {
     match link {
         Link::Binary(op, operand) => {
-            let operand = eval(plan, class, frames, operand, store, locals)?;
+            let operand = eval_operand(plan, class, frames, operand, store, locals)?;
             binary(plan, class, *op, value, operand)
         }
         Link::And(operand) => {

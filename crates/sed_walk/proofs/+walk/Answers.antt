@@ -31,23 +31,23 @@ use Rattle.sed_walk.specs.Heights.{heights, link_heights, stmt_heights, left_wit
 use Rattle.sed_walk.proofs.Measures.{lower-by, lower-within, lower-alike}
 use Rattle.sed_walk.proofs.+walk.Goals as goal
 
-pub expressions::eval-eval_call-requires : goal.expressions::eval-eval_call-requires
-expressions::eval-eval_call-requires t c =
+pub expressions::eval-eval_static-requires : goal.expressions::eval-eval_static-requires
+expressions::eval-eval_static-requires t c =
     let left = left_with c.args.plan.now.program.methods c.args.frames in
     let es = c.deref-in-Call.result.now in
     let e : height_of c.args.e.now ≡ suc (heights es) =
     ap height_of c.in-Call.is ∙ ap suc (heights_hidden c.in-Call.args ∙ ap heights (sym c.deref-in-Call.ensures.value)) in
-    let h = lower-by left (heights es) (height_of c.args.e.now) 2 e (omega arith) in
-    (omega (arith, h), (c.requires, omega arith))
+    let h = lower-by left (heights es) (height_of c.args.e.now) 3 e (omega arith) in
+    (omega (arith, h), c.requires)
 
-pub expressions::eval-eval_call-requires-in-Super : goal.expressions::eval-eval_call-requires-in-Super
-expressions::eval-eval_call-requires-in-Super t c =
+pub expressions::eval-eval_super-requires : goal.expressions::eval-eval_super-requires
+expressions::eval-eval_super-requires t c =
     let left = left_with c.args.plan.now.program.methods c.args.frames in
     let es = c.deref-in-Super.result.now in
     let e : height_of c.args.e.now ≡ suc (heights es) =
     ap height_of c.in-Super.is ∙ ap suc (heights_hidden c.in-Super.args ∙ ap heights (sym c.deref-in-Super.ensures.value)) in
-    let h = lower-by left (heights es) (height_of c.args.e.now) 2 e (omega arith) in
-    (omega (arith, h), (c.requires, omega arith))
+    let h = lower-by left (heights es) (height_of c.args.e.now) 3 e (omega arith) in
+    (omega (arith, h), c.requires)
 
 pub expressions::eval-eval_links-requires : goal.expressions::eval-eval_links-requires
 expressions::eval-eval_links-requires t c =
@@ -185,26 +185,44 @@ expressions::eval-returns-in-Call-clause-end t c =
     let w : Setting = setting_of plan class c.args.frames in
     let s : State = state_of plan class c.args.store.now c.args.locals.now in
     let m = c.in-Call.method in
-    c.eval_call.ensures.end
-    ∙ ap (λ (es : List Expr). call_from w 0 m (map (eval_of w) es) (map (seen plan class) c.new_frame-frame.result) s) c.deref-in-Call.ensures.value
-    ∙ ap (λ (frame : List Val). call_from w 0 m (map (eval_of w) c.in-Call.args.items) frame s) (c.new_frame-frame.ensures plan class)
+    c.eval_static.ensures.end
+    ∙ ap (λ (es : List Expr). call_static w m (map (eval_of w) es) s) c.deref-in-Call.ensures.value
     ∙ ap (λ (es : List (State → End Val)). call_static w m es s) (sym (evals_hidden w c.in-Call.args))
     ∙ ap (λ (e : Expr). eval_of w e s) (sym c.in-Call.is)
 
-pub expressions::eval-returns-in_ok-this-in-Super-clause-end : goal.expressions::eval-returns-in_ok-this-in-Super-clause-end
-expressions::eval-returns-in_ok-this-in-Super-clause-end t c =
+pub expressions::eval-returns-in-Super-clause-end : goal.expressions::eval-returns-in-Super-clause-end
+expressions::eval-returns-in-Super-clause-end t c =
     let plan = c.args.plan.now in
     let class = c.args.class in
     let w : Setting = setting_of plan class c.args.frames in
     let s : State = state_of plan class c.args.store.now c.args.locals.now in
     let m = c.in-Super.method in
-    let es = map (eval_of w) c.in-Super.args.items in
-    c.eval_call-in-Super.ensures.end
-    ∙ ap (λ (es : List Expr). call_from w 1 m (map (eval_of w) es) (map (seen plan class) c.frame_of-frame.result) s) c.deref-in-Super.ensures.value
-    ∙ ap (λ (frame : List Val). call_from w 1 m es frame s) (c.frame_of-frame.ensures plan class)
-    ∙ ap (λ (r : End Val). then_do r (λ this s1. call_from w 1 m es (frame_of this) s1)) (c.in_ok-this-in-Super.ensures.end plan class c.args.store.now)
+    c.eval_super.ensures.end
+    ∙ ap (λ (es : List Expr). call_super w m (map (eval_of w) es) s) c.deref-in-Super.ensures.value
     ∙ ap (λ (es : List (State → End Val)). call_super w m es s) (sym (evals_hidden w c.in-Super.args))
     ∙ ap (λ (e : Expr). eval_of w e s) (sym c.in-Super.is)
+
+pub calls::eval_static-returns-clause-end : goal.calls::eval_static-returns-clause-end
+calls::eval_static-returns-clause-end t c =
+    let plan = c.args.plan.now in
+    let class = c.args.class in
+    let w : Setting = setting_of plan class c.args.frames in
+    let s : State = state_of plan class c.args.store.now c.args.locals.now in
+    let es = map (eval_of w) c.args.args.now in
+    c.eval_call.ensures.end
+    ∙ ap (λ (frame : List Val). call_from w 0 c.args.method es frame s) (c.new_frame-frame.ensures plan class)
+
+pub calls::eval_super-returns-clause-end : goal.calls::eval_super-returns-clause-end
+calls::eval_super-returns-clause-end t c =
+    let plan = c.args.plan.now in
+    let class = c.args.class in
+    let w : Setting = setting_of plan class c.args.frames in
+    let s : State = state_of plan class c.args.store.now c.args.locals.now in
+    let m = c.args.method in
+    let es = map (eval_of w) c.args.args.now in
+    c.eval_call.ensures.end
+    ∙ ap (λ (frame : List Val). call_from w 1 m es frame s) (c.frame_of-frame.ensures plan class)
+    ∙ ap (λ (r : End Val). then_do r (λ this s1. call_from w 1 m es (frame_of this) s1)) (c.in_ok-this.ensures.end plan class c.args.store.now)
 
 pub expressions::eval-returns-in_ok-value-in-Chain-clause-end : goal.expressions::eval-returns-in_ok-value-in-Chain-clause-end
 expressions::eval-returns-in_ok-value-in-Chain-clause-end t c =
@@ -212,7 +230,7 @@ expressions::eval-returns-in_ok-value-in-Chain-clause-end t c =
     let class = c.args.class in
     let w : Setting = setting_of plan class c.args.frames in
     let s : State = state_of plan class c.args.store.now c.args.locals.now in
-    let t : State = state_of plan class c.eval-in-Chain.new.store c.eval-in-Chain.new.locals in
+    let t : State = state_of plan class c.eval_operand.new.store c.eval_operand.new.locals in
     let ls = map (link_of w) c.in-Chain.links.items in
     c.eval_links.ensures.end
     ∙ ap (λ (ls : List Link). in_chain (map (link_of w) ls) (seen plan class c.in_ok-value-in-Chain.value) t) c.deref-in-Chain-2.ensures.value

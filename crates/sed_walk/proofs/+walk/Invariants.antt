@@ -19,6 +19,12 @@ decreases-calls::eval_args l = left_with l.plan.now.program.methods l.frames + (
 abbrev pub decreases-calls::eval_call : goal.decreases-calls::eval_call
 decreases-calls::eval_call l = left_with l.plan.now.program.methods l.frames + (8 * heights l.args.now + 2)
 
+abbrev pub decreases-calls::eval_static : goal.decreases-calls::eval_static
+decreases-calls::eval_static l = left_with l.plan.now.program.methods l.frames + (8 * heights l.args.now + 3)
+
+abbrev pub decreases-calls::eval_super : goal.decreases-calls::eval_super
+decreases-calls::eval_super l = left_with l.plan.now.program.methods l.frames + (8 * heights l.args.now + 3)
+
 abbrev pub decreases-calls::eval_invoke : goal.decreases-calls::eval_invoke
 decreases-calls::eval_invoke l = left_with l.plan.now.program.methods l.frames + (8 * heights l.args.now + 2)
 
@@ -28,14 +34,17 @@ decreases-calls::run l = left_with l.plan.now.program.methods l.frames + (8 * bo
 abbrev pub decreases-expressions::eval : goal.decreases-expressions::eval
 decreases-expressions::eval l = left_with l.plan.now.program.methods l.frames + 8 * height_of l.e.now
 
+abbrev pub decreases-expressions::eval_operand : goal.decreases-expressions::eval_operand
+decreases-expressions::eval_operand l = left_with l.plan.now.program.methods l.frames + (8 * height_of l.e.now + 1)
+
 abbrev pub decreases-expressions::eval_or : goal.decreases-expressions::eval_or
 decreases-expressions::eval_or l = left_with l.plan.now.program.methods l.frames + (8 * height_or l.e.now + 1)
 
 abbrev pub decreases-expressions::eval_update : goal.decreases-expressions::eval_update
-decreases-expressions::eval_update l = left_with l.plan.now.program.methods l.frames + (8 * max (place_height l.place.now) (height_of l.operand.now) + 2)
+decreases-expressions::eval_update l = left_with l.plan.now.program.methods l.frames + (8 * max (place_height l.place.now) (height_of l.operand.now) + 3)
 
 abbrev pub decreases-expressions::locate : goal.decreases-expressions::locate
-decreases-expressions::locate l = left_with l.plan.now.program.methods l.frames + (8 * place_height l.place.now + 1)
+decreases-expressions::locate l = left_with l.plan.now.program.methods l.frames + (8 * place_height l.place.now + 2)
 
 abbrev pub decreases-links::eval_link : goal.decreases-links::eval_link
 decreases-links::eval_link l = left_with l.plan.now.program.methods l.frames + (8 * link_height l.link.now + 3)
