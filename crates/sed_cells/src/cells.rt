@@ -53,6 +53,7 @@ impl Cells {
     }
 
     /// The cell of a number.
+    #[inline(always)]
     pub fn get(&self, number: usize) -> Option<&Cell>
         ensures { option_map cell_value (option_copied result) ≡ slice_get self.now number }
     {
@@ -60,6 +61,7 @@ impl Cells {
     }
 
     /// Puts another cell in the place of one. Where there is none of this number nothing changes.
+    #[inline(always)]
     pub fn put(&mut self, number: usize, cell: Cell)
         ensures { self.new ≡ slice_set self.old number (cell_value cell) }
     {

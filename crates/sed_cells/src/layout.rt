@@ -84,6 +84,7 @@ impl Layout {
     }
 
     /// The number of a place, 0 for a number that it doesn't have.
+    #[inline(always)]
     pub fn known(&self, place: usize) -> usize
         ensures { result ≡ known self.now.nodes place }
     {
@@ -91,6 +92,7 @@ impl Layout {
     }
 
     /// The place at a step from a place.
+    #[inline(always)]
     pub fn step_from(&self, place: usize, step: usize) -> Option<usize>
         requires { HasFits self.now.nodes }
         ensures { result ≡ child self.now.nodes (known self.now.nodes place) step }
@@ -104,6 +106,7 @@ impl Layout {
     }
 
     /// The class of the object at a place.
+    #[inline(always)]
     pub fn class_of(&self, place: usize) -> Option<TypeNo>
         ensures { option_map (λ t. t.0) result ≡ class_standing (node_at self.now.nodes (known self.now.nodes place)).stands }
     {
@@ -114,6 +117,7 @@ impl Layout {
     }
 
     /// The number of a place where a value is kept.
+    #[inline(always)]
     pub fn cell(&self, place: usize) -> Option<usize>
         ensures { result ≡ (if keeps_value (node_at self.now.nodes (known self.now.nodes place)).stands then Some (known self.now.nodes place) else None) }
     {
@@ -133,6 +137,7 @@ impl Layout {
 }
 
 // A node by its number.
+#[inline(always)]
 fn node_in(nodes: &[Node], place: usize) -> Node
     ensures { result ≡ node_at nodes.now place }
 {

@@ -61,6 +61,7 @@ impl Plan {
     }
 
     /// The program.
+    #[inline(always)]
     pub fn program(&self) -> &Program
         ensures { result.now ≡ self.now.program }
     {
@@ -68,6 +69,7 @@ impl Plan {
     }
 
     /// The number of classes, which is the top of the statics.
+    #[inline(always)]
     pub fn statics(&self) -> usize
         ensures { result ≡ classes_in self.now }
     {
@@ -83,6 +85,7 @@ impl Plan {
     }
 
     /// The place at a step from a place: a field by its number, or an element by its index.
+    #[inline(always)]
     pub fn inside(&self, top: usize, place: usize, step: usize) -> Option<usize>
         requires { top ≤ classes_in self.now }
         ensures found { IfSome result (λ m. place_of self.now top m ≡ place_of self.now top place ++ step ∷ []) }
@@ -93,6 +96,7 @@ impl Plan {
     }
 
     /// The class of the object at a place, if there is one.
+    #[inline(always)]
     pub fn class_of(&self, top: usize, place: usize) -> Option<TypeNo>
         requires { top ≤ classes_in self.now }
         ensures { option_map (λ t. t.0) result ≡ class_there self.now.program top (place_of self.now top place) }
@@ -101,6 +105,7 @@ impl Plan {
     }
 
     /// The number of the cell of a place, if a value is kept there.
+    #[inline(always)]
     pub fn cell(&self, top: usize, place: usize) -> Option<usize>
         requires { top ≤ classes_in self.now }
         ensures read { (values : List Value) → value_at (contents_of self.now top values) (place_of self.now top place) ≡ option_map (λ n. slice_index_or values n kept.Nothing) result }

@@ -18,6 +18,7 @@ use sed_typed::{Arithmetic, Binary, Comparison, Gives, Unary, Width};
 use sed_value as number;
 
 /// Of two ints.
+#[inline(always)]
 pub fn int_arithmetic(op: Arithmetic, a: i32, b: i32) -> Result<i32, Stop>
     ensures { as_it_is result ≡ computed op w32 a b }
 {
@@ -66,6 +67,7 @@ pub fn long_arithmetic(op: Arithmetic, a: i64, b: i64) -> Result<i64, Stop>
 }
 
 /// Whether a comparison of two longs holds.
+#[inline(always)]
 pub fn is_so(op: Comparison, a: i64, b: i64) -> bool
     ensures { result ≡ compared_of op a b }
 {
@@ -80,6 +82,7 @@ pub fn is_so(op: Comparison, a: i64, b: i64) -> bool
 }
 
 /// The arithmetic of two values.
+#[inline(always)]
 pub fn arithmetic(op: Arithmetic, width: Width, a: Word, b: Word) -> Result<Word, Stop>
     ensures { (plan : Planned) (class : ℕ) → ends plan class result ≡ arithmetic_of op width (seen plan class a) (seen plan class b) }
 {
@@ -93,6 +96,7 @@ pub fn arithmetic(op: Arithmetic, width: Width, a: Word, b: Word) -> Result<Word
     }
 }
 
+#[inline(always)]
 fn int_words(op: Arithmetic, a: Word, b: Word) -> Result<Word, Stop>
     ensures { (plan : Planned) (class : ℕ) → ends plan class result ≡ arithmetic_of op IntWidth (seen plan class a) (seen plan class b) }
 {
@@ -128,6 +132,7 @@ fn shift_right_words(a: Word, b: Word) -> Result<Word, Stop>
     Ok(Word::Long(number::shr_long(x, y)))
 }
 
+#[inline(always)]
 fn compare(op: Comparison, width: Width, a: Word, b: Word) -> Result<Word, Stop>
     ensures { (plan : Planned) (class : ℕ) → ends plan class result ≡ binary_of (CompareOf op width) (seen plan class a) (seen plan class b) }
 {
@@ -185,6 +190,7 @@ pub fn are_same(plan: &Plan, class: usize, a: Word, b: Word) -> Result<bool, Sto
 }
 
 /// What a binary operator gives of two operands.
+#[inline(always)]
 pub fn binary(plan: &Plan, class: usize, op: Binary, a: Word, b: Word) -> Result<Word, Stop>
     requires { class ≤ classes_in plan.now }
     ensures { ends plan.now class result ≡ binary_of op (seen plan.now class a) (seen plan.now class b) }

@@ -13,6 +13,7 @@ use sed_cells::Plan;
 use sed_engine::Trap;
 
 /// The place of an object or a Str that a reference refers to: null traps.
+#[inline(always)]
 pub fn place_of(word: Word) -> Result<(Base, usize), Stop>
     ensures { (plan : Planned) (class : ℕ) → spots_seen plan class result ≡ val.spot_of (seen plan class word) }
 {
@@ -24,6 +25,7 @@ pub fn place_of(word: Word) -> Result<(Base, usize), Stop>
 }
 
 /// The layout of a base, in a root call on a component of a class.
+#[inline(always)]
 pub fn top(plan: &Plan, class: usize, base: Base) -> usize
     ensures { result ≡ top_of plan.now class base }
 {
@@ -34,6 +36,7 @@ pub fn top(plan: &Plan, class: usize, base: Base) -> usize
 }
 
 /// An index, where it is at least 0 and below a count.
+#[inline(always)]
 pub fn index_of(count: usize, index: Word) -> Result<usize, Stop>
     ensures index { (plan : Planned) (class : ℕ) → as_it_is result ≡ index_in count (seen plan class index) }
     ensures within { IfOk result (λ at. at < count) }
@@ -44,6 +47,7 @@ pub fn index_of(count: usize, index: Word) -> Result<usize, Stop>
     }
 }
 
+#[inline(always)]
 fn index_within(count: usize, number: i32) -> Result<usize, Stop>
     ensures index { as_it_is result ≡ within_of count number }
     ensures within { IfOk result (λ at. at < count) }

@@ -23,6 +23,7 @@ use sed_typed::Kind;
 use sed_value::Prim;
 
 /// The place at a step from a place.
+#[inline(always)]
 pub fn step(
     plan: &Plan,
     class: usize,
@@ -46,6 +47,7 @@ pub fn step(
 }
 
 /// The place of a static field.
+#[inline(always)]
 pub fn static_field(plan: &Plan, class: usize, number: usize) -> Result<(Base, usize), Stop>
     requires { class ≤ classes_in plan.now }
     ensures { IsFound plan.now class result (Ok (static_spot number)) }
@@ -54,6 +56,7 @@ pub fn static_field(plan: &Plan, class: usize, number: usize) -> Result<(Base, u
 }
 
 /// The place of a field of an object: null traps.
+#[inline(always)]
 pub fn field(plan: &Plan, class: usize, object: Word, number: usize) -> Result<(Base, usize), Stop>
     requires { class ≤ classes_in plan.now }
     ensures { IsFound plan.now class result (map_ok (λ spot. inside spot number) (val.spot_of (seen plan.now class object))) }
@@ -153,6 +156,7 @@ pub fn static_element(
 }
 
 /// What is read of a place that was sought.
+#[inline(always)]
 pub fn read(
     store: &Store,
     plan: &Plan,
@@ -189,6 +193,7 @@ pub fn bytes<'a>(
 
 /// Stores a value in a place of a primitive type that was sought, and gives the stored value as a read
 /// gives it.
+#[inline(always)]
 pub fn write(
     store: &mut Store,
     plan: &Plan,

@@ -61,6 +61,7 @@ impl Store {
     }
 
     /// The turns left.
+    #[inline(always)]
     pub fn turns(&self) -> u32
         ensures { result ≡ self.now.turns }
     {
@@ -68,6 +69,7 @@ impl Store {
     }
 
     /// The moment of the last tick.
+    #[inline(always)]
     pub fn moment(&self) -> i64
         ensures { result ≡ self.now.moment }
     {
@@ -75,6 +77,7 @@ impl Store {
     }
 
     /// Takes a turn; where none is left it traps.
+    #[inline(always)]
     pub fn take_turn(&mut self) -> Result<(), Stop>
         ensures end { as_it_is result ≡ turn_of self.old.turns }
         ensures left { self.new ≡ record { own = self.old.own; statics = self.old.statics; turns = self.old.turns - 1; moment = self.old.moment } }
@@ -87,6 +90,7 @@ impl Store {
     }
 
     /// The value of a place, as a read gives it.
+    #[inline(always)]
     pub fn read(&self, plan: &Plan, class: usize, base: Base, place: usize) -> Result<Word, Stop>
         requires { class ≤ classes_in plan.now }
         ensures { (locals : List Val) → stepped plan.now class (ends plan.now class result) self.now locals ≡ read_spot (spot_seen plan.now class base place) (record { shared = shared_of plan.now class self.now; locals = locals }) }
@@ -98,6 +102,7 @@ impl Store {
     }
 
     /// Stores a value in a place of a primitive type, and gives the stored value as a read gives it.
+    #[inline(always)]
     pub fn write(
         &mut self,
         plan: &Plan,
@@ -243,6 +248,7 @@ fn last_of(bytes: &[u8]) -> u8
 }
 
 // Stores a value in a place among these cells.
+#[inline(always)]
 fn write_in(
     cells: &mut Cells,
     plan: &Plan,
@@ -268,6 +274,7 @@ fn write_in(
 }
 
 // What a place of a primitive type keeps of a value: byte and short keep the low bits.
+#[inline(always)]
 fn kept(prim: Prim, word: Word) -> Result<Cell, Stop>
     ensures kept { (plan : Planned) (class : ℕ) → end_seen cell_value result ≡ stored_as prim (seen plan class word) }
     ensures plain { IfOk result (λ c. are_bytes (cell_value c) ≡ false) }
@@ -290,6 +297,7 @@ fn kept(prim: Prim, word: Word) -> Result<Cell, Stop>
 }
 
 // Whether a cell may be put where another is.
+#[inline(always)]
 fn is_alike(cells: &Cells, number: usize, new: &Cell) -> bool
     requires { are_bytes (cell_value new.now) ≡ false }
     ensures alike { result ≡ is_alike_to (slice_index_or cells.now number kept.Nothing) (cell_value new.now) }
@@ -301,6 +309,7 @@ fn is_alike(cells: &Cells, number: usize, new: &Cell) -> bool
     }
 }
 
+#[inline(always)]
 fn are_alike(old: &Cell, new: &Cell) -> bool
     requires { are_bytes (cell_value new.now) ≡ false }
     ensures { result ≡ is_alike_to (cell_value old.now) (cell_value new.now) }
@@ -328,6 +337,7 @@ fn are_alike(old: &Cell, new: &Cell) -> bool
 }
 
 // What is read of a place among these cells.
+#[inline(always)]
 fn read_in(cells: &Cells, plan: &Plan, top: usize, place: usize) -> Result<Word, Stop>
     requires { top ≤ classes_in plan.now }
     ensures { (class : ℕ) → ends plan.now class result ≡ and_then (there (value_at (contents_of plan.now top cells.now) (place_of plan.now top place))) read_as }
@@ -340,6 +350,7 @@ fn read_in(cells: &Cells, plan: &Plan, top: usize, place: usize) -> Result<Word,
 
 // What a read of the cell of a number gives.
 #[tactic(auto, using(crate::proofs::Writes::past_get))]
+#[inline(always)]
 fn word_at(cells: &Cells, number: usize) -> Result<Word, Stop>
     ensures { (plan : Planned) (class : ℕ) → ends plan class result ≡ read_as (slice_index_or cells.now number kept.Nothing) }
 {
@@ -350,6 +361,7 @@ fn word_at(cells: &Cells, number: usize) -> Result<Word, Stop>
 }
 
 // What a read of a cell gives: byte and short widen to int.
+#[inline(always)]
 fn word_of(cell: &Cell) -> Result<Word, Stop>
     ensures { (plan : Planned) (class : ℕ) → ends plan class result ≡ read_as (cell_value cell.now) }
 {

@@ -27,6 +27,7 @@ pub enum Target {
 }
 
 /// Reads a target, with its tests.
+#[inline(always)]
 pub fn fetch(
     plan: &Plan,
     class: usize,
@@ -72,6 +73,7 @@ pub fn fetch(
 }
 
 /// Stores a value in a target, with its tests, and gives the stored value as a read gives it.
+#[inline(always)]
 pub fn put(
     plan: &Plan,
     class: usize,

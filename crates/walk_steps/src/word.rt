@@ -41,6 +41,7 @@ pub enum Stop {
 
 impl Word {
     /// An int.
+    #[inline(always)]
     pub fn int(self) -> Result<i32, Stop>
         ensures { (plan : Plan) (class : ℕ) → as_it_is result ≡ whole IntWidth (seen plan class self) }
     {
@@ -51,6 +52,7 @@ impl Word {
     }
 
     /// A long.
+    #[inline(always)]
     pub fn long(self) -> Result<i64, Stop>
         ensures { (plan : Plan) (class : ℕ) → as_it_is result ≡ whole LongWidth (seen plan class self) }
     {
@@ -61,6 +63,7 @@ impl Word {
     }
 
     /// A truth value.
+    #[inline(always)]
     pub fn truth(self) -> Result<u8, Stop>
         ensures { (plan : Plan) (class : ℕ) → as_it_is result ≡ truth_of (seen plan class self) }
     {
@@ -71,6 +74,7 @@ impl Word {
     }
 
     /// Whether it meets a condition: it is a truth value other than false.
+    #[inline(always)]
     pub fn is_met(self) -> Result<bool, Stop>
         ensures { (plan : Plan) (class : ℕ) → as_it_is result ≡ is_met (seen plan class self) }
     {
@@ -81,6 +85,7 @@ impl Word {
     }
 
     /// Whether it meets a condition, as a truth value.
+    #[inline(always)]
     pub fn met(self) -> Result<Word, Stop>
         ensures { (plan : Plan) (class : ℕ) → ends plan class result ≡ map_ok val.truth (is_met (seen plan class self)) }
     {
@@ -91,6 +96,7 @@ impl Word {
     }
 
     /// A truth value, true or false.
+    #[inline(always)]
     pub fn of_bool(truth: bool) -> Word
         ensures { (plan : Plan) (class : ℕ) → seen plan class result ≡ val.truth truth }
     {
@@ -102,6 +108,7 @@ impl Word {
     }
 
     /// What a local without an initial value has, and a method that does not return: 0, false or null.
+    #[inline(always)]
     pub fn zero(kind: Kind) -> Word
         ensures { (plan : Plan) (class : ℕ) → seen plan class result ≡ val.zero_of kind }
     {
@@ -116,6 +123,7 @@ impl Word {
     }
 
     /// The value of a local, which is 0, false or null where it is not begun.
+    #[inline(always)]
     pub fn begun(self, kind: Kind) -> Word
         ensures { (plan : Plan) (class : ℕ) → seen plan class result ≡ val.begun kind (seen plan class self) }
     {
@@ -126,6 +134,7 @@ impl Word {
     }
 
     /// Whether a local is begun.
+    #[inline(always)]
     pub fn is_begun(self) -> bool
         ensures { (plan : Plan) (class : ℕ) → result ≡ val.is_begun (seen plan class self) }
     {
@@ -133,6 +142,7 @@ impl Word {
     }
 
     /// The receiver, which a method that names it has.
+    #[inline(always)]
     pub fn receiver(self) -> Result<Word, Stop>
         ensures { (plan : Plan) (class : ℕ) → ends plan class result ≡ val.receiver (seen plan class self) }
     {
