@@ -212,8 +212,8 @@ calls::eval_static-returns-clause-end t c =
     c.eval_call.ensures.end
     ∙ ap (λ (frame : List Val). call_from w 0 c.args.method es frame s) (c.new_frame-frame.ensures plan class)
 
-pub calls::eval_super-returns-in_ok-this-clause-end : goal.calls::eval_super-returns-in_ok-this-clause-end
-calls::eval_super-returns-in_ok-this-clause-end t c =
+pub calls::eval_super-returns-clause-end : goal.calls::eval_super-returns-clause-end
+calls::eval_super-returns-clause-end t c =
     let plan = c.args.plan.now in
     let class = c.args.class in
     let w : Setting = setting_of plan class c.args.frames in
