@@ -1,4 +1,7 @@
 //! Inputs that are words and numbers.
+ghost use Rattle.std.specs.Prelude.{◌<◌, IfOk};
+
+use sed_value::Id;
 use std::io::{self, ErrorKind};
 
 /// An input as a text: empty where it is none.
@@ -36,5 +39,33 @@ pub fn moment(digits: &str) -> io::Result<i64> {
     match digits.parse() {
         Ok(moment) => Ok(moment),
         Err(_) => Err(bad_input()),
+    }
+}
+
+/// A number in decimal of 8 bits.
+pub fn small(digits: &str) -> io::Result<u8> {
+    match digits.parse() {
+        Ok(number) => Ok(number),
+        Err(_) => Err(bad_input()),
+    }
+}
+
+/// An id in decimal.
+pub fn id(digits: &str) -> io::Result<Id> {
+    match digits.parse() {
+        Ok(number) => Ok(Id(number)),
+        Err(_) => Err(bad_input()),
+    }
+}
+
+/// A session place, 0 to 15, in decimal.
+pub fn place(digits: &str) -> io::Result<u8>
+    ensures { IfOk result (λ place. place < 16) }
+{
+    let number = small(digits)?;
+    if number < 16 {
+        Ok(number)
+    } else {
+        Err(bad_input())
     }
 }

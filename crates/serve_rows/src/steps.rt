@@ -4,10 +4,12 @@
 //!   (then there is no reply), `subscribe 1 15`, `unsubscribe 1 1`, `deleted`; what is no request gives its refusal's cause;
 //! - `200 * ` and a payload are so many requests one after another: how many of them are done, and the last answer;
 //! - `cycle`, `7 cycles` and `begin` give how many calls trapped;
+//! - `marks 1 0` gives the mask of the parts of component 1 that are marked for session place 0, `settle 1 0 15` settles those of
+//!   the mask 15 there: 1 is t, 2 is c, 4 is r, 8 is l; `none` where the component is not live;
 //! - `turns 100` and `moment 5000` set what each root call gets from then on.
 ghost use Rattle.std.specs.Prelude.{◌≤◌};
 
-use crate::inputs::{moment, number, split};
+use crate::inputs::{id, moment, number, place, small, split};
 use crate::payloads::payload;
 use crate::stage::Stage;
 use app_cycle::{begin, cycle};
@@ -34,7 +36,36 @@ pub fn do_step(alloc: Global, stage: &mut Stage, step: &str, out: &mut Vec<u8>) 
             stage.moment = moment(rest)?;
             write!(out, "ok")
         }
+        "marks" => write_marks(stage, rest, out),
+        "settle" => settle(stage, rest, out),
         _ => do_other(alloc, stage, step, out),
+    }
+}
+
+// Writes the marks of a component for a session place.
+fn write_marks(stage: &Stage, words: &str, out: &mut Vec<u8>) -> io::Result<()> {
+    let (component, at) = split(words);
+    let component = id(component)?;
+    let at = place(at)?;
+    match stage.app.tree().find(component) {
+        Some(_) => write!(out, "{}", stage.app.touched(component, at)),
+        None => write!(out, "none"),
+    }
+}
+
+// Settles the parts of a mask of a component for a session place.
+fn settle(stage: &mut Stage, words: &str, out: &mut Vec<u8>) -> io::Result<()> {
+    let (component, words) = split(words);
+    let (at, mask) = split(words);
+    let component = id(component)?;
+    let at = place(at)?;
+    let mask = small(mask)?;
+    match stage.app.tree().find(component) {
+        Some(_) => {
+            stage.app.settle(component, at, mask);
+            write!(out, "ok")
+        }
+        None => write!(out, "none"),
     }
 }
 
