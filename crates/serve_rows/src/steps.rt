@@ -6,6 +6,7 @@
 //! - `cycle`, `7 cycles` and `begin` give how many calls trapped;
 //! - `marks 1 0` gives the mask of the parts of component 1 that are marked for session place 0, `settle 1 0 15` settles those of
 //!   the mask 15 there: 1 is t, 2 is c, 4 is r, 8 is l; `none` where the component is not live;
+//! - `file 52` writes the application file into 52 bytes, and gives its bytes, or `needs 60` where it has so many;
 //! - `turns 100` and `moment 5000` set what each root call gets from then on.
 ghost use Rattle.std.specs.Prelude.{◌≤◌};
 
@@ -13,6 +14,7 @@ use crate::inputs::{id, moment, number, place, small, split};
 use crate::payloads::payload;
 use crate::stage::Stage;
 use app_cycle::{begin, cycle};
+use app_writer::write_app;
 use sox_commands::Served;
 use sox_msg::read_request;
 use sox_serve::{ReplyBuf, serve};
@@ -38,7 +40,17 @@ pub fn do_step(alloc: Global, stage: &mut Stage, step: &str, out: &mut Vec<u8>) 
         }
         "marks" => write_marks(stage, rest, out),
         "settle" => settle(stage, rest, out),
+        "file" => write_file(alloc, stage, number(rest)?, out),
         _ => do_other(alloc, stage, step, out),
+    }
+}
+
+// Writes the application file, where it has at most so many bytes.
+fn write_file(alloc: Global, stage: &Stage, most: u32, out: &mut Vec<u8>) -> io::Result<()> {
+    let mut bytes = vec![in alloc; 0u8; most as usize]?;
+    match write_app(&stage.app, &mut bytes) {
+        Ok(count) => write_bytes(&bytes[..count], out),
+        Err(full) => write!(out, "needs {}", full.needs),
     }
 }
 
