@@ -11,8 +11,8 @@ use std::marker::Model;
 // How many subscribers a part may have.
 const SUBSCRIBERS: usize = 65536;
 
-/// Which of 65,536 numbers have subscribed a part, and the bytes of the last event that was posted to each. Contracts see
-/// it by `kept_at`.
+/// Which of 65,536 numbers have subscribed a part, and the bytes of the last event that was posted to each. Contracts
+/// see it by `kept_at`.
 #[derive(Drop)]
 pub struct Events {
     subscribed: Bits,
@@ -87,7 +87,8 @@ impl Events {
         self.subscribed.remove(number);
     }
 
-    /// The bytes of the last event that was posted to a number: none where none was since it subscribed, or where it has not.
+    /// The bytes of the last event that was posted to a number: none where none was since it subscribed, or where it
+    /// has not.
     pub fn last(&self, number: usize) -> Option<&[u8]>
         requires { number < 65536 }
         ensures { option_copied result ≡ unwrap_or (kept_at self.now number) None }

@@ -23,8 +23,8 @@ pub const IDS: u16 = 4096;
 // A mask of all parts.
 const ALL: u8 = 15;
 
-/// Who has subscribed which part of which id at which session place, and the bytes of the last event of each. Contracts see it
-/// by `at`, and how many bytes an event may have by `most_bytes`, which no call changes.
+/// Who has subscribed which part of which id at which session place, and the bytes of the last event of each. Contracts
+/// see it by `at`, and how many bytes an event may have by `most_bytes`, which no call changes.
 ///
 /// All memory is taken by `new`: for each part 65,536 times the width, and six bytes. No other call takes any.
 #[derive(Drop)]
@@ -120,7 +120,8 @@ impl SubTable {
         )
     }
 
-    /// The bytes of the last event that was posted of a part: none where none was since it was subscribed, or where it isn't.
+    /// The bytes of the last event that was posted of a part: none where none was since it was subscribed, or where it
+    /// isn't.
     pub fn last(&self, place: u8, id: Id, part: Part) -> Option<&[u8]>
         requires place { place < 16 }
         requires id { id.0 < 4096 }
@@ -145,8 +146,8 @@ impl SubTable {
         post_if(&mut self.links, number, part.is(Part::Links), event);
     }
 
-    /// The least id from this one on of which some part is subscribed at a place. Words without a bit are passed 64 ids at
-    /// a time.
+    /// The least id from this one on of which some part is subscribed at a place. Words without a bit are passed 64 ids
+    /// at a time.
     pub fn next_id(&self, place: u8, from: Id) -> Option<Id>
         requires { place < 16 }
         ensures { MatchOption result ((id : ℕ) → from.0 ≤ id → is_subscribed (at self.now) place id ≡ false) (λ id. IsNextId (at self.now) place from.0 id.0) }
