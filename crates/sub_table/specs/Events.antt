@@ -3,8 +3,8 @@ use Rattle.std.specs.Prelude.{ℕ, ◌≡◌, ◌≤◌, ◌*◌, ◌/◌, ◌%�
 use Rattle.std.specs.Option.{option_map}
 use Rattle.std.specs.Int.{bit_at}
 
--- the bits of 65,536 subscribers in words of 64, a length where an event was posted, and the bytes of the events, each in
--- a field of the width
+-- the bits of 65,536 subscribers in words of 64, a length where an event was posted, and the bytes of the events, each
+-- in a field of the width
 pub record Kept : Type 0 where
   pub words : List ℕ
   pub lengths : List (Option ℕ)

@@ -8,8 +8,8 @@ use Rattle.sub_table.specs.Parts.{is_in, is_part}
 
 -- ---- what a table says
 
--- of a place, an id and a part: none where it is not subscribed; else the bytes of the last event that was posted of it, if
--- there is one
+-- of a place, an id and a part: none where it is not subscribed; else the bytes of the last event that was posted of
+-- it, if there is one
 abbrev pub Subscriptions : Type 0
 Subscriptions = ℕ → ℕ → Part → Option (Option (List ℕ))
 
