@@ -1,0 +1,4 @@
+pub mod BitLemmas
+pub mod EventLemmas
+pub mod TableLemmas
+pub mod WordLemmas

@@ -1,0 +1,8 @@
+use Rattle.sub_table.proofs.BitLemmas.{clear_same, clear_others}
+use Rattle.sub_table.proofs.bits.clear.Goals as goal
+
+pub returns-clause-same : goal.returns-clause-same
+returns-clause-same c = clear_same c.args.words.now c.args.number c.requires
+
+pub returns-clause-others : goal.returns-clause-others
+returns-clause-others c = clear_others c.args.words.now c.args.number c.requires
