@@ -26,7 +26,7 @@ const ALL: u8 = 15;
 /// Who has subscribed which part of which id at which session place, and the bytes of the last event of each. Contracts
 /// see it by `at`, and how many bytes an event may have by `most_bytes`, which no call changes.
 ///
-/// All memory is taken by `new`: for each part 65,536 times the width, and six bytes. No other call takes any.
+/// All memory is taken by `new`: for each part 65,536 times the width, a length and a bit. No other call takes any.
 #[derive(Drop)]
 pub struct SubTable {
     tree: Events,
