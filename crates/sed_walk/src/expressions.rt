@@ -41,10 +41,7 @@ pub fn eval(
         Expr::Null(_) => Ok(Word::Null),
         Expr::Text(number) => Ok(Word::Literal(*number)),
         Expr::This(_) => locals::this(locals),
-        Expr::Local(kind, number) => {
-            let target = Target::Local(*kind, *number);
-            fetch(plan, class, target, store, locals)
-        }
+        Expr::Local(kind, number) => locals::read(locals, *kind, usize::from(*number)),
         Expr::Static(prim, number) => {
             let target = Target::Static(*prim, *number);
             fetch(plan, class, target, store, locals)
@@ -110,16 +107,14 @@ pub(crate) fn eval_operand(
     match e {
         Expr::Int(number) => Ok(Word::Int(*number)),
         Expr::This(_) => locals::this(locals),
-        Expr::Local(kind, number) => {
-            let target = Target::Local(*kind, *number);
-            fetch(plan, class, target, store, locals)
-        }
+        Expr::Local(kind, number) => locals::read(locals, *kind, usize::from(*number)),
         _ => eval(plan, class, frames, e, store, locals),
     }
 }
 
 // The target, its old value, the operand, and then the store.
 #[cycle(walk)]
+#[inline(always)]
 fn eval_update(
     plan: &Plan,
     class: usize,
@@ -146,6 +141,7 @@ fn eval_update(
 
 // The object, then the index.
 #[cycle(walk)]
+#[inline(always)]
 fn locate(
     plan: &Plan,
     class: usize,
