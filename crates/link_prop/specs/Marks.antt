@@ -1,9 +1,9 @@
 -- Marks of an application: which of the parts t, c, r and l of a component may have changed since they were settled for a
 -- session place; and the table of the marks that each call may set. Those of t, c and r are the tree's.
-use Rattle.std.specs.Prelude.{ℕ, ◌≡◌, ◌⊎◌, ◌==◌, ◌||◌, ◌+◌, ◌/◌, ◌%◌, Bool, true, false, if◌then◌else◌, IsTrue, List}
+use Rattle.std.specs.Prelude.{ℕ, ◌≡◌, ◌⊎◌, ◌==◌, ◌&&◌, ◌||◌, ◌+◌, ◌/◌, ◌%◌, Bool, true, false, if◌then◌else◌, IsTrue, List}
 use Rattle.std.specs.List.{list_any}
 use Rattle.sed_engine.specs.declared.engine.Engine.{Ghosts}
-use Rattle.node_table.specs.declared.marks.Parts.{Parts}
+pub use Rattle.node_table.specs.declared.marks.Parts.{Parts}
 use Rattle.link_table.specs.Link.{Link}
 use Rattle.link_table.specs.Links.{links_at}
 pub use Rattle.link_marks.specs.Marked.{has_mark}
@@ -11,7 +11,7 @@ pub use Rattle.comp_tree.specs.Marks.{Part, added_at, is_among, marks_at, mask_o
 use Rattle.comp_tree.specs.Application.{is_live}
 use Rattle.comp_tree.specs.Held.{components_of}
 use Rattle.comp_tree.specs.Parts.{link_part}
-use Rattle.link_prop.specs.Linked.{Linked}
+use Rattle.link_prop.specs.Linked.{Linked, application_of}
 
 -- ---- parts
 
@@ -42,11 +42,16 @@ mask_at h id place = mask_of (marks_at h.tree id place) + (if has_mark h.marks i
 
 -- ---- what a call does to the marks
 
--- what the marks tell: one that is clear after was clear before, and the bytes of its part are the same
-abbrev pub Tells : {E : Type 0} → Ghosts E → Linked E → Linked E → Type 0
-Tells g before after =
-    (id place : ℕ) (part : AppPart) → is_marked after id place part ≡ false
+-- what the mark of a part for a place tells, from one state to a later one: where it is clear after, it was clear before,
+-- and the part has the same bytes
+abbrev pub MarkTells : {E : Type 0} → Ghosts E → ℕ → ℕ → AppPart → Linked E → Linked E → Type 0
+MarkTells g id place part before after =
+    is_marked after id place part ≡ false
     → (is_marked before id place part ≡ false) × (bytes_at g before id part ≡ bytes_at g after id part)
+
+-- each mark tells so
+abbrev pub Tells : {E : Type 0} → Ghosts E → Linked E → Linked E → Type 0
+Tells g before after = (id place : ℕ) (part : AppPart) → MarkTells g id place part before after
 
 -- a part is in a row of the table, which has marks of the tree and marks of links
 abbrev pub is_in_row : (ℕ → Parts) → (ℕ → Bool) → ℕ → AppPart → Bool
@@ -61,6 +66,19 @@ pub record KeepsAppMarks {E : Type 0} (g : Ghosts E) (own : ℕ → Parts) (link
       → (is_marked before id place part ≡ true) ⊎ (is_in_row own linked id part ≡ true)
   pub clears_none : (id place : ℕ) (part : AppPart) → IsTrue (is_live (components_of g after.tree).by_id id) → is_marked before id place part ≡ true
       → is_marked after id place part ≡ true
+
+-- ---- settling
+
+-- the mark of a part for a place is among those that a `settle` of a mask clears at a component for a place
+abbrev pub is_settled : ℕ → ℕ → ℕ → ℕ → ℕ → AppPart → Bool
+is_settled id place mask other at part = ((other == id) && (at == place)) && is_in_mask mask part
+
+-- what `settle` does: it clears the marks of a mask at a component for a place, and changes nothing else
+pub record Settles {E : Type 0} (g : Ghosts E) (id place mask : ℕ) (before after : Linked E) : Type 0 where
+  pub marks : (other at : ℕ) (part : AppPart) → is_marked after other at part
+      ≡ (if is_settled id place mask other at part then false else is_marked before other at part)
+  pub stays : application_of g after ≡ application_of g before
+  pub meaning : g.meaning after.tree.engine ≡ g.meaning before.tree.engine
 
 -- ---- the table: the marks of links that each call may set, for every place; those of the tree are in the tree's table
 

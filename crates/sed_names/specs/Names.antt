@@ -16,7 +16,7 @@ pub record Names : Type 0 where
   pub class_in : List ℕ → List ℕ → Option TypeNo
   -- the member of a name that a class declares or inherits
   pub member : ℕ → List ℕ → Option Member
-  -- the nearest method of a name at or above a class
+  -- the signature of the nearest member of a name at or above a class, where that is a method
   pub method : ℕ → List ℕ → Option Signature
   -- the number of the text that a literal spells, by the literal as it stands in the source
   pub text : List ℕ → Option ℕ

@@ -31,7 +31,7 @@ pub trait Lookup {
     fn member(&self, class: TypeNo, name: &[u8]) -> Option<Member>
         ensures { result ≡ (names self.now).member class.0 name.now };
 
-    /// The nearest method of a name at or above a class.
+    /// The signature of the nearest member of a name at or above a class, where that is a method.
     fn method(&self, class: TypeNo, name: &[u8]) -> Option<&Signature>
         ensures { option_copied result ≡ (names self.now).method class.0 name.now };
 

@@ -1,3 +1,4 @@
 pub mod AnswerLemmas
 pub mod RefusalLemmas
 pub mod SaveLemmas
+pub mod MarkLemmas

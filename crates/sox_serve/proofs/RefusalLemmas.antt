@@ -39,7 +39,7 @@ done_is_capital version (Told bytes) = refl
 done_is_capital (write id slot value) reply = refl
 done_is_capital (clear id) reply = refl
 
-abbrev first_byte : List ℕ → ℕ
+abbrev pub first_byte : List ℕ → ℕ
 first_byte [] = 0
 first_byte (byte ∷ behind) = byte
 

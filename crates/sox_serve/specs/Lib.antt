@@ -1,2 +1,3 @@
 pub mod Serves
 pub mod Groups
+pub mod Marks

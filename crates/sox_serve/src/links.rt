@@ -2,6 +2,7 @@
 ghost use Rattle.std.specs.Prelude.{ℕ, ℤ};
 ghost use Rattle.sox_msg.specs.Command.{link as linked, unlink as unlinked};
 ghost use Rattle.sox_serve.specs.Groups.{asked_of_links};
+ghost use Rattle.sox_serve.specs.Marks.{MarksByRow};
 ghost use Rattle.sox_serve.specs.Serves.{Gives, answer_over};
 
 use crate::answering::reply_to;
@@ -19,7 +20,8 @@ pub fn serve_links<E: Engine>(
     number: u8,
     into: &mut ReplyBuf,
 ) -> Served
-    ensures { (turns : ℕ) (moment : ℤ) → Gives E.Engine app.old app.new result into.new number (answer_over E.Engine app.old (asked_of_links command) turns moment) }
+    ensures served { (turns : ℕ) (moment : ℤ) → Gives E.Engine app.old app.new result into.new number (answer_over E.Engine app.old (asked_of_links command) turns moment) }
+    ensures marks { MarksByRow E.Engine app.old app.new (asked_of_links command) number into.new }
 {
     match command {
         LinkCommand::Join(l) => link(app, l, number, into),
@@ -29,7 +31,8 @@ pub fn serve_links<E: Engine>(
 
 // Puts a link.
 fn link<E: Engine>(app: &mut App<E>, l: LinkRec, number: u8, into: &mut ReplyBuf) -> Served
-    ensures { (turns : ℕ) (moment : ℤ) → Gives E.Engine app.old app.new result into.new number (answer_over E.Engine app.old (linked l.from l.from_slot l.to l.to_slot) turns moment) }
+    ensures served { (turns : ℕ) (moment : ℤ) → Gives E.Engine app.old app.new result into.new number (answer_over E.Engine app.old (linked l.from l.from_slot l.to l.to_slot) turns moment) }
+    ensures marks { MarksByRow E.Engine app.old app.new (linked l.from l.from_slot l.to l.to_slot) number into.new }
 {
     let end = app.link(l);
     reply_to(into, number, b'L', end);
@@ -38,7 +41,8 @@ fn link<E: Engine>(app: &mut App<E>, l: LinkRec, number: u8, into: &mut ReplyBuf
 
 // Takes a link away.
 fn unlink<E: Engine>(app: &mut App<E>, l: LinkRec, number: u8, into: &mut ReplyBuf) -> Served
-    ensures { (turns : ℕ) (moment : ℤ) → Gives E.Engine app.old app.new result into.new number (answer_over E.Engine app.old (unlinked l.from l.from_slot l.to l.to_slot) turns moment) }
+    ensures served { (turns : ℕ) (moment : ℤ) → Gives E.Engine app.old app.new result into.new number (answer_over E.Engine app.old (unlinked l.from l.from_slot l.to l.to_slot) turns moment) }
+    ensures marks { MarksByRow E.Engine app.old app.new (unlinked l.from l.from_slot l.to l.to_slot) number into.new }
 {
     let end = app.unlink(l);
     reply_to(into, number, b'L', end);

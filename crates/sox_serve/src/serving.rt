@@ -11,6 +11,7 @@ ghost use Rattle.sox_msg.specs.Answered.{refused as refused_as};
 ghost use Rattle.sox_msg.specs.Command.{CanBeAsked};
 ghost use Rattle.sox_msg.specs.View.{asked_of};
 ghost use Rattle.sox_serve.specs.Groups.{asked_of_group};
+ghost use Rattle.sox_serve.specs.Marks.{KeepsRow, MarksByRow, nothing, row_of};
 ghost use Rattle.sox_serve.specs.Serves.{Gives, Serves, answer_over};
 
 use crate::groups::{Group, group_of};
@@ -31,8 +32,11 @@ use sox_msg::Request;
 /// The application after it, what is asked of the node and the bytes of the reply are those of the answer to its command.
 /// So a refusal is the first of the command's row, and leaves the application as it was; and a save is asked for exactly
 /// where the App's `save` may be invoked, and then there is no reply yet. Where an add is refused by no row, it may be
-/// answered that memory is wanted, and then nothing is changed; over a fixed engine that never comes. A part whose mark is clear
-/// after it had a clear mark before it, and has the same bytes.
+/// answered that memory is wanted, and then nothing is changed; over a fixed engine that never comes.
+///
+/// A request may set the marks of its command's row, for every place, and clears none. So a part whose mark is clear
+/// after the request had a clear mark before it too, and has the bytes that it had then. A read, a version, a clear, a
+/// subscribe, an unsubscribe and a save that is asked for mark nothing, and neither does a request that is refused.
 pub fn serve<E: Engine>(
     app: &mut App<E>,
     turns: u32,
@@ -50,6 +54,8 @@ pub fn serve<E: Engine>(
     ensures saving { result ≡ Served.SaveAsked → (application_of E.Engine app.new ≡ application_of E.Engine app.old) × (reply.new ≡ []) }
     ensures meaning { E.meaning app.new.tree.engine ≡ E.meaning app.old.tree.engine }
     ensures tells { Tells E.Engine app.old app.new }
+    ensures marks { KeepsRow E.Engine (row_of (application_of E.Engine app.old) (asked_of request.now.command)) app.old app.new }
+    ensures unmarked { (refusal : Refusal) → reply.new ≡ reply_bytes request.now.number (Some (refused_as refusal)) → KeepsRow E.Engine nothing app.old app.new }
     ensures steady { E.fixed app.new.tree.engine ≡ E.fixed app.old.tree.engine }
 {
     refused_commands_change_nothing();
@@ -69,7 +75,8 @@ fn serve_group<E: Engine>(
     requires can { CanBeAsked (asked_of_group group.now) }
     requires some_turns { 1 ≤ turns }
     requires most_turns { turns ≤ 1000000 }
-    ensures { Serves E.Engine app.old app.new (asked_of_group group.now) number turns ticks result into.new }
+    ensures served { Serves E.Engine app.old app.new (asked_of_group group.now) number turns ticks result into.new }
+    ensures marks { MarksByRow E.Engine app.old app.new (asked_of_group group.now) number into.new }
 {
     match group {
         Group::Shape(command) => serve_shape(app, command, number, turns, ticks, into),

@@ -2,6 +2,7 @@
 ghost use Rattle.std.specs.Prelude.{◌≤◌, ℕ, ℤ};
 ghost use Rattle.sox_msg.specs.Command.{add as added, delete as deleted, rename as renamed, reorder as reordered};
 ghost use Rattle.sox_serve.specs.Groups.{asked_of_shape};
+ghost use Rattle.sox_serve.specs.Marks.{MarksByRow};
 ghost use Rattle.sox_serve.specs.Serves.{Gives, Serves, answer_over};
 
 use crate::answering::reply_to;
@@ -24,7 +25,8 @@ pub fn serve_shape<E: Engine>(
 ) -> Served
     requires some_turns { 1 ≤ turns }
     requires most_turns { turns ≤ 1000000 }
-    ensures { Serves E.Engine app.old app.new (asked_of_shape command.now) number turns ticks result into.new }
+    ensures served { Serves E.Engine app.old app.new (asked_of_shape command.now) number turns ticks result into.new }
+    ensures marks { MarksByRow E.Engine app.old app.new (asked_of_shape command.now) number into.new }
 {
     match command {
         ShapeCommand::Add {
@@ -57,7 +59,8 @@ fn add<E: Engine>(
 ) -> Served
     requires some_turns { 1 ≤ turns }
     requires most_turns { turns ≤ 1000000 }
-    ensures { Serves E.Engine app.old app.new (added parent.0 kit kind name.now config.now) number turns ticks result into.new }
+    ensures served { Serves E.Engine app.old app.new (added parent.0 kit kind name.now config.now) number turns ticks result into.new }
+    ensures marks { MarksByRow E.Engine app.old app.new (added parent.0 kit kind name.now config.now) number into.new }
 {
     match app.add(parent, kit, kind, name, config, turns, ticks) {
         Ok(id) => reply_added(into, number, id),
@@ -77,7 +80,8 @@ fn delete<E: Engine>(
 ) -> Served
     requires some_turns { 1 ≤ turns }
     requires most_turns { turns ≤ 1000000 }
-    ensures { Gives E.Engine app.old app.new result into.new number (answer_over E.Engine app.old (deleted id.0) turns ticks) }
+    ensures served { Gives E.Engine app.old app.new result into.new number (answer_over E.Engine app.old (deleted id.0) turns ticks) }
+    ensures marks { MarksByRow E.Engine app.old app.new (deleted id.0) number into.new }
 {
     match app.delete(id, turns, ticks) {
         Ok(()) => {
@@ -99,7 +103,8 @@ fn rename<E: Engine>(
     number: u8,
     into: &mut ReplyBuf,
 ) -> Served
-    ensures { (turns : ℕ) (moment : ℤ) → Gives E.Engine app.old app.new result into.new number (answer_over E.Engine app.old (renamed id.0 name.now) turns moment) }
+    ensures served { (turns : ℕ) (moment : ℤ) → Gives E.Engine app.old app.new result into.new number (answer_over E.Engine app.old (renamed id.0 name.now) turns moment) }
+    ensures marks { MarksByRow E.Engine app.old app.new (renamed id.0 name.now) number into.new }
 {
     let end = app.rename(id, name);
     reply_to(into, number, b'N', end);
@@ -114,7 +119,8 @@ fn reorder<E: Engine>(
     number: u8,
     into: &mut ReplyBuf,
 ) -> Served
-    ensures { (turns : ℕ) (moment : ℤ) → Gives E.Engine app.old app.new result into.new number (answer_over E.Engine app.old (reordered id.0 children.now) turns moment) }
+    ensures served { (turns : ℕ) (moment : ℤ) → Gives E.Engine app.old app.new result into.new number (answer_over E.Engine app.old (reordered id.0 children.now) turns moment) }
+    ensures marks { MarksByRow E.Engine app.old app.new (reordered id.0 children.now) number into.new }
 {
     let end = app.reorder(id, children);
     reply_to(into, number, b'O', end);

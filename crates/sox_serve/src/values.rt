@@ -3,6 +3,7 @@ ghost use Rattle.std.specs.Prelude.{◌≡◌, ◌≤◌, ℕ, ℤ, not, IsTrue}
 ghost use Rattle.comp_tree.specs.Edit.{is_save as is_save_of};
 ghost use Rattle.sox_msg.specs.Command.{write as written, invoke as invoked, clear as cleared};
 ghost use Rattle.sox_serve.specs.Groups.{asked_of_values};
+ghost use Rattle.sox_serve.specs.Marks.{MarksByRow};
 ghost use Rattle.sox_serve.specs.Serves.{Gives, answer_over};
 
 use crate::answering::reply_to;
@@ -25,7 +26,8 @@ pub fn serve_values<E: Engine>(
 ) -> Served
     requires some_turns { 1 ≤ turns }
     requires most_turns { turns ≤ 1000000 }
-    ensures { Gives E.Engine app.old app.new result into.new number (answer_over E.Engine app.old (asked_of_values command.now) turns ticks) }
+    ensures served { Gives E.Engine app.old app.new result into.new number (answer_over E.Engine app.old (asked_of_values command.now) turns ticks) }
+    ensures marks { MarksByRow E.Engine app.old app.new (asked_of_values command.now) number into.new }
 {
     match command {
         ValueCommand::Write { id, slot, value } => {
@@ -51,7 +53,8 @@ fn write<E: Engine>(
 ) -> Served
     requires some_turns { 1 ≤ turns }
     requires most_turns { turns ≤ 1000000 }
-    ensures { Gives E.Engine app.old app.new result into.new number (answer_over E.Engine app.old (written id.0 slot value.now) turns ticks) }
+    ensures served { Gives E.Engine app.old app.new result into.new number (answer_over E.Engine app.old (written id.0 slot value.now) turns ticks) }
+    ensures marks { MarksByRow E.Engine app.old app.new (written id.0 slot value.now) number into.new }
 {
     let end = app.write(id, slot, value, turns, ticks);
     reply_to(into, number, b'W', end);
@@ -60,7 +63,8 @@ fn write<E: Engine>(
 
 // Sets a component's fault to 0.
 fn clear<E: Engine>(app: &mut App<E>, id: Id, number: u8, into: &mut ReplyBuf) -> Served
-    ensures { (turns : ℕ) (moment : ℤ) → Gives E.Engine app.old app.new result into.new number (answer_over E.Engine app.old (cleared id.0) turns moment) }
+    ensures served { (turns : ℕ) (moment : ℤ) → Gives E.Engine app.old app.new result into.new number (answer_over E.Engine app.old (cleared id.0) turns moment) }
+    ensures marks { MarksByRow E.Engine app.old app.new (cleared id.0) number into.new }
 {
     let end = app.clear(id);
     reply_to(into, number, b'X', end);
@@ -80,7 +84,8 @@ fn invoke<E: Engine>(
 ) -> Served
     requires some_turns { 1 ≤ turns }
     requires most_turns { turns ≤ 1000000 }
-    ensures { Gives E.Engine app.old app.new result into.new number (answer_over E.Engine app.old (invoked id.0 slot arg.now) turns ticks) }
+    ensures served { Gives E.Engine app.old app.new result into.new number (answer_over E.Engine app.old (invoked id.0 slot arg.now) turns ticks) }
+    ensures marks { MarksByRow E.Engine app.old app.new (invoked id.0 slot arg.now) number into.new }
 {
     if is_save(id, slot) {
         return ask_for_save(app, id, slot, arg, number, into);
@@ -109,7 +114,8 @@ fn run<E: Engine>(
     requires no_save { IsTrue (not (is_save_of id.0 slot)) }
     requires some_turns { 1 ≤ turns }
     requires most_turns { turns ≤ 1000000 }
-    ensures { Gives E.Engine app.old app.new result into.new number (answer_over E.Engine app.old (invoked id.0 slot arg.now) turns ticks) }
+    ensures served { Gives E.Engine app.old app.new result into.new number (answer_over E.Engine app.old (invoked id.0 slot arg.now) turns ticks) }
+    ensures marks { MarksByRow E.Engine app.old app.new (invoked id.0 slot arg.now) number into.new }
 {
     match app.invoke(id, slot, arg, turns, ticks) {
         Ok(_end) => reply_to(into, number, b'I', Ok(())),

@@ -4,6 +4,7 @@ use Rattle.link_prop.specs.Linked.{application_of}
 use Rattle.sox_msg.specs.Command.{Asked}
 use Rattle.sox_msg.specs.View.{asked_of}
 use Rattle.sox_serve.specs.Groups.{asked_of_group}
+use Rattle.sox_serve.specs.Marks.{KeepsRow, row_of}
 use Rattle.sox_serve.specs.Serves.{Serves}
 use Rattle.sox_serve.proofs.RefusalLemmas.{refused_stays}
 use Rattle.sox_serve.proofs.SaveLemmas.{saves, saving}
@@ -14,10 +15,10 @@ returns-clause-served g c =
     subst (λ (a : Asked). Serves g.E.Engine c.args.app.now c.serve_group.new.app a c.args.request.now.number c.args.turns c.args.ticks c.serve_group.result c.serve_group.new.into)
     c.group_of-group.ensures
     (subst (λ (t : ℤ). Serves g.E.Engine c.args.app.now c.serve_group.new.app (asked_of_group c.group_of-group.result) c.args.request.now.number c.args.turns t c.serve_group.result c.serve_group.new.into)
-    (to_z-of_z w64 c.args.ticks c.ranges.ticks) c.serve_group.ensures)
+    (to_z-of_z w64 c.args.ticks c.ranges.ticks) c.serve_group.ensures.served)
 
 pub returns-clause-refused : goal.returns-clause-refused
-returns-clause-refused g c = refused_stays _ _ _ _ _ _ _ _ _ c.serve_group.ensures
+returns-clause-refused g c = refused_stays _ _ _ _ _ _ _ _ _ c.serve_group.ensures.served
 
 pub returns-clause-saves : goal.returns-clause-saves
 returns-clause-saves g c =
@@ -31,4 +32,12 @@ returns-clause-saving g c =
     (c.refused_commands_change_nothing.ensures.save (g.E.Engine.meaning c.args.app.now.tree.engine) (application_of g.E.Engine c.args.app.now) (asked_of c.args.request.now.command) c.args.turns c.args.ticks)
 
 pub returns-clause-tells : goal.returns-clause-tells
-returns-clause-tells g c = c.serve_group.ensures.gives.tells
+returns-clause-tells g c = c.serve_group.ensures.served.gives.tells
+
+pub returns-clause-marks : goal.returns-clause-marks
+returns-clause-marks g c =
+    subst (λ (a : Asked). KeepsRow g.E.Engine (row_of (application_of g.E.Engine c.args.app.now) a) c.args.app.now c.serve_group.new.app)
+    c.group_of-group.ensures c.serve_group.ensures.marks.row
+
+pub returns-clause-unmarked : goal.returns-clause-unmarked
+returns-clause-unmarked g c = c.serve_group.ensures.marks.refused

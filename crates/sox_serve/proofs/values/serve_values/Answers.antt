@@ -1,4 +1,4 @@
 use Rattle.sox_serve.proofs.values.serve_values.Goals as goal
 
-pub returns-in-Clear : goal.returns-in-Clear
-returns-in-Clear g c = rw c.in-Clear.is (c.clear.ensures c.args.turns c.args.ticks)
+pub returns-in-Clear-clause-served : goal.returns-in-Clear-clause-served
+returns-in-Clear-clause-served g c = rw c.in-Clear.is (c.clear.ensures.served c.args.turns c.args.ticks)
