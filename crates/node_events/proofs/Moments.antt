@@ -7,7 +7,6 @@ use Rattle.std.proofs.lemmas.Int.{clamps, ints}
 use Rattle.sed_outside.specs.declared.addr.Addr.{Addr}
 use Rattle.sed_engine.specs.Code.{Meaning}
 use Rattle.comp_tree.specs.Application.{Application}
-use Rattle.comp_tree.specs.Cycle.{Cycle}
 use Rattle.dasp_msg.specs.declared.kind.MsgKind.{MsgKind}
 use Rattle.dasp_msg.specs.declared.kind.MsgKind.TheVariants.{Hello, Challenge, Authenticate, Welcome, KeepAlive, Datagram, Close}
 use Rattle.dasp_msg.specs.Shown.{Message}
@@ -27,7 +26,7 @@ use Rattle.node_events.specs.Mishap.{Mishap}
 use Rattle.node_events.specs.Node.{Node, Setup}
 use Rattle.node_events.specs.Running.{Event, comes, one_event, passes, run}
 use Rattle.node_events.specs.Serving.{served}
-use Rattle.node_events.specs.Ticking.{at_place as at_place_of, kept_up, places, ticked, timed, without_ended}
+use Rattle.node_events.specs.Ticking.{advanced_to, at_place as at_place_of, cycle_of, kept_up, places, ticked, timed, without_ended}
 
 pub record Same (before after : State) : Type 0 where
   pub users : after.users ≡ before.users
@@ -122,48 +121,70 @@ module _ (m : Meaning) (s : Setup) where
 
 -- ---- a tick
 
-module _ (m : Meaning) (a : Application) where
-  ended_same : (handing : Handing) (t : Telling) → Same t.sessions (without_ended handing t).sessions
-  ended_same none t = same t.sessions
-  ended_same (ended_at place) t = same t.sessions
-  ended_same (payload_at place payload) t = same t.sessions
+-- a tick changes the application in its cycle alone
+pub record Goes (before after : Node) : Type 0 where
+  pub application : after.application ≡ before.application
+  pub sessions : Same before.sessions after.sessions
 
-  timed_same : (place : ℕ) (t : Telling) → Same t.sessions (timed place t).sessions
-  timed_same place t =
-      then_same t.sessions _ (timed place t).sessions (tick_same t.sessions place)
-      (ended_same (tick_of t.sessions place).handing (then_call t (tick_of t.sessions place)))
+goes : (n : Node) → Goes n n
+goes n = record { application = refl; sessions = same n.sessions }
 
-  part_same : (place : ℕ) (t : Telling) (p : PartAt) → Same t.sessions (told_if_due m a place t p).sessions
-  part_same place t p = by_test (has_room_at t.sessions place && is_due m a t.subscriptions place p.id p.part)
+then_goes : (x y z : Node) → Goes x y → Goes y z → Goes x z
+then_goes x y z one other = record {
+  application = other.application ∙ one.application;
+  sessions = then_same x.sessions y.sessions z.sessions one.sessions other.sessions;
+}
+
+ended_goes : (handing : Handing) (t : Telling) → Goes t.node (without_ended handing t).node
+ended_goes none t = goes t.node
+ended_goes (ended_at place) t = record { application = refl; sessions = same t.node.sessions }
+ended_goes (payload_at place payload) t = goes t.node
+
+timed_goes : (place : ℕ) (t : Telling) → Goes t.node (timed place t).node
+timed_goes place t =
+    let outcome = tick_of t.node.sessions place in
+    then_goes t.node (then_call t outcome).node (timed place t).node (record { application = refl; sessions = tick_same t.node.sessions place })
+    (ended_goes outcome.handing (then_call t outcome))
+
+module _ (m : Meaning) where
+  part_goes : (place : ℕ) (t : Telling) (p : PartAt) → Goes t.node (told_if_due m place t p).node
+  part_goes place t p = by_test (has_room_at t.node.sessions place && is_due m t.node.application t.node.subscriptions place p.id p.part)
     where
-      by_test : (b : Bool) → Same t.sessions (if b then told_of m a place t p.id p.part else t).sessions
-      by_test true = post_same t.sessions place (event_bytes p.id p.part (bytes_of m a p.id p.part))
-      by_test false = same t.sessions
+      by_test : (b : Bool) → Goes t.node (if b then told_of place p.id p.part (bytes_of m t.node.application p.id p.part) t else t).node
+      by_test true =
+          record { application = refl; sessions = post_same t.node.sessions place (event_bytes p.id p.part (bytes_of m t.node.application p.id p.part)) }
+      by_test false = goes t.node
 
-  parts_same : (place : ℕ) (parts : List PartAt) (t : Telling) → Same t.sessions (fold (told_if_due m a place) t parts).sessions
-  parts_same place [] t = same t.sessions
-  parts_same place (p ∷ parts) t =
-      then_same t.sessions (told_if_due m a place t p).sessions _ (part_same place t p) (parts_same place parts (told_if_due m a place t p))
+  parts_go : (place : ℕ) (parts : List PartAt) (t : Telling) → Goes t.node (fold (told_if_due m place) t parts).node
+  parts_go place [] t = goes t.node
+  parts_go place (p ∷ parts) t =
+      then_goes t.node (told_if_due m place t p).node (fold (told_if_due m place) (told_if_due m place t p) parts).node (part_goes place t p)
+      (parts_go place parts (told_if_due m place t p))
 
-  kept_same : (place : ℕ) (t : Telling) → Same t.sessions (kept_up place t).sessions
-  kept_same place t = keep_same t.sessions place
+  kept_goes : (place : ℕ) (t : Telling) → Goes t.node (kept_up place t).node
+  kept_goes place t = record { application = refl; sessions = keep_same t.node.sessions place }
 
-  place_same : (t : Telling) (place : ℕ) → Same t.sessions (at_place_of m a t place).sessions
-  place_same t place =
-      then_same t.sessions (timed place t).sessions _ (timed_same place t)
-      (then_same (timed place t).sessions (told_all m a place (timed place t)).sessions _
-      (parts_same place (parts_of a) (timed place t)) (kept_same place (told_all m a place (timed place t))))
+  place_goes : (t : Telling) (place : ℕ) → Goes t.node (at_place_of m t place).node
+  place_goes t place =
+      then_goes t.node (timed place t).node (at_place_of m t place).node (timed_goes place t)
+      (then_goes (timed place t).node (told_all m place (timed place t)).node (at_place_of m t place).node
+      (parts_go place (parts_of (timed place t).node.application) (timed place t)) (kept_goes place (told_all m place (timed place t))))
 
-  places_same : (some : List ℕ) (t : Telling) → Same t.sessions (fold (at_place_of m a) t some).sessions
-  places_same [] t = same t.sessions
-  places_same (place ∷ some) t =
-      then_same t.sessions (at_place_of m a t place).sessions _ (place_same t place) (places_same some (at_place_of m a t place))
+  places_go : (some : List ℕ) (t : Telling) → Goes t.node (fold (at_place_of m) t some).node
+  places_go [] t = goes t.node
+  places_go (place ∷ some) t =
+      then_goes t.node (at_place_of m t place).node (fold (at_place_of m) (at_place_of m t place) some).node (place_goes t place)
+      (places_go some (at_place_of m t place))
 
 module _ (m : Meaning) (s : Setup) where
+  abbrev pub cycled : Node → ℤ → Application
+  cycled n moment = (cycle_of m s (advanced_to moment n)).application
+
+  pub ticked_goes : (n : Node) (moment : ℤ) → Goes (record (advanced_to moment n) { application = cycled n moment }) (ticked m s n moment).node
+  ticked_goes n moment = places_go m places (record { node = record (advanced_to moment n) { application = cycled n moment }; sent = [] })
+
   pub ticked_same : (n : Node) (moment : ℤ) → Same (advanced n.sessions moment) (ticked m s n moment).node.sessions
-  ticked_same n moment =
-      places_same m (Cycle m n.application s.turns (advanced n.sessions moment).moment).application places
-      (record { sessions = advanced n.sessions moment; subscriptions = n.subscriptions; sent = [] })
+  ticked_same n moment = (ticked_goes n moment).sessions
 
 -- ---- a run
 
@@ -180,3 +201,17 @@ module _ (m : Meaning) (s : Setup) where
       let one = event_goes_on n event in
       let rest = run_goes_on (one_event m s n event).node events in
       omega (arith, ints)
+
+  -- ---- the users and the secret
+
+  pub users_stay : (n : Node) (events : List Event) → (run m s n events).node.sessions.users ≡ n.sessions.users
+  users_stay n [] = refl
+  users_stay n (comes from heard mishap ∷ events) =
+      users_stay (one_event m s n (comes from heard mishap)).node events ∙ (delivered_same m s n from heard mishap).users
+  users_stay n (passes moment ∷ events) = users_stay (one_event m s n (passes moment)).node events ∙ (ticked_same m s n moment).users
+
+  pub secret_stays : (n : Node) (events : List Event) → (run m s n events).node.sessions.secret ≡ n.sessions.secret
+  secret_stays n [] = refl
+  secret_stays n (comes from heard mishap ∷ events) =
+      secret_stays (one_event m s n (comes from heard mishap)).node events ∙ (delivered_same m s n from heard mishap).secret
+  secret_stays n (passes moment ∷ events) = secret_stays (one_event m s n (passes moment)).node events ∙ (ticked_same m s n moment).secret

@@ -11,7 +11,6 @@ use Rattle.sed_engine.specs.declared.call.Root.TheVariants.{Action, Callback}
 use Rattle.sed_engine.specs.Code.{Meaning}
 use Rattle.comp_tree.specs.Application.{Application, ById, Components, is_live}
 use Rattle.comp_tree.specs.Calls.{Call, callback_argument}
-use Rattle.comp_tree.specs.Cycle.{Cycle}
 use Rattle.comp_tree.specs.Edit.{Edited, class_or_none, is_save, over, unless_refused}
 use Rattle.comp_tree.specs.Edits.{after_add, after_clear, after_delete, after_invoke, after_rename, after_reorder, after_write, first_of, with_child}
 use Rattle.comp_tree.specs.Links.{has_changed, store}
@@ -23,8 +22,7 @@ use Rattle.sub_table.specs.Events.{posted, subscribed}
 use Rattle.sub_table.specs.Parts.{is_in, is_part}
 use Rattle.sub_table.specs.Table.{Subscriptions, is_at, with_event, with_subscribed, without_place, without_subscribed}
 use Rattle.dasp_session.specs.Letters.{Letter}
-use Rattle.dasp_session.specs.Receive.{Handing, none, ended_at, payload_at, advanced, received, tick_of}
-use Rattle.dasp_session.specs.Session.{State}
+use Rattle.dasp_session.specs.Receive.{Handing, none, ended_at, payload_at, received, tick_of}
 use Rattle.sox_msg.specs.Answered.{Answered}
 use Rattle.sox_msg.specs.Command.{Asked, add, read_part, delete, invoke, link, unlink, rename, reorder, read_slot, subscribe, unsubscribe, version, write, clear}
 use Rattle.sox_commands.specs.Answer.{Answer, answer, answer_by, refused_by, served_by}
@@ -37,7 +35,7 @@ use Rattle.node_events.specs.Mishap.{Mishap}
 use Rattle.node_events.specs.Node.{Node, OnlyOfTheLive, Setup, of_the_live}
 use Rattle.node_events.specs.Running.{Event, comes, one_event, passes, run}
 use Rattle.node_events.specs.Serving.{done_by, given, lacks_memory, served, subscribed_after}
-use Rattle.node_events.specs.Ticking.{at_place, places, ticked, timed, without_ended}
+use Rattle.node_events.specs.Ticking.{advanced_to, at_place, cycle_of, places, ticked, timed, without_ended}
 use Rattle.node_events.proofs.Living.{Stays, change_stays, cycle_stays, put_stays, run_stays}
 
 abbrev Only : ById → Subscriptions → Type 0
@@ -208,47 +206,46 @@ module _ (m : Meaning) (s : Setup) where
 
 -- ---- a tick
 
-module _ (m : Meaning) (a : Application) where
-  abbrev OnlyIn : Telling → Type 0
-  OnlyIn t = Only a.components.by_id t.subscriptions
+ended_only : (handing : Handing) (t : Telling) → OnlyOfTheLive t.node → OnlyOfTheLive (without_ended handing t).node
+ended_only none t only = only
+ended_only (ended_at place) t only = only_elsewhere t.node.application.components.by_id t.node.subscriptions place only
+ended_only (payload_at place payload) t only = only
 
-  ended_only : (handing : Handing) (t : Telling) → OnlyIn t → OnlyIn (without_ended handing t)
-  ended_only none t only = only
-  ended_only (ended_at place) t only = only_elsewhere a.components.by_id t.subscriptions place only
-  ended_only (payload_at place payload) t only = only
-
-  part_only : (place : ℕ) (t : Telling) (p : PartAt) → OnlyIn t → OnlyIn (told_if_due m a place t p)
-  part_only place t p only = by_tests (has_room_at t.sessions place) (is_due m a t.subscriptions place p.id p.part) refl
+module _ (m : Meaning) where
+  part_only : (place : ℕ) (t : Telling) (p : PartAt) → OnlyOfTheLive t.node → OnlyOfTheLive (told_if_due m place t p).node
+  part_only place t p only =
+      by_tests (has_room_at t.node.sessions place) (is_due m t.node.application t.node.subscriptions place p.id p.part) refl
     where
-      by_tests : (room due : Bool) → is_due m a t.subscriptions place p.id p.part ≡ due → OnlyIn (if room && due then told m a place t p.id p.part else t)
+      by_tests : (room due : Bool) → is_due m t.node.application t.node.subscriptions place p.id p.part ≡ due
+          → OnlyOfTheLive (if room && due then told place p.id p.part (bytes_of m t.node.application p.id p.part) t else t).node
       by_tests true true is =
-          only_told a.components.by_id t.subscriptions place p.id p.part (bytes_of m a p.id p.part)
-          (first_true (is_live a.components.by_id p.id) _ is) only
+          only_told t.node.application.components.by_id t.node.subscriptions place p.id p.part (bytes_of m t.node.application p.id p.part)
+          (first_true (is_live t.node.application.components.by_id p.id) _ is) only
       by_tests true false is = only
       by_tests false due is = only
 
-  parts_only : (place : ℕ) (parts : List PartAt) (t : Telling) → OnlyIn t → OnlyIn (fold (told_if_due m a place) t parts)
+  parts_only : (place : ℕ) (parts : List PartAt) (t : Telling) → OnlyOfTheLive t.node → OnlyOfTheLive (fold (told_if_due m place) t parts).node
   parts_only place [] t only = only
-  parts_only place (p ∷ parts) t only = parts_only place parts (told_if_due m a place t p) (part_only place t p only)
+  parts_only place (p ∷ parts) t only = parts_only place parts (told_if_due m place t p) (part_only place t p only)
 
-  place_only : (t : Telling) (place : ℕ) → OnlyIn t → OnlyIn (at_place m a t place)
+  place_only : (t : Telling) (place : ℕ) → OnlyOfTheLive t.node → OnlyOfTheLive (at_place m t place).node
   place_only t place only =
-      let outcome = tick_of t.sessions place in
-      parts_only place (parts_of a) (timed place t) (ended_only outcome.handing (then_call t outcome) only)
+      let outcome = tick_of t.node.sessions place in
+      parts_only place (parts_of (timed place t).node.application) (timed place t) (ended_only outcome.handing (then_call t outcome) only)
 
-  places_only : (some : List ℕ) (t : Telling) → OnlyIn t → OnlyIn (fold (at_place m a) t some)
+  places_only : (some : List ℕ) (t : Telling) → OnlyOfTheLive t.node → OnlyOfTheLive (fold (at_place m) t some).node
   places_only [] t only = only
-  places_only (place ∷ some) t only = places_only some (at_place m a t place) (place_only t place only)
+  places_only (place ∷ some) t only = places_only some (at_place m t place) (place_only t place only)
 
 -- ---- a run
 
 module _ (m : Meaning) (s : Setup) where
   ticked_only : (n : Node) (moment : ℤ) → OnlyOfTheLive n → OnlyOfTheLive (ticked m s n moment).node
   ticked_only n moment only =
-      let sessions : State = advanced n.sessions moment in
-      let after = (Cycle m n.application s.turns sessions.moment).application in
-      places_only m after places (record { sessions = sessions; subscriptions = n.subscriptions; sent = [] })
-      (only_stays n.application.components.by_id after.components.by_id n.subscriptions (cycle_stays m n.application s.turns sessions.moment) only)
+      let now : Node = advanced_to moment n in
+      let after : Application = (cycle_of m s now).application in
+      places_only m places (record { node = record now { application = after }; sent = [] })
+      (only_stays n.application.components.by_id after.components.by_id n.subscriptions (cycle_stays m n.application s.turns now.sessions.moment) only)
 
   event_only : (n : Node) (event : Event) → OnlyOfTheLive n → OnlyOfTheLive (one_event m s n event).node
   event_only n (comes from heard mishap) only = delivered_only m s n from heard mishap only

@@ -17,6 +17,7 @@ use Rattle.dasp_session.specs.Letters.{Letter}
 use Rattle.dasp_session.specs.Looking.{session_at}
 use Rattle.dasp_session.specs.Receive.{Outcome, post_of}
 use Rattle.dasp_session.specs.Session.{State}
+use Rattle.node_events.specs.Node.{Node}
 
 -- ---- parts
 
@@ -69,25 +70,28 @@ has_room_at sessions place = option_map_or (λ session. has_room session.posted)
 
 -- ---- what is posted
 
--- the sessions and the subscriptions of a node in the course of a tick, and what was sent so far
+-- a node in the course of a tick, and what it has sent so far
 pub record Telling : Type 0 where
-  pub sessions : State
-  pub subscriptions : Subscriptions
+  pub node : Node
   pub sent : List Letter
 
 -- a call of the sessions was made
 abbrev pub then_call : Telling → Outcome → Telling
-then_call t outcome = record t { sessions = outcome.state; sent = t.sent ++ outcome.letters }
+then_call t outcome = record { node = record t.node { sessions = outcome.state }; sent = t.sent ++ outcome.letters }
 
-abbrev pub told : Meaning → Application → ℕ → Telling → ℕ → Part → Telling
-told m a place t id part =
-    then_call (record t { subscriptions = with_event place id part (bytes_of m a id part) t.subscriptions })
-    (post_of t.sessions place (event_bytes id part (bytes_of m a id part)))
+abbrev pub with_last : ℕ → ℕ → Part → List ℕ → Telling → Telling
+with_last place id part bytes t = record t { node = record t.node { subscriptions = with_event place id part bytes t.node.subscriptions } }
+
+-- an event with the bytes of a part is posted, and these are its last event's
+abbrev pub told : ℕ → ℕ → Part → List ℕ → Telling → Telling
+told place id part bytes t = then_call (with_last place id part bytes t) (post_of t.node.sessions place (event_bytes id part bytes))
 
 -- where a part is due and there is room
-abbrev pub told_if_due : Meaning → Application → ℕ → Telling → PartAt → Telling
-told_if_due m a place t p =
-    if has_room_at t.sessions place && is_due m a t.subscriptions place p.id p.part then told m a place t p.id p.part else t
+abbrev pub told_if_due : Meaning → ℕ → Telling → PartAt → Telling
+told_if_due m place t p =
+    if has_room_at t.node.sessions place && is_due m t.node.application t.node.subscriptions place p.id p.part
+    then told place p.id p.part (bytes_of m t.node.application p.id p.part) t
+    else t
 
-abbrev pub told_all : Meaning → Application → ℕ → Telling → Telling
-told_all m a place t = fold (told_if_due m a place) t (parts_of a)
+abbrev pub told_all : Meaning → ℕ → Telling → Telling
+told_all m place t = fold (told_if_due m place) t (parts_of t.node.application)

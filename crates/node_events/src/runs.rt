@@ -29,3 +29,9 @@ pub fn moments_never_go_back()
         → (one_event m s n (passes moment)).node.sessions.moment ≡ int_max n.sessions.moment moment }
     ensures run { (m : Meaning) (s : Setup) (n : State) (events : List Happening) → n.sessions.moment ≤ℤ (run m s n events).node.sessions.moment }
 {}
+
+/// No event changes the users or the secret.
+pub fn users_stay()
+    ensures users { (m : Meaning) (s : Setup) (n : State) (events : List Happening) → (run m s n events).node.sessions.users ≡ n.sessions.users }
+    ensures secret { (m : Meaning) (s : Setup) (n : State) (events : List Happening) → (run m s n events).node.sessions.secret ≡ n.sessions.secret }
+{}
