@@ -1,0 +1,10 @@
+pub mod Node
+pub mod Heard
+pub mod Mishap
+pub mod Saving
+pub mod Serving
+pub mod Delivering
+pub mod Events
+pub mod Ticking
+pub mod Running
+pub mod LiveEvents
