@@ -1,1 +1,6 @@
+pub mod AllIds
 pub mod DropLemmas
+pub mod FourParts
+pub mod OnePart
+pub mod PartBytes
+pub mod Passing

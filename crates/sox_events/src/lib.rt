@@ -8,6 +8,7 @@
 #![tactic(auto)]
 
 pub mod laws;
+mod next;
 mod subs;
 
 pub use subs::Subs;
