@@ -1,3 +1,4 @@
+pub mod Agreeing
 pub mod AllIds
 pub mod DropLemmas
 pub mod FourParts
