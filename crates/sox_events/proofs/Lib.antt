@@ -1,5 +1,6 @@
 pub mod Agreeing
 pub mod AllIds
+pub mod Counting
 pub mod DropLemmas
 pub mod FourParts
 pub mod OnePart

@@ -1,6 +1,6 @@
 -- One part is passed, or its event is given.
-use Rattle.std.proofs.Common.{ℕ, ◌≡◌, Bool, true, false, cond, List, ◌∷◌, ◌++◌, Option, Some, None, refl, sym, ◌∙◌, ap, subst}
-use Rattle.std.proofs.lemmas.Bool.{and_parts, eqb-true}
+use Rattle.std.proofs.Common.{ℕ, ◌≡◌, Bool, true, false, cond, List, ◌∷◌, ◌++◌, Option, Some, None, refl, sym, ◌∙◌, ap, subst, eq-eqb, ◌<◌, inl, inr}
+use Rattle.std.proofs.lemmas.Bool.{and_parts, eqb-true, cases_Bool}
 use Rattle.std.specs.Prelude.{◌==◌, ◌&&◌, not, nat_eq, if◌then◌else◌, is_some}
 use Rattle.std.specs.Option.{option_map_or}
 use Rattle.std.specs.Cmp.Lexicographic.{pointwise}
@@ -14,6 +14,10 @@ use Rattle.sub_table.specs.Table.{Subscriptions, with_event}
 use Rattle.sox_msg.specs.Command.{u2}
 use Rattle.sox_msg.specs.Reply.{Puts}
 use Rattle.sox_events.specs.Due.{Gives, Passes, app_part, bit_of, bytes_of, is_last, may_be_due, none_of_them, is_due, is_watched, letter_of, lives, marked, only}
+use Rattle.link_prop.specs.Linked.{one_if}
+use Rattle.sox_events.specs.Compared.{Counts, has_event, risen, was_compared}
+use Rattle.sox_events.proofs.Counting.{count_only, unmoved}
+use Rattle.sox_events.proofs.Passing.{unmarked_here}
 
 pub meant : (part other : Part) → is_part part other ≡ true → part ≡ other
 meant Tree Tree e = refl
@@ -111,3 +115,53 @@ module _ {E : Type 0} (g : Ghosts E) (a b : Linked E) (subs : Subscriptions) (pl
       posted = λ p i q. posted p i q ∙ ap (λ (x : List ℕ). with_event place id part x subs p i q) is;
       text = subst (λ (x : List ℕ). Puts (101 ∷ 255 ∷ (u2 id ++ letter_of part ∷ x)) count into now) is text;
     }
+
+-- ---- whether it is compared
+
+told : (kept : Option (Option (List ℕ))) (m n : Bool) → may_be_due kept m ≡ true → n ≡ false → (has_event kept && (m && not n)) ≡ has_event kept
+told None m n may en = refl
+told (Some None) m n may en = refl
+told (Some (Some last)) m n may en = ap (λ (b : Bool). b && not n) may ∙ ap not en
+
+cleared : (p s w m : Bool) → p ≡ true → s ≡ true → w ≡ true → cond ((p && s) && w) false m ≡ false
+cleared p s w m ep es ew =
+    ap (λ (b : Bool). cond ((b && s) && w) false m) ep ∙ ap (λ (b : Bool). cond (b && w) false m) es ∙ ap (λ (b : Bool). cond b false m) ew
+
+clears_only : (k m n : Bool) → n ≡ cond k false m → n ≡ true → m ≡ true
+clears_only true m n e set = absurd (let wrong : false ≡ true = sym e ∙ set in cc)
+clears_only false m n e set = sym e ∙ set
+
+module _ {E : Type 0} (g : Ghosts E) (a b : Linked E) (subs : Subscriptions) (place id : ℕ) (part : Part) (bit : ℕ) (live : lives g a id ≡ true)
+    (may : may_be_due (subs place id part) (marked a place id part) ≡ true) (eb : bit ≡ bit_of part)
+    (marks : (other at : ℕ) (q : AppPart) → is_marked b other at q ≡ (if ((other == id) && (at == place)) && is_in_mask bit q then false else is_marked a other at q)) where
+  now_clear : only id part id part ≡ true → marked b place id part ≡ false
+  now_clear itself =
+      let both = and_parts (id == id) (is_part part part) itself in
+      settled g a b subs place id part bit live may eb marks place id part
+      ∙ cleared (place == place) (only id part id part) (is_watched g a subs place id part) (marked a place id part) (eq-eqb place place refl) itself
+      (watched_here g a b subs place id part bit live may eb marks id part both.0 both.1)
+
+  compared_here : (i : ℕ) (q : Part) → was_compared a b subs place i q ≡ (only id part i q && has_event (subs place id part))
+  compared_here i q = elim (cases_Bool (only id part i q)) [
+    | inl inside ↦
+        let both = and_parts (i == id) (is_part part q) inside in
+        let ei : i ≡ id = eqb-true i id both.0 in
+        let ep : part ≡ q = meant part q both.1 in
+        let itself : only id part id part ≡ true = ap (λ (k : ℕ). only id part k part) (sym ei) ∙ ap (λ (k : Part). only id part i k) ep ∙ inside in
+        ap (λ (k : ℕ). was_compared a b subs place k q) ei ∙ ap (λ (k : Part). was_compared a b subs place id k) (sym ep)
+        ∙ told (subs place id part) (marked a place id part) (marked b place id part) may (now_clear itself)
+        ∙ sym (ap (λ (k : Bool). k && has_event (subs place id part)) inside)
+    | inr out ↦
+        unmoved (has_event (subs place i q)) (marked a place i q) (marked b place i q)
+        (settled g a b subs place id part bit live may eb marks place i q
+        ∙ unmarked_here (place == place) (only id part i q) (is_watched g a subs place i q) (marked a place i q) out)
+        ∙ sym (ap (λ (k : Bool). k && has_event (subs place id part)) out)
+  ]
+
+  pub counts_one : (before after : ℕ) → id < 4096 → after ≡ risen before (one_if (has_event (subs place id part))) → Counts a b subs place before after
+  counts_one before after bound e = record {
+    clears = λ i q set.
+        clears_only ((place == place && only id part i q) && is_watched g a subs place i q) (marked a place i q) (marked b place i q)
+        (settled g a b subs place id part bit live may eb marks place i q) set;
+    compared = e ∙ ap (risen before) (sym (count_only 4096 (was_compared a b subs place) id part (has_event (subs place id part)) compared_here bound));
+  }

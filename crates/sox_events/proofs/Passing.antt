@@ -73,7 +73,7 @@ marks_more true true true o false m = refl
 marks_more true true false true true m = refl
 marks_more true true false true false m = refl
 
-unmarked_here : (p s w m : Bool) → s ≡ false → cond ((p && s) && w) false m ≡ m
+pub unmarked_here : (p s w m : Bool) → s ≡ false → cond ((p && s) && w) false m ≡ m
 unmarked_here true s w m e = ap (λ (b : Bool). cond (b && w) false m) e
 unmarked_here false s w m e = refl
 

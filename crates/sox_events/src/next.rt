@@ -5,7 +5,9 @@ ghost use Rattle.comp_tree.specs.Held.{components_of};
 ghost use Rattle.sox_msg.specs.Reply.{Puts, event_text, is_told};
 ghost use Rattle.sub_table.specs.declared.part.Part.{Part as PartOf};
 ghost use Rattle.sub_table.specs.Table.{at, most_bytes, with_event};
-ghost use Rattle.sox_events.specs.Due.{Gives, Passes, before_it, all_of_them, bit_of, bytes_of, is_last, letter_of, longest, marked, may_be_due, none_of_them, only, rank, room_for, subscriptions};
+ghost use Rattle.link_prop.specs.Linked.{one_if};
+ghost use Rattle.sox_events.specs.Compared.{Counts, has_event, how_many, risen, was_compared};
+ghost use Rattle.sox_events.specs.Due.{comparisons, Gives, Passes, before_it, all_of_them, bit_of, bytes_of, is_last, letter_of, longest, marked, may_be_due, none_of_them, only, rank, room_for, subscriptions};
 ghost use Rattle.sox_msg.specs.Command.{u2};
 ghost use Rattle.std.specs.Prelude.{◌∷◌, ◌++◌};
 
@@ -22,7 +24,9 @@ impl Subs {
     /// text is put in front of `into`, with its length as the answer, and what stood behind it stays. None exactly where
     /// none is due.
     ///
-    /// Each part that is subscribed there is settled up to the one that is given, with it; where there is none, all.
+    /// The part that is given is settled for that place, and each subscribed part of a live component before it; where
+    /// there is none, each of all. Those of them that are marked and have a last event are compared with it, and no
+    /// others. No other mark, nothing else of the application and no other subscription changes.
     pub fn next_event<E: Engine>(
         &mut self,
         place: u8,
@@ -34,6 +38,7 @@ impl Subs {
         ensures event { MatchOption result
             (Passes E.Engine app.old app.new (subscriptions self.old) place all_of_them × (subscriptions self.new ≡ subscriptions self.old) × (into.new ≡ into.old))
             (λ count. (id : ℕ) × (part : PartOf) × Gives E.Engine app.old app.new (subscriptions self.old) (subscriptions self.new) place (before_it id part) id part count into.old into.new) }
+        ensures compared { comparisons self.new ≡ risen (comparisons self.old) (how_many (was_compared app.old app.new (subscriptions self.old) place)) }
         ensures room { (part : PartOf) → room_for self.new part ≡ room_for self.old part }
     {
         next_of(&mut self.table, place, app, into, &mut self.compared)
@@ -53,6 +58,7 @@ fn next_of<E: Engine>(
     ensures event { MatchOption result
         (Passes E.Engine app.old app.new (at table.old) place all_of_them × (at table.new ≡ at table.old) × (into.new ≡ into.old))
         (λ count. (id : ℕ) × (part : PartOf) × Gives E.Engine app.old app.new (at table.old) (at table.new) place (before_it id part) id part count into.old into.new) }
+    ensures compared { Counts app.old app.new (at table.old) place compared.old compared.new }
     ensures room { (part : PartOf) → most_bytes table.new part ≡ most_bytes table.old part }
 {
     let mut from = 0;
@@ -81,6 +87,7 @@ fn event_of<E: Engine>(
     ensures event { MatchOption result
         (Passes E.Engine app.old app.new (at table.old) place (λ i q. i == id.0) × (table.new ≡ table.old) × (into.new ≡ into.old))
         (λ count. (part : PartOf) × Gives E.Engine app.old app.new (at table.old) (at table.new) place (λ i q. i == id.0 && nat_lt (rank q) (rank part)) id.0 part count into.old into.new) }
+    ensures compared { Counts app.old app.new (at table.old) place compared.old compared.new }
     ensures room { (part : PartOf) → most_bytes table.new part ≡ most_bytes table.old part }
 {
     if is_dead(app, id) {
@@ -105,6 +112,7 @@ fn event_of_parts<E: Engine>(
     ensures event { MatchOption result
         (Passes E.Engine app.old app.new (at table.old) place (λ i q. i == id.0) × (table.new ≡ table.old) × (into.new ≡ into.old))
         (λ count. (part : PartOf) × Gives E.Engine app.old app.new (at table.old) (at table.new) place (λ i q. i == id.0 && nat_lt (rank q) (rank part)) id.0 part count into.old into.new) }
+    ensures compared { Counts app.old app.new (at table.old) place compared.old compared.new }
     ensures room { (part : PartOf) → most_bytes table.new part ≡ most_bytes table.old part }
 {
     let tree = event_of_part(table, place, id, Part::Tree, app, into, compared);
@@ -139,6 +147,7 @@ fn event_of_part<E: Engine>(
     ensures event { MatchOption result
         (Passes E.Engine app.old app.new (at table.old) place (only id.0 part) × (table.new ≡ table.old) × (into.new ≡ into.old))
         (λ count. Gives E.Engine app.old app.new (at table.old) (at table.new) place none_of_them id.0 part count into.old into.new) }
+    ensures compared { Counts app.old app.new (at table.old) place compared.old compared.new }
     ensures room { (other : PartOf) → most_bytes table.new other ≡ most_bytes table.old other }
 {
     if !may_be_due(table, app, place, id, part) {
@@ -192,6 +201,7 @@ fn event_of_bytes(
         (λ count. (is_last bytes.now (at table.old place id.0 part) ≡ false)
         × ((p i : ℕ) (other : PartOf) → at table.new p i other ≡ with_event place id.0 part bytes.now (at table.old) p i other)
         × Puts (101 ∷ 255 ∷ (u2 id.0 ++ letter_of part ∷ bytes.now)) count into.old into.new) }
+    ensures compared { compared.new ≡ risen compared.old (one_if (has_event (at table.old place id.0 part))) }
     ensures room { (other : PartOf) → most_bytes table.new other ≡ most_bytes table.old other }
 {
     if is_last(table, place, id, part, bytes, compared) {
@@ -225,7 +235,8 @@ fn is_last(
 ) -> bool
     requires place { place < 16 }
     requires bound { id.0 < 4096 }
-    ensures { result ≡ is_last bytes.now (at table.now place id.0 part) }
+    ensures same { result ≡ is_last bytes.now (at table.now place id.0 part) }
+    ensures compared { compared.new ≡ risen compared.old (one_if (has_event (at table.now place id.0 part))) }
 {
     match table.last(place, id, part) {
         Some(last) => {

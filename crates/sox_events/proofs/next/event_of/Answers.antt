@@ -2,6 +2,7 @@ use Rattle.std.proofs.Common.{rules, ◌≡◌, true, false, refl, sym, ◌∙�
 use Rattle.sub_table.specs.Table.{at}
 use Rattle.sox_events.specs.Due.{lives}
 use Rattle.sox_events.proofs.AllIds.{not_false, not_true, passes_dead}
+use Rattle.sox_events.proofs.Counting.{counts_none}
 use Rattle.sox_events.proofs.next.event_of.Goals as goal
 
 pub event_of_parts-requires-clause-live : goal.event_of_parts-requires-clause-live
@@ -17,3 +18,6 @@ returns-then-is_dead-clause-event g c =
       refl,
       refl,
     )
+
+pub returns-then-is_dead-clause-compared : goal.returns-then-is_dead-clause-compared
+returns-then-is_dead-clause-compared g c = counts_none c.args.place c.args.app.now (at c.args.table.now) c.args.compared.now

@@ -2,6 +2,7 @@ use Rattle.std.proofs.Common.{rules, ◌≡◌, ◌≤◌, true, false, is_some,
 use Rattle.sub_table.specs.declared.table.SubTable.{SubTable}
 use Rattle.sub_table.specs.Table.{at, most_bytes}
 use Rattle.sox_events.proofs.AllIds.{first_turn, last_turn, turn_gives, turn_passes}
+use Rattle.sox_events.proofs.Counting.{counts_next, counts_none}
 use Rattle.sox_events.proofs.next.next_of.Goals as goal
 
 pub ids-init : goal.ids-init
@@ -9,6 +10,7 @@ ids-init g c = record {
   passes = first_turn g.E.Engine c.args.place c.args.app.now (at c.args.table.now);
   table = refl;
   into = refl;
+  counted = counts_none c.args.place c.args.app.now (at c.args.table.now) c.args.compared.now;
 }
 
 pub ids-preserved : goal.ids-preserved
@@ -17,7 +19,13 @@ ids-preserved g c =
     let turn = turn_passes g.E.Engine c.args.place c.ids.from c.in-Some.id.0 c.args.app.now c.ids.app c.event_of-given.new.app c.args.table.now c.ids.table
     c.event_of-given.new.table c.args.into.now c.ids.into c.event_of-given.new.into c.event_of-given.result _ c.in-Some.ensures
     c.ids.invariant.passes c.ids.invariant.table c.ids.invariant.into none c.event_of-given.ensures.event in
-    record { passes = turn.0; table = turn.1; into = turn.2 }
+    record {
+      passes = turn.0;
+      table = turn.1;
+      into = turn.2;
+      counted = counts_next c.args.place c.args.app.now c.ids.app c.event_of-given.new.app c.args.table.now c.ids.table c.args.compared.now c.ids.compared
+          c.event_of-given.new.compared c.ids.invariant.table c.ids.invariant.counted c.event_of-given.ensures.compared;
+    }
 
 pub event_of-given-requires-clause-room : goal.event_of-given-requires-clause-room
 event_of-given-requires-clause-room g c = λ part.
@@ -36,3 +44,8 @@ returns-clause-event g c = (
   ap at c.ids.invariant.table,
   c.ids.invariant.into,
 )
+
+pub returns-then-is_some-clause-compared : goal.returns-then-is_some-clause-compared
+returns-then-is_some-clause-compared g c =
+    counts_next c.args.place c.args.app.now c.ids.app c.event_of-given.new.app c.args.table.now c.ids.table c.args.compared.now c.ids.compared
+    c.event_of-given.new.compared c.ids.invariant.table c.ids.invariant.counted c.event_of-given.ensures.compared
