@@ -1,16 +1,19 @@
 -- What is due to a session place: by the marks of an application, and by what differs.
-use Rattle.std.specs.Prelude.{ℕ, ◌≡◌, ◌&&◌, not, nat_eq, Bool, true, false, if◌then◌else◌, List, Option, Some, None}
+use Rattle.std.specs.Prelude.{ℕ, ◌≡◌, ◌==◌, ◌&&◌, ◌||◌, not, nat_eq, nat_lt, Bool, true, false, if◌then◌else◌, List, ◌∷◌, ◌++◌, Option, Some, None, is_some, unwrap_or}
 use Rattle.std.specs.Option.{option_map_or}
 use Rattle.std.specs.Cmp.Lexicographic.{pointwise}
 use Rattle.sed_engine.specs.declared.engine.Engine.{Ghosts}
 use Rattle.comp_tree.specs.Application.{is_live}
 use Rattle.comp_tree.specs.Held.{components_of}
 use Rattle.comp_tree.specs.Marks.{Part as TreePart}
-use Rattle.link_prop.specs.Linked.{Linked}
+use Rattle.link_prop.specs.Linked.{Linked, application_of}
 use Rattle.link_prop.specs.Marks.{AppPart, bytes_at, is_marked}
 use Rattle.sub_table.specs.declared.part.Part.{Part}
 use Rattle.sub_table.specs.declared.part.Part.TheVariants.{Tree, Config, Runtime, Links}
-use Rattle.sub_table.specs.Table.{Subscriptions, at, most_bytes}
+use Rattle.sub_table.specs.Parts.{is_part}
+use Rattle.sub_table.specs.Table.{Subscriptions, at, most_bytes, with_event}
+use Rattle.sox_msg.specs.Command.{u2}
+use Rattle.sox_msg.specs.Reply.{Puts}
 use Rattle.sox_events.specs.declared.subs.Subs.{Subs}
 
 -- ---- parts
@@ -58,6 +61,14 @@ differs_from g a id part last = lives g a id && option_map_or (λ bytes. not (po
 abbrev pub differs : {E : Type 0} → Ghosts E → Linked E → Subscriptions → ℕ → ℕ → Part → Bool
 differs g a subs place id part = option_map_or (differs_from g a id part) (subs place id part) false
 
+-- what may be due: a part that is subscribed, of which no event was posted, or which is marked
+abbrev pub may_be_due : Option (Option (List ℕ)) → Bool → Bool
+may_be_due kept mark = option_map_or (λ last. not (is_some last) || mark) kept false
+
+-- bytes are those of the last event
+abbrev pub is_last : List ℕ → Option (Option (List ℕ)) → Bool
+is_last bytes kept = option_map_or (λ last. pointwise nat_eq last bytes) (unwrap_or kept None) false
+
 -- ---- agreement
 
 -- the marks agree with the subscriptions: each subscribed part that has a last event and no mark has the bytes of that
@@ -83,3 +94,70 @@ room_for s part = most_bytes s.table part
 -- what is of live components stays subscribed
 abbrev pub of_the_live : {E : Type 0} → Ghosts E → Linked E → Subscriptions → Subscriptions
 of_the_live g a subs place id part = if lives g a id then subs place id part else None
+
+-- ---- the next event
+
+-- the letters t, c, r and l
+abbrev pub letter_of : Part → ℕ
+letter_of Tree = 116
+letter_of Config = 99
+letter_of Runtime = 114
+letter_of Links = 108
+
+abbrev pub bit_of : Part → ℕ
+bit_of Tree = 1
+bit_of Config = 2
+bit_of Runtime = 4
+bit_of Links = 8
+
+-- the order of the parts of one component
+abbrev pub rank : Part → ℕ
+rank Tree = 0
+rank Config = 1
+rank Runtime = 2
+rank Links = 3
+
+-- parts of components
+abbrev pub Those : Type 0
+Those = ℕ → Part → Bool
+
+abbrev pub none_of_them : Those
+none_of_them id part = false
+
+abbrev pub all_of_them : Those
+all_of_them id part = true
+
+abbrev pub only : ℕ → Part → Those
+only id part i other = i == id && is_part part other
+
+-- what comes before a part: by ascending id, then in the order of the parts
+abbrev pub before_it : ℕ → Part → Those
+before_it id part i other = nat_lt i id || (i == id && nat_lt (rank other) (rank part))
+
+-- the part is subscribed, and of a live component
+abbrev pub is_watched : {E : Type 0} → Ghosts E → Linked E → Subscriptions → ℕ → ℕ → Part → Bool
+is_watched g a subs place id part = is_some (subs place id part) && lives g a id
+
+-- some parts are passed: none of them is due at the place, each of them that is watched is settled there, and nothing else
+-- changes
+pub record Passes {E : Type 0} (g : Ghosts E) (old new : Linked E) (subs : Subscriptions) (place : ℕ) (passed : Those) : Type 0 where
+  pub stays : application_of g new ≡ application_of g old
+  pub meaning : g.meaning new.tree.engine ≡ g.meaning old.tree.engine
+  pub steady : g.fixed new.tree.engine ≡ g.fixed old.tree.engine
+  pub none : (id : ℕ) (part : Part) → passed id part ≡ true → is_due g old subs place id part ≡ false
+  pub marks : (p id : ℕ) (part : Part) → marked new p id part
+      ≡ (if (p == place && passed id part) && is_watched g old subs place id part then false else marked old p id part)
+
+-- an event of a part is given when some parts are passed: it is due, it is settled too, its text is put, and its bytes are
+-- those of its last event
+pub record Gives {E : Type 0} (g : Ghosts E) (old new : Linked E) (subs after : Subscriptions) (place : ℕ) (passed : Those) (id : ℕ) (part : Part)
+    (count : ℕ) (into now : List ℕ) : Type 0 where
+  pub stays : application_of g new ≡ application_of g old
+  pub meaning : g.meaning new.tree.engine ≡ g.meaning old.tree.engine
+  pub steady : g.fixed new.tree.engine ≡ g.fixed old.tree.engine
+  pub due : is_due g old subs place id part ≡ true
+  pub none : (i : ℕ) (other : Part) → passed i other ≡ true → is_due g old subs place i other ≡ false
+  pub marks : (p i : ℕ) (other : Part) → marked new p i other
+      ≡ (if (p == place && (passed i other || only id part i other)) && is_watched g old subs place i other then false else marked old p i other)
+  pub posted : (p i : ℕ) (other : Part) → after p i other ≡ with_event place id part (bytes_of g old id part) subs p i other
+  pub text : Puts (101 ∷ 255 ∷ (u2 id ++ letter_of part ∷ bytes_of g old id part)) count into now

@@ -1,10 +1,11 @@
 //! Laws of what is due. Each is the contract of a function that does nothing.
-ghost use Rattle.std.specs.Prelude.{◌≡◌, ℕ};
 ghost use Rattle.link_prop.specs.Linked.{Linked};
 ghost use Rattle.link_prop.specs.Marks.{Tells};
 ghost use Rattle.sub_table.specs.declared.part.Part.{Part as PartOf};
 ghost use Rattle.sub_table.specs.Table.{Subscriptions, nothing_subscribed, with_subscribed, without_subscribed, without_place};
-ghost use Rattle.sox_events.specs.Due.{MarksAgree, differs, is_due, of_the_live};
+ghost use Rattle.std.specs.Prelude.{◌≡◌, ℕ, List, true, false};
+ghost use Rattle.sox_events.specs.Compared.{has_event, how_many, risen, was_compared};
+ghost use Rattle.sox_events.specs.Due.{Gives, MarksAgree, Passes, Those, differs, is_due, lives, marked, of_the_live};
 
 use sed_engine::Engine;
 
@@ -37,4 +38,36 @@ pub fn subscribing_keeps_agreement<E: Engine>()
 pub fn agreeing_marks_tell_what_differs<E: Engine>()
     ensures { (a : Linked E) (subs : Subscriptions) → MarksAgree E.Engine a subs → (place id : ℕ) (part : PartOf)
         → is_due E.Engine a subs place id part ≡ differs E.Engine a subs place id part }
+{}
+
+/// Where the marks agree with the subscriptions, they agree with those that `next_event` leaves: where no part is
+/// due, and where an event is given.
+pub fn events_keep_agreement<E: Engine>()
+    ensures none { (before after : Linked E) (subs : Subscriptions) (place : ℕ) (passed : Those) → Passes E.Engine before after subs place passed
+        → MarksAgree E.Engine before subs → MarksAgree E.Engine after subs }
+    ensures event { (before after : Linked E) (subs told : Subscriptions) (place : ℕ) (passed : Those) (id : ℕ) (part : PartOf) (count : ℕ) (into now : List ℕ)
+        → Gives E.Engine before after subs told place passed id part count into now
+        → MarksAgree E.Engine before subs → MarksAgree E.Engine after told }
+{}
+
+/// Where the marks agree with the subscriptions, the part of which `next_event` gives an event differs from its last
+/// event, and none of those before it does; where it gives none, no part does. This knows no marks.
+pub fn events_are_of_what_differs<E: Engine>()
+    ensures none { (before after : Linked E) (subs : Subscriptions) (place : ℕ) (passed : Those) → Passes E.Engine before after subs place passed
+        → MarksAgree E.Engine before subs → (i : ℕ) (other : PartOf) → passed i other ≡ true → differs E.Engine before subs place i other ≡ false }
+    ensures event { (before after : Linked E) (subs told : Subscriptions) (place : ℕ) (passed : Those) (id : ℕ) (part : PartOf) (count : ℕ) (into now : List ℕ)
+        → Gives E.Engine before after subs told place passed id part count into now → MarksAgree E.Engine before subs
+        → (differs E.Engine before subs place id part ≡ true) × ((i : ℕ) (other : PartOf) → passed i other ≡ true → differs E.Engine before subs place i other ≡ false) }
+{}
+
+/// Where no subscribed part of a live component is marked at a place and has a last event, `next_event` compares
+/// nothing there, whether it gives an event or not.
+pub fn what_is_not_marked_is_not_compared<E: Engine>()
+    ensures none { (before after : Linked E) (subs : Subscriptions) (place : ℕ) (passed : Those) → Passes E.Engine before after subs place passed
+        → ((i : ℕ) (other : PartOf) → lives E.Engine before i ≡ true → has_event (subs place i other) ≡ true → marked before place i other ≡ false)
+        → (count : ℕ) → risen count (how_many (was_compared before after subs place)) ≡ count }
+    ensures event { (before after : Linked E) (subs told : Subscriptions) (place : ℕ) (passed : Those) (id : ℕ) (part : PartOf) (length : ℕ) (into now : List ℕ)
+        → Gives E.Engine before after subs told place passed id part length into now
+        → ((i : ℕ) (other : PartOf) → lives E.Engine before i ≡ true → has_event (subs place i other) ≡ true → marked before place i other ≡ false)
+        → (count : ℕ) → risen count (how_many (was_compared before after subs place)) ≡ count }
 {}

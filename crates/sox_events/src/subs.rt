@@ -25,9 +25,9 @@ const LONGEST: Widths = Widths {
 /// All memory is taken by `new`, about 116 MB. No other call takes any.
 #[derive(Drop)]
 pub struct Subs {
-    table: SubTable,
+    pub(crate) table: SubTable,
     // How many parts were compared with their last events.
-    compared: u64,
+    pub(crate) compared: u64,
 }
 
 impl Subs {
@@ -117,7 +117,7 @@ fn drop_if(table: &mut SubTable, id: Id, dead: bool)
 }
 
 // Whether no component has an id.
-fn is_dead<E: Engine>(app: &App<E>, id: Id) -> bool
+pub(crate) fn is_dead<E: Engine>(app: &App<E>, id: Id) -> bool
     ensures { result ≡ not (lives E.Engine app.now id.0) }
 {
     app.tree().find(id).is_none()

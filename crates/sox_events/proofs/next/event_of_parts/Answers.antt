@@ -1,0 +1,93 @@
+use Rattle.std.proofs.Common.{rules, ◌≡◌, ◌≤◌, ℕ, true, false, is_some, sym, ◌∙◌, subst}
+use Rattle.sub_table.specs.declared.part.Part.TheVariants.{Tree, Config, Runtime, Links}
+use Rattle.sox_events.proofs.FourParts.{first_stage, given_here, last_here, passed_here, stage_more}
+use Rattle.sox_events.proofs.Counting.{counts_next}
+use Rattle.sox_events.proofs.next.event_of_parts.Goals as goal
+
+pub event_of_part-requires-clause-room : goal.event_of_part-requires-clause-room
+event_of_part-requires-clause-room g c =
+    subst (λ (n : ℕ). 438 ≤ n) (sym (c.event_of_part-runtime.ensures.room Links ∙ c.event_of_part-config.ensures.room Links ∙ c.event_of_part-tree.ensures.room Links)) (c.requires.room Links)
+
+pub returns-then-is_some-clause-event : goal.returns-then-is_some-clause-event
+returns-then-is_some-clause-event g c =
+    let some : is_some c.event_of_part-tree.result ≡ true = search rules in
+    given_here g.E.Engine c.args.place c.args.id.0 Tree c.args.app.now c.args.app.now c.event_of_part-tree.new.app c.args.table.now c.args.table.now c.event_of_part-tree.new.table
+    c.args.into.now c.args.into.now c.event_of_part-tree.new.into c.event_of_part-tree.result some
+    (first_stage g.E.Engine c.args.place c.args.id.0 c.args.app.now c.args.table.now c.args.into.now) c.event_of_part-tree.ensures.event
+
+pub returns-then-is_some-2-clause-event : goal.returns-then-is_some-2-clause-event
+returns-then-is_some-2-clause-event g c =
+    let passed : is_some c.event_of_part-tree.result ≡ false = search rules in
+    let some : is_some c.event_of_part-config.result ≡ true = search rules in
+    given_here g.E.Engine c.args.place c.args.id.0 Config c.args.app.now c.event_of_part-tree.new.app c.event_of_part-config.new.app c.args.table.now
+    c.event_of_part-tree.new.table c.event_of_part-config.new.table c.args.into.now c.event_of_part-tree.new.into c.event_of_part-config.new.into c.event_of_part-config.result some
+    (stage_more g.E.Engine c.args.place c.args.id.0 Tree c.args.app.now c.args.app.now c.event_of_part-tree.new.app c.args.table.now c.args.table.now
+    c.event_of_part-tree.new.table c.args.into.now c.args.into.now c.event_of_part-tree.new.into
+    (first_stage g.E.Engine c.args.place c.args.id.0 c.args.app.now c.args.table.now c.args.into.now)
+    (passed_here g.E.Engine c.args.place _ _ c.event_of_part-tree.result passed c.event_of_part-tree.ensures.event))
+    c.event_of_part-config.ensures.event
+
+pub returns-then-is_some-3-clause-event : goal.returns-then-is_some-3-clause-event
+returns-then-is_some-3-clause-event g c =
+    let passed : is_some c.event_of_part-tree.result ≡ false = search rules in
+    let passed_2 : is_some c.event_of_part-config.result ≡ false = search rules in
+    let some : is_some c.event_of_part-runtime.result ≡ true = search rules in
+    given_here g.E.Engine c.args.place c.args.id.0 Runtime c.args.app.now c.event_of_part-config.new.app c.event_of_part-runtime.new.app c.args.table.now
+    c.event_of_part-config.new.table c.event_of_part-runtime.new.table c.args.into.now c.event_of_part-config.new.into c.event_of_part-runtime.new.into c.event_of_part-runtime.result some
+    (stage_more g.E.Engine c.args.place c.args.id.0 Config c.args.app.now c.event_of_part-tree.new.app c.event_of_part-config.new.app c.args.table.now
+    c.event_of_part-tree.new.table c.event_of_part-config.new.table c.args.into.now c.event_of_part-tree.new.into c.event_of_part-config.new.into
+    (stage_more g.E.Engine c.args.place c.args.id.0 Tree c.args.app.now c.args.app.now c.event_of_part-tree.new.app c.args.table.now c.args.table.now
+    c.event_of_part-tree.new.table c.args.into.now c.args.into.now c.event_of_part-tree.new.into
+    (first_stage g.E.Engine c.args.place c.args.id.0 c.args.app.now c.args.table.now c.args.into.now)
+    (passed_here g.E.Engine c.args.place _ _ c.event_of_part-tree.result passed c.event_of_part-tree.ensures.event))
+    (passed_here g.E.Engine c.args.place _ _ c.event_of_part-config.result passed_2 c.event_of_part-config.ensures.event))
+    c.event_of_part-runtime.ensures.event
+
+pub returns-clause-event : goal.returns-clause-event
+returns-clause-event g c =
+    let passed : is_some c.event_of_part-tree.result ≡ false = search rules in
+    let passed_2 : is_some c.event_of_part-config.result ≡ false = search rules in
+    let passed_3 : is_some c.event_of_part-runtime.result ≡ false = search rules in
+    last_here g.E.Engine c.args.place c.args.id.0 c.args.app.now c.event_of_part-runtime.new.app c.event_of_part.new.app c.args.table.now
+    c.event_of_part-runtime.new.table c.event_of_part.new.table c.args.into.now c.event_of_part-runtime.new.into c.event_of_part.new.into c.event_of_part.result
+    (stage_more g.E.Engine c.args.place c.args.id.0 Runtime c.args.app.now c.event_of_part-config.new.app c.event_of_part-runtime.new.app c.args.table.now
+    c.event_of_part-config.new.table c.event_of_part-runtime.new.table c.args.into.now c.event_of_part-config.new.into c.event_of_part-runtime.new.into
+    (stage_more g.E.Engine c.args.place c.args.id.0 Config c.args.app.now c.event_of_part-tree.new.app c.event_of_part-config.new.app c.args.table.now
+    c.event_of_part-tree.new.table c.event_of_part-config.new.table c.args.into.now c.event_of_part-tree.new.into c.event_of_part-config.new.into
+    (stage_more g.E.Engine c.args.place c.args.id.0 Tree c.args.app.now c.args.app.now c.event_of_part-tree.new.app c.args.table.now c.args.table.now
+    c.event_of_part-tree.new.table c.args.into.now c.args.into.now c.event_of_part-tree.new.into
+    (first_stage g.E.Engine c.args.place c.args.id.0 c.args.app.now c.args.table.now c.args.into.now)
+    (passed_here g.E.Engine c.args.place _ _ c.event_of_part-tree.result passed c.event_of_part-tree.ensures.event))
+    (passed_here g.E.Engine c.args.place _ _ c.event_of_part-config.result passed_2 c.event_of_part-config.ensures.event))
+    (passed_here g.E.Engine c.args.place _ _ c.event_of_part-runtime.result passed_3 c.event_of_part-runtime.ensures.event))
+    c.event_of_part.ensures.event
+
+pub returns-then-is_some-2-clause-compared : goal.returns-then-is_some-2-clause-compared
+returns-then-is_some-2-clause-compared g c =
+    let passed : is_some c.event_of_part-tree.result ≡ false = search rules in
+    counts_next c.args.place c.args.app.now c.event_of_part-tree.new.app c.event_of_part-config.new.app c.args.table.now c.event_of_part-tree.new.table c.args.compared.now c.event_of_part-tree.new.compared c.event_of_part-config.new.compared
+    (passed_here g.E.Engine c.args.place _ _ c.event_of_part-tree.result passed c.event_of_part-tree.ensures.event).1
+    c.event_of_part-tree.ensures.compared c.event_of_part-config.ensures.compared
+
+pub returns-then-is_some-3-clause-compared : goal.returns-then-is_some-3-clause-compared
+returns-then-is_some-3-clause-compared g c =
+    let passed : is_some c.event_of_part-tree.result ≡ false = search rules in
+    let passed_2 : is_some c.event_of_part-config.result ≡ false = search rules in
+    counts_next c.args.place c.args.app.now c.event_of_part-config.new.app c.event_of_part-runtime.new.app c.args.table.now c.event_of_part-config.new.table c.args.compared.now c.event_of_part-config.new.compared c.event_of_part-runtime.new.compared
+    ((passed_here g.E.Engine c.args.place _ _ c.event_of_part-config.result passed_2 c.event_of_part-config.ensures.event).1 ∙ (passed_here g.E.Engine c.args.place _ _ c.event_of_part-tree.result passed c.event_of_part-tree.ensures.event).1)
+    (counts_next c.args.place c.args.app.now c.event_of_part-tree.new.app c.event_of_part-config.new.app c.args.table.now c.event_of_part-tree.new.table c.args.compared.now c.event_of_part-tree.new.compared c.event_of_part-config.new.compared
+    (passed_here g.E.Engine c.args.place _ _ c.event_of_part-tree.result passed c.event_of_part-tree.ensures.event).1
+    c.event_of_part-tree.ensures.compared c.event_of_part-config.ensures.compared) c.event_of_part-runtime.ensures.compared
+
+pub returns-clause-compared : goal.returns-clause-compared
+returns-clause-compared g c =
+    let passed : is_some c.event_of_part-tree.result ≡ false = search rules in
+    let passed_2 : is_some c.event_of_part-config.result ≡ false = search rules in
+    let passed_3 : is_some c.event_of_part-runtime.result ≡ false = search rules in
+    counts_next c.args.place c.args.app.now c.event_of_part-runtime.new.app c.event_of_part.new.app c.args.table.now c.event_of_part-runtime.new.table c.args.compared.now c.event_of_part-runtime.new.compared c.event_of_part.new.compared
+    ((passed_here g.E.Engine c.args.place _ _ c.event_of_part-runtime.result passed_3 c.event_of_part-runtime.ensures.event).1 ∙ (passed_here g.E.Engine c.args.place _ _ c.event_of_part-config.result passed_2 c.event_of_part-config.ensures.event).1 ∙ (passed_here g.E.Engine c.args.place _ _ c.event_of_part-tree.result passed c.event_of_part-tree.ensures.event).1)
+    (counts_next c.args.place c.args.app.now c.event_of_part-config.new.app c.event_of_part-runtime.new.app c.args.table.now c.event_of_part-config.new.table c.args.compared.now c.event_of_part-config.new.compared c.event_of_part-runtime.new.compared
+    ((passed_here g.E.Engine c.args.place _ _ c.event_of_part-config.result passed_2 c.event_of_part-config.ensures.event).1 ∙ (passed_here g.E.Engine c.args.place _ _ c.event_of_part-tree.result passed c.event_of_part-tree.ensures.event).1)
+    (counts_next c.args.place c.args.app.now c.event_of_part-tree.new.app c.event_of_part-config.new.app c.args.table.now c.event_of_part-tree.new.table c.args.compared.now c.event_of_part-tree.new.compared c.event_of_part-config.new.compared
+    (passed_here g.E.Engine c.args.place _ _ c.event_of_part-tree.result passed c.event_of_part-tree.ensures.event).1
+    c.event_of_part-tree.ensures.compared c.event_of_part-config.ensures.compared) c.event_of_part-runtime.ensures.compared) c.event_of_part.ensures.compared
