@@ -1,0 +1,18 @@
+use Rattle.std.proofs.lemmas.Result.{err_from_is_err_and}
+use Rattle.scode_image.proofs.Rows.{one_more, last}
+use Rattle.app_front.specs.Form as form
+use Rattle.app_front.proofs.Names.{refused}
+use Rattle.app_front.proofs.kits.so_many.Goals as goal
+
+pub returns-in_err-next : goal.returns-in_err-next
+returns-in_err-next c =
+    let p = err_from_is_err_and c.from_residual.result c.from_residual.ensures.1 in
+    rw (p.1, p.2) (refused (λ (s : Unit {0}). form.kit) (λ s a. s) c.in_err-next.field-0.0 _ _ _ _ _ _ _ c.loop-test.true c.in_err-next.ensures c.loop.invariant)
+
+pub loop-preserved : goal.loop-preserved
+loop-preserved c =
+    rw c.in_ok-push.ensures.items (one_more (λ (s : Unit {0}). form.kit) (λ s a. s) _ _ _ _ _ _ _ _ c.loop-test.true c.in_ok-next.ensures c.loop.invariant)
+
+pub returns : goal.returns
+returns c =
+    rw c.new.ensures (last (λ (s : Unit {0}). form.kit) (λ s a. s) _ _ _ _ _ _ c.loop-test.false c.loop.invariant)

@@ -1,0 +1,4 @@
+pub mod Differing
+pub mod Form
+pub mod Front
+pub mod Gives
