@@ -7,3 +7,5 @@ pub mod Subscribed
 pub mod Shown
 pub mod OpenSessions
 pub mod OpenSubscribed
+pub mod OverEngines
+pub mod Examples

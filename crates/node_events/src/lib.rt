@@ -7,6 +7,7 @@
 #![tactic(auto)]
 
 mod deliveries;
+mod events;
 mod runs;
 mod subscriptions;
 mod ticks;
@@ -15,6 +16,7 @@ pub use deliveries::{
     refused_commands_leave_a_node, replies_show_what_went_wrong, saves_show_in_replies,
     strangers_leave_a_node,
 };
+pub use events::events_are_of_the_application;
 pub use runs::{
     moments_never_go_back, runs_follow_one_another, saves_are_of_what_was_reached, users_stay,
 };
