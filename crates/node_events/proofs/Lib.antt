@@ -9,3 +9,4 @@ pub mod OpenSessions
 pub mod OpenSubscribed
 pub mod OverEngines
 pub mod Examples
+pub mod Measured

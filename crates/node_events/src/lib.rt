@@ -9,6 +9,7 @@
 mod deliveries;
 mod events;
 mod runs;
+mod saves;
 mod subscriptions;
 mod ticks;
 
@@ -20,5 +21,6 @@ pub use events::events_are_of_the_application;
 pub use runs::{
     moments_never_go_back, runs_follow_one_another, saves_are_of_what_was_reached, users_stay,
 };
+pub use saves::saves_are_measured;
 pub use subscriptions::{only_live_components_are_subscribed, only_open_sessions_have_subscribed};
 pub use ticks::{ticks_begin_no_save, ticks_run_one_cycle};
