@@ -4,3 +4,9 @@ pub mod Kept
 pub mod Moments
 pub mod Living
 pub mod Subscribed
+pub mod Shown
+pub mod OpenSessions
+pub mod OpenSubscribed
+pub mod OverEngines
+pub mod Examples
+pub mod Measured

@@ -50,6 +50,10 @@ subscribed_after (Subscribe id mask) place a subs = with_subscribed place id.0 m
 subscribed_after (Unsubscribe id mask) place a subs = without_subscribed place id.0 mask subs
 subscribed_after Deleted place a subs = of_the_live a.components.by_id subs
 
+-- a save changes nothing else, begun or not
+abbrev pub by_save : Node → Option Save → Serving
+by_save n save = record { application = n.application; subscriptions = n.subscriptions; reply = answer_to_save save; save = save }
+
 -- a save has its own reply, and every other command that of its answer
 abbrev pub done_by : Meaning → Setup → Node → ℕ → Mishap → Answer → Option Answered → Serving
 done_by m s n place mishap answer (Some reply) = record {
@@ -58,9 +62,7 @@ done_by m s n place mishap answer (Some reply) = record {
   reply = reply;
   save = None;
 }
-done_by m s n place mishap answer None =
-    let save : Option Save = save_of m s.slot n.application mishap in
-    record { application = n.application; subscriptions = n.subscriptions; reply = answer_to_save save; save = save }
+done_by m s n place mishap answer None = by_save n (save_of m s.slot n.application mishap)
 
 abbrev pub commanded : Meaning → Setup → Node → ℕ → Asked → Mishap → Serving
 commanded m s n place asked mishap =

@@ -1,5 +1,5 @@
 //! Datagrams.
-ghost use Rattle.std.specs.Prelude.{◌≡◌, ◌≢◌, ℕ, IfSome, false, Some, None, []};
+ghost use Rattle.std.specs.Prelude.{◌≡◌, ◌≢◌, ℕ, Option, Some, None, []};
 ghost use Rattle.sed_outside.specs.declared.addr.Addr.{Addr as Address};
 ghost use Rattle.sed_value.specs.declared.refusal.Refusal.{Refusal};
 ghost use Rattle.sed_value.specs.declared.refusal.Refusal.TheVariants.{SaveDevice};
@@ -48,4 +48,11 @@ pub fn saves_show_in_replies()
     ensures { (m : Meaning) (s : Setup) (n : State) (from : Address) (heard : Hearing) (mishap : Wrong) (save : Save)
         → (delivered m s n from (Some heard) mishap).save ≡ Some save
         → (delivered m s n from (Some heard) mishap).reply ≡ Some (answer_to_save (Some save)) }
+{}
+
+/// What went wrong shows in the reply: where the replies to a datagram are the same, so is all that it comes to.
+pub fn replies_show_what_went_wrong()
+    ensures { (m : Meaning) (s : Setup) (n : State) (from : Address) (heard : Option Hearing) (one other : Wrong)
+        → (delivered m s n from heard one).reply ≡ (delivered m s n from heard other).reply
+        → delivered m s n from heard one ≡ delivered m s n from heard other }
 {}

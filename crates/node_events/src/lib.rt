@@ -7,15 +7,20 @@
 #![tactic(auto)]
 
 mod deliveries;
+mod events;
 mod runs;
+mod saves;
 mod subscriptions;
 mod ticks;
 
 pub use deliveries::{
-    refused_commands_leave_a_node, saves_show_in_replies, strangers_leave_a_node,
+    refused_commands_leave_a_node, replies_show_what_went_wrong, saves_show_in_replies,
+    strangers_leave_a_node,
 };
+pub use events::events_are_of_the_application;
 pub use runs::{
     moments_never_go_back, runs_follow_one_another, saves_are_of_what_was_reached, users_stay,
 };
-pub use subscriptions::only_live_components_are_subscribed;
+pub use saves::saves_are_measured;
+pub use subscriptions::{only_live_components_are_subscribed, only_open_sessions_have_subscribed};
 pub use ticks::{ticks_begin_no_save, ticks_run_one_cycle};
