@@ -1,6 +1,6 @@
 -- Computed from the definitions: the App (0) with a Folder `f` (1) and a Note `n` (2), one session in place 0.
 use Rattle.std.proofs.Common.{◌≡◌, ℕ, pos, List, [], ◌∷◌, true, false, length, refl}
-use Rattle.std.specs.Prelude.{replicate, codes, Option, Some, None}
+use Rattle.std.specs.Prelude.{replicate, codes, Some, None}
 use Rattle.std.specs.FinMap as map
 use Rattle.sed_outside.specs.declared.addr.Addr.{Addr}
 use Rattle.sed_value.specs.declared.refusal.Refusal.TheVariants.{SaveDevice, StoreFull}
@@ -9,8 +9,7 @@ use Rattle.comp_tree.specs.Application.{Application, ById}
 use Rattle.comp_tree.specs.Parts.{Kept}
 use Rattle.app_file.specs.Text.{app_text}
 use Rattle.dasp_msg.specs.declared.kind.MsgKind.TheVariants.{Datagram}
-use Rattle.dasp_msg.specs.Shown.{Message}
-use Rattle.dasp_session.specs.Letters.{Letter, bare, datagram}
+use Rattle.dasp_session.specs.Letters.{bare, datagram, keep_alive}
 use Rattle.dasp_session.specs.Session.{Session, State}
 use Rattle.sub_table.specs.declared.part.Part.TheVariants.{Config}
 use Rattle.sub_table.specs.Table.{Subscriptions, nothing_subscribed, with_event, with_subscribed}
@@ -18,11 +17,12 @@ use Rattle.sox_msg.specs.Answered.{refused}
 use Rattle.sox_msg.specs.Command.{subscribe}
 use Rattle.sox_commands.proofs.Building.{application, code, found, three}
 use Rattle.node_events.specs.Delivering.{delivered}
-use Rattle.node_events.specs.Events.{Telling, bytes_of, event_bytes, is_due, told_if_due}
+use Rattle.node_events.specs.Events.{Telling, is_due, told_if_due}
 use Rattle.node_events.specs.Heard.{Heard, asks}
 use Rattle.node_events.specs.Mishap.{disk_failed, nothing_wrong}
 use Rattle.node_events.specs.Node.{Node, Setup, of_the_live}
 use Rattle.node_events.specs.Saving.{answer_to_save, save_of, saved}
+use Rattle.node_events.specs.Ticking.{kept_up, timed}
 
 -- ---- a node
 
@@ -88,6 +88,37 @@ event_came : (all : ById) → map.entries all ≡ three
     → is_due code (application all []) (with_event 0 2 Config (0 ∷ 0 ∷ 0 ∷ 0 ∷ 0 ∷ 2 ∷ 0x61 ∷ 0x62 ∷ []) with_config) 0 2 Config ≡ false
 unfolding code
 event_came all is = rw (found all three is 2) refl
+
+-- with its bytes as the last event's
+event_is_kept : (all : ById) → map.entries all ≡ three
+    → (told_if_due code 0 (record { node = node all with_config; sent = [] }) (record { id = 2; part = Config })).node.subscriptions 0 2 Config
+    ≡ Some (Some (0 ∷ 0 ∷ 0 ∷ 0 ∷ 0 ∷ 2 ∷ 0x61 ∷ 0x62 ∷ []))
+unfolding code
+event_is_kept all is = rw (found all three is 2) refl
+
+-- ---- a place at a tick, where an acknowledgement of message 0 is owed
+
+abbrev owing : State
+owing = record sessions { sessions = Some (record session { taken = 0 ∷ []; owed = true }) ∷ replicate 15 None }
+
+abbrev owing_node : ById → Subscriptions → Node
+owing_node all subs = record { application = application all []; sessions = owing; subscriptions = subs }
+
+-- timeouts and resends, one part, and then what is still owed
+abbrev at_part : ById → Subscriptions → Telling
+at_part all subs = kept_up 0 (told_if_due code 0 (timed 0 (record { node = owing_node all subs; sent = [] })) (record { id = 2; part = Config }))
+
+-- it goes out with an event
+event_acknowledges : (all : ById) → map.entries all ≡ three
+    → (at_part all with_config).sent ≡ record { to = client; message = datagram 0x1234 (0 ∷ []) 0 config_event } ∷ []
+unfolding code
+event_acknowledges all is = rw (found all three is 2) refl
+
+-- and where none is due, in a keepAlive
+keep_alive_acknowledges : (all : ById) → map.entries all ≡ three
+    → (at_part all nothing_subscribed).sent ≡ record { to = client; message = keep_alive 0x1234 (0 ∷ []) } ∷ []
+unfolding code
+keep_alive_acknowledges all is = rw (found all three is 2) refl
 
 -- ---- a component that is deleted, and its id taken
 

@@ -1,26 +1,25 @@
 -- The App's `save`.
-use Rattle.std.proofs.Common.{◌≡◌, ◌<◌, ℕ, Bool, true, false, List, length, refl, sym, ◌∙◌, ap, arith}
-use Rattle.std.specs.Prelude.{◌&&◌, ◌↔◌, nat_lt, not, Option, Some, None, if◌then◌else◌}
+use Rattle.std.proofs.Common.{◌≡◌, ◌<◌, ℕ, Bool, true, false, List, length, refl, ◌∙◌, ap, arith}
+use Rattle.std.specs.Prelude.{◌↔◌, nat_lt, not, Option, Some, None, if◌then◌else◌}
 use Rattle.std.proofs.lemmas.Bool.Decides.{nat_tests}
 use Rattle.sed_value.specs.declared.refusal.Refusal.{Refusal}
 use Rattle.sed_value.specs.declared.refusal.Refusal.TheVariants.{OutOfMemory, SaveDevice, StoreFull}
 use Rattle.sed_engine.specs.Code.{Meaning}
 use Rattle.comp_tree.specs.Application.{Application}
-use Rattle.comp_tree.specs.Edit.{done, is_save, over, unless_refused}
-use Rattle.comp_tree.specs.Edits.{after_invoke}
+use Rattle.comp_tree.specs.Edit.{is_save}
 use Rattle.comp_tree.specs.Parts.{Kept}
 use Rattle.comp_tree.specs.Refusals.{first_refusal, refusals_of_invoke}
 use Rattle.app_file.specs.Text.{app_text}
 use Rattle.sox_msg.specs.Answered.{Answered, refused}
 use Rattle.sox_msg.specs.Answered as told
 use Rattle.sox_msg.specs.Command.{Asked, add, read_part, delete, invoke, link, unlink, rename, reorder, read_slot, subscribe, unsubscribe, version, write, clear}
-use Rattle.sox_commands.specs.Answer.{Answer, answer, answer_by, asks_for_save, refused_by}
+use Rattle.sox_commands.specs.Answer.{Answer, answer, asks_for_save, refused_by}
 use Rattle.sox_commands.specs.Table.{refusals_of}
 use Rattle.node_events.specs.Heard.{asks}
-use Rattle.node_events.specs.Mishap.{Mishap, is_disk_failed, is_no_memory, nothing_wrong, no_memory, disk_failed}
+use Rattle.node_events.specs.Mishap.{Mishap, is_disk_failed, nothing_wrong, no_memory, disk_failed}
 use Rattle.node_events.specs.Node.{Node, Setup}
 use Rattle.node_events.specs.Saving.{answer_to_save, save_of}
-use Rattle.node_events.specs.Serving.{Serving, by_save, done_by, given, lacks_memory, served}
+use Rattle.node_events.specs.Serving.{Serving, by_save, done_by, lacks_memory, served}
 
 no_true : false ≡ true → ⊥
 no_true is = cc
@@ -101,4 +100,5 @@ module _ (m : Meaning) (slot : ℕ) (a : Application) (mishap : Mishap) where
   pub full_is : (answer_to_save (save_of m slot a mishap) ≡ refused StoreFull) ↔ (slot < size)
   full_is = (
     λ is. is_longer (by_size (nat_lt slot size) is),
-    λ lt. ap (λ (b : Bool). answer_to_save (if b then None else Some (record { application = Kept m a; acknowledged = not (is_disk_failed mishap) }))) (longer_is lt))
+    λ lt. ap (λ (b : Bool). answer_to_save (if b then None else Some (record { application = Kept m a; acknowledged = not (is_disk_failed mishap) }))) (longer_is lt),
+  )
