@@ -1,10 +1,11 @@
 -- How calls, loops, arguments, chains and blocks go on.
 use Rattle.std.specs.Prelude.{slice_get, nat_lt, nat_le, not, ◌&&◌, if◌then◌else◌}
-use Rattle.std.proofs.Common.{◌≡◌, ℕ, zero, suc, ◌+◌, ◌-◌, ◌<◌, ◌≤◌, List, [], ◌∷◌, drop, length, map, get_or, ℤ, Bool, true, false, Option, Some, Result, Ok, Err, refl, sym, ap, ◌∙◌, arith}
+use Rattle.std.proofs.Common.{◌≡◌, ℕ, zero, suc, ◌+◌, ◌-◌, ◌<◌, ◌≤◌, List, [], ◌∷◌, drop, length, map, get_or, ℤ, Bool, true, false, Option, Some, None, Result, Ok, Err, refl, sym, ap, ◌∙◌, arith}
 use mathlib.Core.Bool.{beq}
 use Rattle.std.proofs.lemmas.List.{drop_more}
 use Rattle.std.proofs.Math.Seq.{drop-length}
 use Rattle.std.proofs.lemmas.Bool.Decides.{nat_tests}
+use Rattle.sed_typed.specs.declared.kind.Kind.{Kind}
 use Rattle.sed_typed.specs.declared.operators.Width.TheVariants.{Int as IntWidth}
 use Rattle.sed_typed.specs.declared.program.Method.{Method}
 use Rattle.sed_typed.specs.declared.program.Program.{Program}
@@ -13,11 +14,11 @@ use Rattle.sed_typed.specs.declared.statement.Stmt.{Stmt}
 use Rattle.sed_typed.specs.declared.tree.Expr.{Expr}
 use Rattle.sed_typed.specs.declared.tree.Link.{Link}
 use Rattle.sed_engine.specs.declared.trap.Trap.TheVariants.{TooDeep}
-use Rattle.sed_engine.specs.Stops.{Stop, Traps, Untyped, map_ok}
-use Rattle.sed_engine.specs.Values.{Val, whole, is_begun, are_begun}
+use Rattle.sed_engine.specs.Stops.{Stop, Traps, Untyped, map_ok, there}
+use Rattle.sed_engine.specs.Values.{Val, begun, whole, is_begun, are_begun}
 use Rattle.walk_steps.specs.declared.word.Word.{Word}
 use Rattle.sed_engine.specs.State.{Shared, State, End, gives, answers, then_do}
-use Rattle.sed_engine.specs.Steps.{with_local}
+use Rattle.sed_engine.specs.Steps.{with_local, read_local}
 use Rattle.sed_engine.specs.Expressions.{Setting, put_all, in_chain}
 use Rattle.sed_engine.specs.Statements.{Flow, Next, Return, Round, Again, Over, Answer, after_round, follows, in_order, loop, exec, switch, label_of, leaves}
 use Rattle.sed_engine.specs.Root.{calls_with, run_method, run_body, untyped, called, is_frame_of}
@@ -94,6 +95,16 @@ loop-stop one (suc n) s t x h e = ap (λ (r : End Round). then_do r (λ r s1. af
 -- the rest of a list from a place on
 pub rest-is : {X : Type 0} (xs : List X) (i : ℕ) (x : X) → i < length xs → x ≡ get_or xs i x → drop i xs ≡ x ∷ drop (i + 1) xs
 rest-is xs i x h at = drop_more xs i x h ∙ ap (λ (y : _). y ∷ drop (i + 1) xs) (sym at)
+
+-- ---- locals
+
+-- a local that is read
+pub local-read : (kind : Kind) (i : ℕ) (v : Val) (s : State) → Ok v ≡ map_ok (λ x. begun kind x) (there (slice_get s.locals i)) → gives v s ≡ read_local kind i s
+local-read kind i v s = go (slice_get s.locals i)
+  where
+    go : (o : Option Val) → Ok v ≡ map_ok (λ x. begun kind x) (there o) → gives v s ≡ then_do (answers (there o) s) (λ x s1. gives (begun kind x) s1)
+    go (Some x) h = ap (λ (r : Result Val Stop). answers r s) h
+    go None h = absurd (let no : ⊥ = cc in no)
 
 -- ---- arguments
 

@@ -2,19 +2,21 @@
 //!
 //! `frames` counts the frames that are left. Each function ends as the meaning of its form does, in
 //! the state that this leaves, and leaves no more turns than there were.
-ghost use Rattle.std.specs.Prelude.{◌≡◌, ◌≤◌, ◌<◌};
-ghost use Rattle.sed_engine.specs.Expressions.{eval as eval_of, locate as locate_of};
+ghost use Rattle.std.specs.Prelude.{◌≡◌, ◌≤◌, ◌<◌, map};
+ghost use Rattle.sed_engine.specs.Expressions.{eval as eval_of, locate as locate_of, meaning as link_of};
 ghost use Rattle.sed_engine.specs.Statements.{eval_or as eval_or_of};
 ghost use Rattle.sed_cells.specs.Places.{classes_in};
 ghost use Rattle.walk_steps.specs.Seen.{seen, ends};
 ghost use Rattle.walk_steps.specs.Stored.{ended, state_of};
 ghost use Rattle.walk_steps.specs.Targets.{setting_of, targets};
-ghost use Rattle.sed_walk.specs.Forms.{update_with};
+ghost use Rattle.sed_walk.specs.Forms.{choice_with, chain_with, set_with, set_local_with, set_field_with, static_element_with, unary_with};
+ghost use Rattle.sed_walk.specs.Forms.{update_with, update_local_with};
 
 use crate::calls::{eval_static, eval_super};
 use crate::links::eval_links;
 use sed_cells::Plan;
-use sed_typed::{Expr, Place, Update};
+use sed_typed::{Expr, Kind, Link, Place, Unary, Update};
+use sed_value::Prim;
 use walk_steps::operators::{arithmetic, given, unary};
 use walk_steps::targets::{fetch, put};
 use walk_steps::{Stop, Store, Target, Word, locals, reach};
@@ -42,36 +44,21 @@ pub fn eval(
         Expr::Text(number) => Ok(Word::Literal(*number)),
         Expr::This(_) => locals::this(locals),
         Expr::Local(kind, number) => locals::read(locals, *kind, usize::from(*number)),
-        Expr::Static(prim, number) => {
-            let target = Target::Static(*prim, *number);
-            fetch(plan, class, target, store, locals)
-        }
+        Expr::Static(_, number) => { reach::read_static(store, plan, class, usize::from(*number)) }
         Expr::StaticPart(kind, number) => {
             reach::static_part(store, plan, class, *kind, usize::from(*number))
         }
         Expr::StaticElement(prim, count, number, index) => {
-            let index = eval(plan, class, frames, index, store, locals)?;
-            let target = Target::StaticElement(*prim, *count, *number, index);
-            fetch(plan, class, target, store, locals)
+            eval_static_element(
+                plan, class, frames, *prim, *count, *number, index, store, locals,
+            )
         }
         Expr::Ticks => Ok(Word::Long(store.moment())),
-        Expr::Unary(op, operand) => {
-            let value = eval(plan, class, frames, operand, store, locals)?;
-            unary(*op, value)
-        }
+        Expr::Unary(op, operand) => eval_unary(plan, class, frames, *op, operand, store, locals),
         Expr::Choose(test, met, unmet) => {
-            let value = eval(plan, class, frames, test, store, locals)?;
-            if value.is_met()? {
-                eval(plan, class, frames, met, store, locals)
-            } else {
-                eval(plan, class, frames, unmet, store, locals)
-            }
+            eval_choice(plan, class, frames, test, met, unmet, store, locals)
         }
-        Expr::Set(place, value) => {
-            let target = locate(plan, class, frames, place, store, locals)?;
-            let value = eval(plan, class, frames, value, store, locals)?;
-            put(plan, class, target, value, store, locals)
-        }
+        Expr::Set(place, value) => eval_set(plan, class, frames, place, value, store, locals),
         Expr::Update(update, place, operand) => {
             eval_update(plan, class, frames, *update, place, operand, store, locals)
         }
@@ -81,11 +68,208 @@ pub fn eval(
         Expr::Super(_, method, args) => {
             eval_super(plan, class, frames, *method, args, store, locals)
         }
-        Expr::Chain(head, links) => {
-            let value = eval_operand(plan, class, frames, head, store, locals)?;
-            eval_links(plan, class, frames, links, value, store, locals)
-        }
+        Expr::Chain(head, links) => eval_chain(plan, class, frames, head, links, store, locals),
     }
+}
+
+// An element of a static array: the index, and then the read.
+#[cycle(walk)]
+#[inline(never)]
+fn eval_static_element(
+    plan: &Plan,
+    class: usize,
+    frames: u8,
+    prim: Prim,
+    count: u16,
+    number: u16,
+    index: &Expr,
+    store: &mut Store,
+    locals: &mut [Word],
+) -> Result<Word, Stop>
+    requires { class < classes_in plan.now }
+    ensures end { ended plan.now class (ends plan.now class result) store.new locals.new
+        ≡ static_element_with (setting_of plan.now class frames) count number index.now
+        (state_of plan.now class store.old locals.old) }
+    ensures turns { store.new.turns ≤ store.old.turns }
+{
+    let index = eval(plan, class, frames, index, store, locals)?;
+    let target = Target::StaticElement(prim, count, number, index);
+    fetch(plan, class, target, store, locals)
+}
+
+// An operator of one operand.
+#[cycle(walk)]
+#[inline(never)]
+fn eval_unary(
+    plan: &Plan,
+    class: usize,
+    frames: u8,
+    op: Unary,
+    operand: &Expr,
+    store: &mut Store,
+    locals: &mut [Word],
+) -> Result<Word, Stop>
+    requires { class < classes_in plan.now }
+    ensures end { ended plan.now class (ends plan.now class result) store.new locals.new
+        ≡ unary_with (setting_of plan.now class frames) op operand.now (state_of plan.now class store.old locals.old) }
+    ensures turns { store.new.turns ≤ store.old.turns }
+{
+    let value = eval(plan, class, frames, operand, store, locals)?;
+    unary(op, value)
+}
+
+// `? :`: the test, and one of the two.
+#[cycle(walk)]
+#[inline(never)]
+fn eval_choice(
+    plan: &Plan,
+    class: usize,
+    frames: u8,
+    test: &Expr,
+    met: &Expr,
+    unmet: &Expr,
+    store: &mut Store,
+    locals: &mut [Word],
+) -> Result<Word, Stop>
+    requires { class < classes_in plan.now }
+    ensures end { ended plan.now class (ends plan.now class result) store.new locals.new
+        ≡ choice_with (setting_of plan.now class frames) test.now met.now unmet.now
+        (state_of plan.now class store.old locals.old) }
+    ensures turns { store.new.turns ≤ store.old.turns }
+{
+    let value = eval(plan, class, frames, test, store, locals)?;
+    if value.is_met()? {
+        eval(plan, class, frames, met, store, locals)
+    } else {
+        eval(plan, class, frames, unmet, store, locals)
+    }
+}
+
+// An assignment: the target, the value, and then the store. What is most often one, a local or a field, is
+// stored with no target made.
+#[cycle(walk)]
+#[inline(always)]
+fn eval_set(
+    plan: &Plan,
+    class: usize,
+    frames: u8,
+    place: &Place,
+    value: &Expr,
+    store: &mut Store,
+    locals: &mut [Word],
+) -> Result<Word, Stop>
+    requires { class < classes_in plan.now }
+    ensures end { let w = setting_of plan.now class frames in
+        ended plan.now class (ends plan.now class result) store.new locals.new
+        ≡ set_with w place.now value.now
+        (state_of plan.now class store.old locals.old) }
+    ensures turns { store.new.turns ≤ store.old.turns }
+{
+    match place {
+        Place::Local(_, number) => set_local(plan, class, frames, *number, value, store, locals),
+        Place::Field(prim, object, number) => {
+            set_field(
+                plan, class, frames, *prim, object, *number, value, store, locals,
+            )
+        }
+        _ => set_place(plan, class, frames, place, value, store, locals),
+    }
+}
+
+// The value, and then the store in a local.
+#[cycle(walk)]
+#[inline(never)]
+fn set_local(
+    plan: &Plan,
+    class: usize,
+    frames: u8,
+    number: u8,
+    value: &Expr,
+    store: &mut Store,
+    locals: &mut [Word],
+) -> Result<Word, Stop>
+    requires { class < classes_in plan.now }
+    ensures end { let w = setting_of plan.now class frames in
+        ended plan.now class (ends plan.now class result) store.new locals.new
+        ≡ set_local_with w number value.now
+        (state_of plan.now class store.old locals.old) }
+    ensures turns { store.new.turns ≤ store.old.turns }
+{
+    let value = eval(plan, class, frames, value, store, locals)?;
+    locals::put(locals, usize::from(number), value)
+}
+
+// The object, the value, and then the store in a field.
+#[cycle(walk)]
+#[inline(never)]
+fn set_field(
+    plan: &Plan,
+    class: usize,
+    frames: u8,
+    prim: Prim,
+    object: &Expr,
+    number: u16,
+    value: &Expr,
+    store: &mut Store,
+    locals: &mut [Word],
+) -> Result<Word, Stop>
+    requires { class < classes_in plan.now }
+    ensures end { let w = setting_of plan.now class frames in
+        ended plan.now class (ends plan.now class result) store.new locals.new
+        ≡ set_field_with w prim object.now number value.now
+        (state_of plan.now class store.old locals.old) }
+    ensures turns { store.new.turns ≤ store.old.turns }
+{
+    let object = eval_operand(plan, class, frames, object, store, locals)?;
+    let value = eval(plan, class, frames, value, store, locals)?;
+    reach::write_field(store, plan, class, object, usize::from(number), prim, value)
+}
+
+// The target, the value, and then the store.
+#[cycle(walk)]
+#[inline(never)]
+fn set_place(
+    plan: &Plan,
+    class: usize,
+    frames: u8,
+    place: &Place,
+    value: &Expr,
+    store: &mut Store,
+    locals: &mut [Word],
+) -> Result<Word, Stop>
+    requires { class < classes_in plan.now }
+    ensures end { let w = setting_of plan.now class frames in
+        ended plan.now class (ends plan.now class result) store.new locals.new
+        ≡ set_with w place.now value.now
+        (state_of plan.now class store.old locals.old) }
+    ensures turns { store.new.turns ≤ store.old.turns }
+{
+    let target = locate(plan, class, frames, place, store, locals)?;
+    let value = eval(plan, class, frames, value, store, locals)?;
+    put(plan, class, target, value, store, locals)
+}
+
+// An operand, and then what is done with it.
+#[cycle(walk)]
+#[inline(never)]
+fn eval_chain(
+    plan: &Plan,
+    class: usize,
+    frames: u8,
+    head: &Expr,
+    links: &[Link],
+    store: &mut Store,
+    locals: &mut [Word],
+) -> Result<Word, Stop>
+    requires { class < classes_in plan.now }
+    ensures end { let w = setting_of plan.now class frames in
+        ended plan.now class (ends plan.now class result) store.new locals.new
+        ≡ chain_with w head.now (map (link_of w) links.now)
+        (state_of plan.now class store.old locals.old) }
+    ensures turns { store.new.turns ≤ store.old.turns }
+{
+    let value = eval_operand(plan, class, frames, head, store, locals)?;
+    eval_links(plan, class, frames, links, value, store, locals)
 }
 
 /// The value of an operand: what is most often one, an int, a local or the receiver, with no further call.
@@ -112,7 +296,8 @@ pub(crate) fn eval_operand(
     }
 }
 
-// The target, its old value, the operand, and then the store.
+// A compound assignment: the target, its old value, the operand, and then the store. Of a local, what is
+// most often one, no target is made.
 #[cycle(walk)]
 #[inline(always)]
 fn eval_update(
@@ -126,8 +311,67 @@ fn eval_update(
     locals: &mut [Word],
 ) -> Result<Word, Stop>
     requires { class < classes_in plan.now }
-    ensures end { ended plan.now class (ends plan.now class result) store.new locals.new
-        ≡ update_with (setting_of plan.now class frames) update place.now operand.now
+    ensures end { let w = setting_of plan.now class frames in
+        ended plan.now class (ends plan.now class result) store.new locals.new
+        ≡ update_with w update place.now operand.now
+        (state_of plan.now class store.old locals.old) }
+    ensures turns { store.new.turns ≤ store.old.turns }
+{
+    match place {
+        Place::Local(kind, number) => {
+            update_local(
+                plan, class, frames, update, *kind, *number, operand, store, locals,
+            )
+        }
+        _ => update_place(plan, class, frames, update, place, operand, store, locals),
+    }
+}
+
+// The old value of a local, the operand, and then the store.
+#[cycle(walk)]
+#[inline(never)]
+fn update_local(
+    plan: &Plan,
+    class: usize,
+    frames: u8,
+    update: Update,
+    kind: Kind,
+    number: u8,
+    operand: &Expr,
+    store: &mut Store,
+    locals: &mut [Word],
+) -> Result<Word, Stop>
+    requires { class < classes_in plan.now }
+    ensures end { let w = setting_of plan.now class frames in
+        ended plan.now class (ends plan.now class result) store.new locals.new
+        ≡ update_local_with w update kind number operand.now
+        (state_of plan.now class store.old locals.old) }
+    ensures turns { store.new.turns ≤ store.old.turns }
+{
+    let old = locals::read(locals, kind, usize::from(number))?;
+    let operand = eval_operand(plan, class, frames, operand, store, locals)?;
+    let value = arithmetic(update.arithmetic, update.width, old, operand)?;
+    let new = locals::put(locals, usize::from(number), value)?;
+    Ok(given(update.gives, old, new))
+}
+
+// The target, its old value, the operand, and then the store.
+#[cycle(walk)]
+#[inline(never)]
+fn update_place(
+    plan: &Plan,
+    class: usize,
+    frames: u8,
+    update: Update,
+    place: &Place,
+    operand: &Expr,
+    store: &mut Store,
+    locals: &mut [Word],
+) -> Result<Word, Stop>
+    requires { class < classes_in plan.now }
+    ensures end { let w = setting_of plan.now class frames in
+        ended plan.now class (ends plan.now class result) store.new locals.new
+        ≡ update_with w update place.now operand.now
         (state_of plan.now class store.old locals.old) }
     ensures turns { store.new.turns ≤ store.old.turns }
 {

@@ -173,6 +173,34 @@ pub fn read(
     }
 }
 
+/// What is read of a static field.
+#[inline(always)]
+pub fn read_static(store: &Store, plan: &Plan, class: usize, number: usize) -> Result<Word, Stop>
+    requires { class ≤ classes_in plan.now }
+    ensures { (locals : List val.Val) →
+        stepped plan.now class (ends plan.now class result) store.now locals ≡ read_spot (static_spot number) (record { shared = shared_of plan.now class store.now; locals = locals }) }
+{
+    let found = static_field(plan, class, number);
+    read(store, plan, class, found)
+}
+
+/// What is read of a field of an object: null traps.
+#[inline(always)]
+pub fn read_field(
+    store: &Store,
+    plan: &Plan,
+    class: usize,
+    object: Word,
+    number: usize,
+) -> Result<Word, Stop>
+    requires { class ≤ classes_in plan.now }
+    ensures { (locals : List val.Val) →
+        stepped plan.now class (ends plan.now class result) store.now locals ≡ then_do (field_spot (seen plan.now class object) number (record { shared = shared_of plan.now class store.now; locals = locals })) (λ spot s1. read_spot spot s1) }
+{
+    let found = field(plan, class, object, number);
+    read(store, plan, class, found)
+}
+
 /// The bytes of the Str or Buf at a place that was sought.
 pub fn bytes<'a>(
     store: &'a Store,
@@ -211,6 +239,27 @@ pub fn write(
         Ok((base, place)) => store.write(plan, class, base, place, prim, word),
         Err(stop) => Err(stop),
     }
+}
+
+/// Stores a value in a field of a primitive type of an object, and gives the stored value as a read gives
+/// it: null traps.
+#[inline(always)]
+pub fn write_field(
+    store: &mut Store,
+    plan: &Plan,
+    class: usize,
+    object: Word,
+    number: usize,
+    prim: Prim,
+    word: Word,
+) -> Result<Word, Stop>
+    requires { class ≤ classes_in plan.now }
+    ensures end { (locals : List val.Val) →
+        stepped plan.now class (ends plan.now class result) store.new locals ≡ then_do (field_spot (seen plan.now class object) number (record { shared = shared_of plan.now class store.old; locals = locals })) (λ spot s1. write_spot prim spot (seen plan.now class word) s1) }
+    ensures turns { store.new.turns ≡ store.old.turns }
+{
+    let found = field(plan, class, object, number);
+    write(store, plan, class, found, prim, word)
 }
 
 /// The inline object or Str in a static field.

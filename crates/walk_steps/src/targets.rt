@@ -40,13 +40,9 @@ pub fn fetch(
 {
     match target {
         Target::Local(kind, number) => locals::read(locals, kind, usize::from(number)),
-        Target::Static(_, number) => {
-            let found = reach::static_field(plan, class, usize::from(number));
-            reach::read(store, plan, class, found)
-        }
+        Target::Static(_, number) => { reach::read_static(store, plan, class, usize::from(number)) }
         Target::Field(_, object, number) => {
-            let found = reach::field(plan, class, object, usize::from(number));
-            reach::read(store, plan, class, found)
+            reach::read_field(store, plan, class, object, usize::from(number))
         }
         Target::Element(_, count, object, number, index) => {
             let found = reach::element(
@@ -93,8 +89,7 @@ pub fn put(
             reach::write(store, plan, class, found, prim, value)
         }
         Target::Field(prim, object, number) => {
-            let found = reach::field(plan, class, object, usize::from(number));
-            reach::write(store, plan, class, found, prim, value)
+            reach::write_field(store, plan, class, object, usize::from(number), prim, value)
         }
         Target::Element(prim, count, object, number, index) => {
             let found = reach::element(

@@ -1,25 +1,27 @@
-use Rattle.std.proofs.Common.{◌≡◌, ◌∙◌, ◌<◌, ◌-◌, Option, map, sym, ap, arith, ◌+◌, Ok, rules, Result, Err, Some, List, ℕ, replicate, subst, suc}
+use Rattle.std.proofs.Common.{◌≡◌, ◌∙◌, ◌<◌, ◌-◌, Option, map, sym, ap, arith, ◌+◌, Ok, rules, Result, Err, Some, List, ℕ, subst, suc}
 use Rattle.std.specs.Prelude.{slice_get, max}
 use Rattle.std.specs.Option.{option_copied}
 use Rattle.sed_typed.specs.declared.program.Program.{Program}
 use Rattle.sed_typed.specs.declared.program.Method.{Method}
-use Rattle.sed_engine.specs.State.{Shared, State, gives, End, then_do}
-use Rattle.sed_engine.specs.Expressions.{Setting, eval as eval_of, Called, frame_of, call_static, call_super, in_chain, meaning as link_of, put_all, part_at, text_call, invoke as invoke_of}
+use Rattle.sed_engine.specs.State.{Shared, State, answers, gives, End, then_do}
+use Rattle.sed_engine.specs.Expressions.{Setting, eval as eval_of, Called, frame_of, call_static, call_super, meaning as link_of, part_at, text_call, invoke as invoke_of}
 use Rattle.sed_engine.specs.Root.{run_method}
 use Rattle.walk_steps.specs.Seen.{seen, stop_seen}
 use Rattle.walk_steps.specs.Stored.{shared_of, state_of, ended}
 use Rattle.walk_steps.specs.Targets.{setting_of}
-use Rattle.sed_walk.proofs.Rounds.{calls_in, put-next, frame-fails, body-runs, loop-again, loop-answer, loop-over, loop-stop, switch-goes}
-use Rattle.sed_engine.specs.Steps.{with_local}
+use Rattle.sed_walk.proofs.Rounds.{calls_in, local-read, put-next, frame-fails, body-runs, loop-again, loop-answer, loop-over, loop-stop, switch-goes}
+use Rattle.sed_engine.specs.Operators.{given as given_of}
+use Rattle.sed_engine.specs.Steps.{with_local, read_local, write_local}
 use Rattle.sed_engine.specs.Stops.{Stop}
-use Rattle.sed_engine.specs.Values.{Val, Nothing}
+use Rattle.sed_engine.specs.Values.{Val}
 use Rattle.sed_engine.specs.Statements as flow
 use Rattle.sed_walk.specs.Flows.{flow_seen, rounds_seen, LeavesFewer}
 use Rattle.sed_typed.specs.declared.tree.Expr.{Expr}
 use Rattle.sed_typed.specs.declared.tree.Link.{Link}
-use Rattle.sed_walk.specs.Forms.{update_with, call_from, asks_of, rest_of_round, round_with}
+use Rattle.sed_typed.specs.declared.tree.Place.{Place}
+use Rattle.sed_walk.specs.Forms.{static_element_with, unary_with, choice_with, set_with, set_field_with, chain_with, text_call_with, put_computed, update_with, update_local_with, call_from, asks_of, rest_of_round, round_with}
 use Rattle.sed_walk.proofs.Rows.{evals_hidden, meanings_hidden, execs_hidden, heights_hidden, links_hidden, stmts_hidden}
-use Rattle.sed_engine.specs.Places.{field_spot}
+use Rattle.sed_engine.specs.Places.{field_spot, OfLocal, put as put_of}
 use Rattle.sed_engine.specs.Statements.{exec as exec_of, rounds, switch, follows, in_order, leaves}
 use Rattle.sed_walk.specs.declared.ends.Round.{Round}
 use Rattle.sed_typed.specs.declared.statement.Label.{Label}
@@ -28,7 +30,7 @@ use Rattle.sed_walk.specs.declared.ends.Flow.{Flow as Own}
 use Rattle.std.proofs.lemmas.List.{drop-map}
 use Rattle.sed_typed.specs.Height.{height_of, link_height, stmt_height}
 use Rattle.sed_walk.specs.Heights.{heights, link_heights, stmt_heights, left_with}
-use Rattle.sed_walk.proofs.Measures.{lower-by, lower-within, lower-alike}
+use Rattle.sed_walk.proofs.Measures.{lower-by, lower-alike}
 use Rattle.sed_walk.proofs.+walk.Goals as goal
 
 pub expressions::eval-eval_static-requires : goal.expressions::eval-eval_static-requires
@@ -49,17 +51,6 @@ expressions::eval-eval_super-requires t c =
     let h = lower-by left (heights es) (height_of c.args.e.now) 3 e (omega arith) in
     (omega (arith, h), c.requires)
 
-pub expressions::eval-eval_links-requires : goal.expressions::eval-eval_links-requires
-expressions::eval-eval_links-requires t c =
-    let left = left_with c.args.plan.now.program.methods c.args.frames in
-    let n = link_heights c.deref-in-Chain-2.result.now in
-    let m = max (height_of c.in-Chain.head.value) n in
-    let e : height_of c.args.e.now ≡ suc m =
-    ap height_of c.in-Chain.is
-    ∙ ap (λ (n : ℕ). suc (max (height_of c.in-Chain.head.value) n)) (links_hidden c.in-Chain.links ∙ ap link_heights (sym c.deref-in-Chain-2.ensures.value)) in
-    let h = lower-within left n (height_of c.args.e.now) m 4 e (omega arith) (omega arith) in
-    (omega (arith, h), c.requires)
-
 pub links::eval_link-eval_invoke-requires : goal.links::eval_link-eval_invoke-requires
 links::eval_link-eval_invoke-requires t c =
     let left = left_with c.args.plan.now.program.methods c.args.frames in
@@ -68,15 +59,6 @@ links::eval_link-eval_invoke-requires t c =
     ap link_height c.in-Invoke.is ∙ heights_hidden c.in-Invoke.args ∙ ap heights (sym c.deref.ensures.value) in
     let h = lower-alike left (heights es) (link_height c.args.link.now) 2 3 e (omega arith) in
     (omega (arith, h), c.requires)
-
-pub links::eval_link-eval_args-requires : goal.links::eval_link-eval_args-requires
-links::eval_link-eval_args-requires t c =
-    let left = left_with c.args.plan.now.program.methods c.args.frames in
-    let es = c.deref-in-TextCall.result.now in
-    let e : link_height c.args.link.now ≡ heights es =
-    ap link_height c.in-TextCall.is ∙ heights_hidden c.in-TextCall.args ∙ ap heights (sym c.deref-in-TextCall.ensures.value) in
-    let h = lower-alike left (heights es) (link_height c.args.link.now) 1 3 e (omega arith) in
-    (omega (arith, h), (c.requires, omega arith))
 
 pub statements::exec-run_switch-requires : goal.statements::exec-run_switch-requires
 statements::exec-run_switch-requires t c =
@@ -224,21 +206,6 @@ calls::eval_super-returns-clause-end t c =
     ∙ ap (λ (frame : List Val). call_from w 1 m es frame s) (c.frame_of-frame.ensures plan class)
     ∙ ap (λ (r : End Val). then_do r (λ this s1. call_from w 1 m es (frame_of this) s1)) (c.in_ok-this.ensures.end plan class c.args.store.now)
 
-pub expressions::eval-returns-in_ok-value-in-Chain-clause-end : goal.expressions::eval-returns-in_ok-value-in-Chain-clause-end
-expressions::eval-returns-in_ok-value-in-Chain-clause-end t c =
-    let plan = c.args.plan.now in
-    let class = c.args.class in
-    let w : Setting = setting_of plan class c.args.frames in
-    let s : State = state_of plan class c.args.store.now c.args.locals.now in
-    let t : State = state_of plan class c.eval_operand.new.store c.eval_operand.new.locals in
-    let ls = map (link_of w) c.in-Chain.links.items in
-    c.eval_links.ensures.end
-    ∙ ap (λ (ls : List Link). in_chain (map (link_of w) ls) (seen plan class c.in_ok-value-in-Chain.value) t) c.deref-in-Chain-2.ensures.value
-    ∙ ap (λ (r : End Val). then_do r (λ v s1. in_chain ls v s1)) c.in_ok-value-in-Chain.ensures.end
-    ∙ ap (λ (e : Expr). then_do (eval_of w e s) (λ v s1. in_chain ls v s1)) c.deref-in-Chain.ensures
-    ∙ ap (λ (ls : List (Val → State → End Val)). then_do (eval_of w c.in-Chain.head.value s) (λ v s1. in_chain ls v s1)) (sym (meanings_hidden w c.in-Chain.links))
-    ∙ ap (λ (e : Expr). eval_of w e s) (sym c.in-Chain.is)
-
 pub links::eval_link-returns-in-Invoke-clause-end : goal.links::eval_link-returns-in-Invoke-clause-end
 links::eval_link-returns-in-Invoke-clause-end t c =
     let plan = c.args.plan.now in
@@ -260,41 +227,8 @@ links::eval_link-returns-in-Part-clause-end t c =
     let s : State = state_of plan class c.args.store.now c.args.locals.now in
     let v = seen plan class c.args.value in
     c.part.ensures c.args.frames (map (seen plan class) c.args.locals.now)
-    ∙ ap (λ (n : ℕ). then_do (field_spot v n s) (λ spot s1. part_at w c.in-Part.kind spot s1)) c.from.ensures
+    ∙ ap (λ (n : ℕ). then_do (field_spot v n s) (λ spot s1. part_at w c.in-Part.kind spot s1)) c.from-in-Part.ensures
     ∙ ap (λ (l : Link). link_of w l v s) (sym c.in-Part.is)
-
-pub links::eval_link-returns-in_err-eval_args-in-TextCall-clause-end : goal.links::eval_link-returns-in_err-eval_args-in-TextCall-clause-end
-links::eval_link-returns-in_err-eval_args-in-TextCall-clause-end t c =
-    let plan = c.args.plan.now in
-    let class = c.args.class in
-    let w : Setting = setting_of plan class c.args.frames in
-    let s : State = state_of plan class c.args.store.now c.args.locals.now in
-    let v = seen plan class c.args.value in
-    let op = c.in-TextCall.op in
-    let x = stop_seen c.in_err-eval_args-in-TextCall.field-0.0 in
-    let stop : Result Val Stop = Err x in
-    let q : ended plan class stop c.eval_args.new.store c.eval_args.new.locals ≡ link_of w c.args.link.now v s =
-    ap (λ (r : End (List Val)). then_do r (λ xs s1. text_call w op v xs s1))
-    (c.in_err-eval_args-in-TextCall.ensures.end
-    ∙ ap (λ (es : List Expr). put_all 0 (map (eval_of w) es) (replicate 2 Nothing) s) c.deref-in-TextCall.ensures.value
-    ∙ ap (λ (es : List (State → End Val)). put_all 0 es (replicate 2 Nothing) s) (sym (evals_hidden w c.in-TextCall.args)))
-    ∙ ap (λ (l : Link). link_of w l v s) (sym c.in-TextCall.is) in
-    search (rules, q)
-
-pub links::eval_link-returns-in_ok-eval_args-in-TextCall-clause-end : goal.links::eval_link-returns-in_ok-eval_args-in-TextCall-clause-end
-links::eval_link-returns-in_ok-eval_args-in-TextCall-clause-end t c =
-    let plan = c.args.plan.now in
-    let class = c.args.class in
-    let w : Setting = setting_of plan class c.args.frames in
-    let s : State = state_of plan class c.args.store.now c.args.locals.now in
-    let v = seen plan class c.args.value in
-    let op = c.in-TextCall.op in
-    c.call.ensures.end c.args.frames (map (seen plan class) c.eval_args.new.locals)
-    ∙ ap (λ (r : End (List Val)). then_do r (λ xs s1. text_call w op v xs s1))
-    (c.in_ok-eval_args-in-TextCall.ensures.end
-    ∙ ap (λ (es : List Expr). put_all 0 (map (eval_of w) es) (replicate 2 Nothing) s) c.deref-in-TextCall.ensures.value
-    ∙ ap (λ (es : List (State → End Val)). put_all 0 es (replicate 2 Nothing) s) (sym (evals_hidden w c.in-TextCall.args)))
-    ∙ ap (λ (l : Link). link_of w l v s) (sym c.in-TextCall.is)
 
 pub loops::run_rounds-rounds-preserved : goal.loops::run_rounds-rounds-preserved
 loops::run_rounds-rounds-preserved t c =
@@ -440,3 +374,180 @@ statements::run_switch-returns-in_err-flow-clause-end t c =
     switch-goes (eval_of w c.args.e.now) c.args.labels.now all s t (seen plan class c.in_ok-value.value) c.in_ok-start.start e
     c.in_ok-value.ensures.end (c.in_ok-start.ensures plan class) (c.in_err-flow.ensures.end ∙ rest) in
     search (rules, q)
+
+pub expressions::eval-eval_chain-requires : goal.expressions::eval-eval_chain-requires
+expressions::eval-eval_chain-requires t c =
+    let left = left_with c.args.plan.now.program.methods c.args.frames in
+    let n = link_heights c.deref-in-Chain-2.result.now in
+    let m = max (height_of c.deref-in-Chain.result.now) n in
+    let e : height_of c.args.e.now ≡ suc m =
+    ap height_of c.in-Chain.is
+    ∙ ap (λ (n : ℕ). suc (max (height_of c.in-Chain.head.value) n)) (links_hidden c.in-Chain.links ∙ ap link_heights (sym c.deref-in-Chain-2.ensures.value))
+    ∙ ap (λ (x : Expr). suc (max (height_of x) n)) (sym c.deref-in-Chain.ensures) in
+    let h = lower-by left m (height_of c.args.e.now) 5 e (omega arith) in
+    (omega (arith, h), c.requires)
+
+pub links::eval_link-eval_text_call-requires : goal.links::eval_link-eval_text_call-requires
+links::eval_link-eval_text_call-requires t c =
+    let left = left_with c.args.plan.now.program.methods c.args.frames in
+    let es = c.deref-in-TextCall.result.now in
+    let e : link_height c.args.link.now ≡ heights es =
+    ap link_height c.in-TextCall.is ∙ heights_hidden c.in-TextCall.args ∙ ap heights (sym c.deref-in-TextCall.ensures.value) in
+    let h = lower-alike left (heights es) (link_height c.args.link.now) 2 3 e (omega arith) in
+    (omega (arith, h), c.requires)
+
+pub expressions::eval-returns-in-StaticElement-clause-end : goal.expressions::eval-returns-in-StaticElement-clause-end
+expressions::eval-returns-in-StaticElement-clause-end t c =
+    let plan = c.args.plan.now in
+    let class = c.args.class in
+    let w : Setting = setting_of plan class c.args.frames in
+    let s : State = state_of plan class c.args.store.now c.args.locals.now in
+    c.eval_static_element.ensures.end
+    ∙ ap (λ (e : Expr). static_element_with w c.in-StaticElement.count c.in-StaticElement.number e s) c.deref.ensures
+    ∙ ap (λ (e : Expr). eval_of w e s) (sym c.in-StaticElement.is)
+
+pub expressions::eval-returns-in-Unary-clause-end : goal.expressions::eval-returns-in-Unary-clause-end
+expressions::eval-returns-in-Unary-clause-end t c =
+    let plan = c.args.plan.now in
+    let class = c.args.class in
+    let w : Setting = setting_of plan class c.args.frames in
+    let s : State = state_of plan class c.args.store.now c.args.locals.now in
+    c.eval_unary.ensures.end
+    ∙ ap (λ (e : Expr). unary_with w c.in-Unary.op e s) c.deref-in-Unary.ensures
+    ∙ ap (λ (e : Expr). eval_of w e s) (sym c.in-Unary.is)
+
+pub expressions::eval-returns-in-Choose-clause-end : goal.expressions::eval-returns-in-Choose-clause-end
+expressions::eval-returns-in-Choose-clause-end t c =
+    let plan = c.args.plan.now in
+    let class = c.args.class in
+    let w : Setting = setting_of plan class c.args.frames in
+    let s : State = state_of plan class c.args.store.now c.args.locals.now in
+    c.eval_choice.ensures.end
+    ∙ ap (λ (e : Expr). choice_with w e c.deref-in-Choose-2.result.now c.deref-in-Choose-3.result.now s) c.deref-in-Choose.ensures
+    ∙ ap (λ (e : Expr). choice_with w c.in-Choose.test.value e c.deref-in-Choose-3.result.now s) c.deref-in-Choose-2.ensures
+    ∙ ap (λ (e : Expr). choice_with w c.in-Choose.test.value c.in-Choose.met.value e s) c.deref-in-Choose-3.ensures
+    ∙ ap (λ (e : Expr). eval_of w e s) (sym c.in-Choose.is)
+
+pub expressions::eval-returns-in-Set-clause-end : goal.expressions::eval-returns-in-Set-clause-end
+expressions::eval-returns-in-Set-clause-end t c =
+    let plan = c.args.plan.now in
+    let class = c.args.class in
+    let w : Setting = setting_of plan class c.args.frames in
+    let s : State = state_of plan class c.args.store.now c.args.locals.now in
+    c.eval_set.ensures.end
+    ∙ ap (λ (e : Expr). set_with w c.in-Set.place e s) c.deref-in-Set.ensures
+    ∙ ap (λ (e : Expr). eval_of w e s) (sym c.in-Set.is)
+
+pub expressions::eval-returns-in-Chain-clause-end : goal.expressions::eval-returns-in-Chain-clause-end
+expressions::eval-returns-in-Chain-clause-end t c =
+    let plan = c.args.plan.now in
+    let class = c.args.class in
+    let w : Setting = setting_of plan class c.args.frames in
+    let s : State = state_of plan class c.args.store.now c.args.locals.now in
+    c.eval_chain.ensures.end
+    ∙ ap (λ (e : Expr). chain_with w e (map (link_of w) c.deref-in-Chain-2.result.now) s) c.deref-in-Chain.ensures
+    ∙ ap (λ (ls : List Link). chain_with w c.in-Chain.head.value (map (link_of w) ls) s) c.deref-in-Chain-2.ensures.value
+    ∙ ap (λ (ls : List (Val → State → End Val)). chain_with w c.in-Chain.head.value ls s) (sym (meanings_hidden w c.in-Chain.links))
+    ∙ ap (λ (e : Expr). eval_of w e s) (sym c.in-Chain.is)
+
+pub links::eval_link-returns-in-TextCall-clause-end : goal.links::eval_link-returns-in-TextCall-clause-end
+links::eval_link-returns-in-TextCall-clause-end t c =
+    let plan = c.args.plan.now in
+    let class = c.args.class in
+    let w : Setting = setting_of plan class c.args.frames in
+    let s : State = state_of plan class c.args.store.now c.args.locals.now in
+    let v = seen plan class c.args.value in
+    let op = c.in-TextCall.op in
+    c.eval_text_call.ensures.end
+    ∙ ap (λ (es : List Expr). text_call_with w op (map (eval_of w) es) v s) c.deref-in-TextCall.ensures.value
+    ∙ ap (λ (es : List (State → End Val)). text_call_with w op es v s) (sym (evals_hidden w c.in-TextCall.args))
+    ∙ ap (λ (l : Link). link_of w l v s) (sym c.in-TextCall.is)
+
+pub expressions::eval_set-returns-in-Field-clause-end : goal.expressions::eval_set-returns-in-Field-clause-end
+expressions::eval_set-returns-in-Field-clause-end t c =
+    let plan = c.args.plan.now in
+    let class = c.args.class in
+    let w : Setting = setting_of plan class c.args.frames in
+    let s : State = state_of plan class c.args.store.now c.args.locals.now in
+    c.set_field.ensures.end
+    ∙ ap (λ (e : Expr). set_field_with w c.in-Field.prim e c.in-Field.number c.args.value.now s) c.deref.ensures
+    ∙ ap (λ (p : Place). set_with w p c.args.value.now s) (sym c.in-Field.is)
+
+pub links::eval_text_call-returns-clause-end : goal.links::eval_text_call-returns-clause-end
+links::eval_text_call-returns-clause-end t c =
+    let plan = c.args.plan.now in
+    let class = c.args.class in
+    let w : Setting = setting_of plan class c.args.frames in
+    let s : State = state_of plan class c.args.store.now c.args.locals.now in
+    c.call.ensures.end c.args.frames (map (seen plan class) c.eval_args.new.locals)
+    ∙ ap (λ (r : End (List Val)). then_do r (λ xs s1. text_call w c.args.op (seen plan class c.args.value) xs s1)) c.in_ok-eval_args.ensures.end
+
+pub expressions::update_local-returns-in_err-operand-clause-end : goal.expressions::update_local-returns-in_err-operand-clause-end
+expressions::update_local-returns-in_err-operand-clause-end t c =
+    let plan = c.args.plan.now in
+    let class = c.args.class in
+    let w : Setting = setting_of plan class c.args.frames in
+    let s : State = state_of plan class c.args.store.now c.args.locals.now in
+    let v = seen plan class c.in_ok-old.old in
+    let target = OfLocal c.args.kind c.args.number in
+    let read : gives v s ≡ read_local c.args.kind c.args.number s =
+    local-read c.args.kind c.from.result v s (c.in_ok-old.ensures plan class) ∙ ap (λ (n : ℕ). read_local c.args.kind n s) c.from.ensures in
+    let all : (r : End Val) → r ≡ eval_of w c.args.operand.now s → then_do r (λ x s1. put_computed c.args.update target v x s1) ≡ update_local_with w c.args.update c.args.kind c.args.number c.args.operand.now s =
+    λ r e. ap (λ (q : End Val). then_do q (λ x s1. put_computed c.args.update target v x s1)) e
+    ∙ ap (λ (q : End Val). then_do q (λ old s1. then_do (eval_of w c.args.operand.now s1) (λ x s2. put_computed c.args.update target old x s2))) read in
+    let x = stop_seen c.in_err-operand.field-0.0 in
+    let stop : Result Val Stop = Err x in
+    let q : ended plan class stop c.eval_operand.new.store c.eval_operand.new.locals ≡ update_local_with w c.args.update c.args.kind c.args.number c.args.operand.now s =
+    all (ended plan class stop c.eval_operand.new.store c.eval_operand.new.locals) c.in_err-operand.ensures.end in
+    search (rules, q)
+
+pub expressions::update_local-returns-in_err-new-clause-end : goal.expressions::update_local-returns-in_err-new-clause-end
+expressions::update_local-returns-in_err-new-clause-end t c =
+    let plan = c.args.plan.now in
+    let class = c.args.class in
+    let w : Setting = setting_of plan class c.args.frames in
+    let s : State = state_of plan class c.args.store.now c.args.locals.now in
+    let v = seen plan class c.in_ok-old.old in
+    let target = OfLocal c.args.kind c.args.number in
+    let read : gives v s ≡ read_local c.args.kind c.args.number s =
+    local-read c.args.kind c.from.result v s (c.in_ok-old.ensures plan class) ∙ ap (λ (n : ℕ). read_local c.args.kind n s) c.from.ensures in
+    let all : (r : End Val) → r ≡ eval_of w c.args.operand.now s → then_do r (λ x s1. put_computed c.args.update target v x s1) ≡ update_local_with w c.args.update c.args.kind c.args.number c.args.operand.now s =
+    λ r e. ap (λ (q : End Val). then_do q (λ x s1. put_computed c.args.update target v x s1)) e
+    ∙ ap (λ (q : End Val). then_do q (λ old s1. then_do (eval_of w c.args.operand.now s1) (λ x s2. put_computed c.args.update target old x s2))) read in
+    let x = seen plan class c.in_ok-operand.operand in
+    let y = seen plan class c.in_ok-value.value in
+    let s1 : State = state_of plan class c.eval_operand.new.store c.eval_operand.new.locals in
+    let finish : End Val → End Val = λ r. then_do r (λ new s2. gives (given_of c.args.update.gives v new) s2) in
+    let whole : (r : End Val) → r ≡ write_local c.from-2.result y s1 → finish r ≡ update_local_with w c.args.update c.args.kind c.args.number c.args.operand.now s =
+    λ r e. ap finish (e ∙ ap (λ (n : ℕ). write_local n y s1) c.from-2.ensures)
+    ∙ ap (λ (r : Result Val Stop). then_do (answers r s1) (λ z s2. finish (put_of target z s2))) (c.in_ok-value.ensures plan class)
+    ∙ all (gives x s1) c.in_ok-operand.ensures.end in
+    let stop : Result Val Stop = Err (stop_seen c.in_err-new.field-0.0) in
+    let q : ended plan class stop c.eval_operand.new.store c.put.new.locals ≡ update_local_with w c.args.update c.args.kind c.args.number c.args.operand.now s =
+    whole (ended plan class stop c.eval_operand.new.store c.put.new.locals) (c.in_err-new.ensures plan class c.eval_operand.new.store) in
+    search (rules, q)
+
+pub expressions::update_local-returns-clause-end : goal.expressions::update_local-returns-clause-end
+expressions::update_local-returns-clause-end t c =
+    let plan = c.args.plan.now in
+    let class = c.args.class in
+    let w : Setting = setting_of plan class c.args.frames in
+    let s : State = state_of plan class c.args.store.now c.args.locals.now in
+    let v = seen plan class c.in_ok-old.old in
+    let target = OfLocal c.args.kind c.args.number in
+    let read : gives v s ≡ read_local c.args.kind c.args.number s =
+    local-read c.args.kind c.from.result v s (c.in_ok-old.ensures plan class) ∙ ap (λ (n : ℕ). read_local c.args.kind n s) c.from.ensures in
+    let all : (r : End Val) → r ≡ eval_of w c.args.operand.now s → then_do r (λ x s1. put_computed c.args.update target v x s1) ≡ update_local_with w c.args.update c.args.kind c.args.number c.args.operand.now s =
+    λ r e. ap (λ (q : End Val). then_do q (λ x s1. put_computed c.args.update target v x s1)) e
+    ∙ ap (λ (q : End Val). then_do q (λ old s1. then_do (eval_of w c.args.operand.now s1) (λ x s2. put_computed c.args.update target old x s2))) read in
+    let x = seen plan class c.in_ok-operand.operand in
+    let y = seen plan class c.in_ok-value.value in
+    let s1 : State = state_of plan class c.eval_operand.new.store c.eval_operand.new.locals in
+    let finish : End Val → End Val = λ r. then_do r (λ new s2. gives (given_of c.args.update.gives v new) s2) in
+    let whole : (r : End Val) → r ≡ write_local c.from-2.result y s1 → finish r ≡ update_local_with w c.args.update c.args.kind c.args.number c.args.operand.now s =
+    λ r e. ap finish (e ∙ ap (λ (n : ℕ). write_local n y s1) c.from-2.ensures)
+    ∙ ap (λ (r : Result Val Stop). then_do (answers r s1) (λ z s2. finish (put_of target z s2))) (c.in_ok-value.ensures plan class)
+    ∙ all (gives x s1) c.in_ok-operand.ensures.end in
+    let s2 : State = state_of plan class c.eval_operand.new.store c.put.new.locals in
+    ap (λ (z : Val). gives z s2) (c.given.ensures plan class)
+    ∙ whole (gives (seen plan class c.in_ok-new.new) s2) (c.in_ok-new.ensures plan class c.eval_operand.new.store)

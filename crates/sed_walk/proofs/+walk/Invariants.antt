@@ -34,6 +34,36 @@ decreases-calls::run l = left_with l.plan.now.program.methods l.frames + (8 * bo
 abbrev pub decreases-expressions::eval : goal.decreases-expressions::eval
 decreases-expressions::eval l = left_with l.plan.now.program.methods l.frames + 8 * height_of l.e.now
 
+abbrev pub decreases-expressions::eval_chain : goal.decreases-expressions::eval_chain
+decreases-expressions::eval_chain l = left_with l.plan.now.program.methods l.frames + (8 * max (height_of l.head.now) (link_heights l.links.now) + 5)
+
+abbrev pub decreases-expressions::eval_choice : goal.decreases-expressions::eval_choice
+decreases-expressions::eval_choice l = left_with l.plan.now.program.methods l.frames + (8 * max (height_of l.test.now) (max (height_of l.met.now) (height_of l.unmet.now)) + 1)
+
+abbrev pub decreases-expressions::eval_set : goal.decreases-expressions::eval_set
+decreases-expressions::eval_set l = left_with l.plan.now.program.methods l.frames + (8 * max (place_height l.place.now) (height_of l.value.now) + 4)
+
+abbrev pub decreases-expressions::eval_static_element : goal.decreases-expressions::eval_static_element
+decreases-expressions::eval_static_element l = left_with l.plan.now.program.methods l.frames + (8 * height_of l.index.now + 1)
+
+abbrev pub decreases-expressions::eval_unary : goal.decreases-expressions::eval_unary
+decreases-expressions::eval_unary l = left_with l.plan.now.program.methods l.frames + (8 * height_of l.operand.now + 1)
+
+abbrev pub decreases-expressions::set_field : goal.decreases-expressions::set_field
+decreases-expressions::set_field l = left_with l.plan.now.program.methods l.frames + (8 * max (height_of l.object.now) (height_of l.value.now) + 3)
+
+abbrev pub decreases-expressions::set_local : goal.decreases-expressions::set_local
+decreases-expressions::set_local l = left_with l.plan.now.program.methods l.frames + (8 * height_of l.value.now + 3)
+
+abbrev pub decreases-expressions::set_place : goal.decreases-expressions::set_place
+decreases-expressions::set_place l = left_with l.plan.now.program.methods l.frames + (8 * max (place_height l.place.now) (height_of l.value.now) + 3)
+
+abbrev pub decreases-expressions::update_local : goal.decreases-expressions::update_local
+decreases-expressions::update_local l = left_with l.plan.now.program.methods l.frames + (8 * height_of l.operand.now + 3)
+
+abbrev pub decreases-expressions::update_place : goal.decreases-expressions::update_place
+decreases-expressions::update_place l = left_with l.plan.now.program.methods l.frames + (8 * max (place_height l.place.now) (height_of l.operand.now) + 3)
+
 abbrev pub decreases-expressions::eval_operand : goal.decreases-expressions::eval_operand
 decreases-expressions::eval_operand l = left_with l.plan.now.program.methods l.frames + (8 * height_of l.e.now + 1)
 
@@ -41,7 +71,7 @@ abbrev pub decreases-expressions::eval_or : goal.decreases-expressions::eval_or
 decreases-expressions::eval_or l = left_with l.plan.now.program.methods l.frames + (8 * height_or l.e.now + 1)
 
 abbrev pub decreases-expressions::eval_update : goal.decreases-expressions::eval_update
-decreases-expressions::eval_update l = left_with l.plan.now.program.methods l.frames + (8 * max (place_height l.place.now) (height_of l.operand.now) + 3)
+decreases-expressions::eval_update l = left_with l.plan.now.program.methods l.frames + (8 * max (place_height l.place.now) (height_of l.operand.now) + 4)
 
 abbrev pub decreases-expressions::locate : goal.decreases-expressions::locate
 decreases-expressions::locate l = left_with l.plan.now.program.methods l.frames + (8 * place_height l.place.now + 2)
@@ -51,6 +81,24 @@ decreases-links::eval_link l = left_with l.plan.now.program.methods l.frames + (
 
 abbrev pub decreases-links::eval_links : goal.decreases-links::eval_links
 decreases-links::eval_links l = left_with l.plan.now.program.methods l.frames + (8 * link_heights l.links.now + 4)
+
+abbrev pub decreases-links::eval_binary : goal.decreases-links::eval_binary
+decreases-links::eval_binary l = left_with l.plan.now.program.methods l.frames + (8 * height_of l.operand.now + 2)
+
+abbrev pub decreases-links::eval_and : goal.decreases-links::eval_and
+decreases-links::eval_and l = left_with l.plan.now.program.methods l.frames + (8 * height_of l.operand.now + 2)
+
+abbrev pub decreases-links::eval_either : goal.decreases-links::eval_either
+decreases-links::eval_either l = left_with l.plan.now.program.methods l.frames + (8 * height_of l.operand.now + 2)
+
+abbrev pub decreases-links::eval_element : goal.decreases-links::eval_element
+decreases-links::eval_element l = left_with l.plan.now.program.methods l.frames + (8 * height_of l.index.now + 2)
+
+abbrev pub decreases-links::eval_byte : goal.decreases-links::eval_byte
+decreases-links::eval_byte l = left_with l.plan.now.program.methods l.frames + (8 * height_of l.index.now + 2)
+
+abbrev pub decreases-links::eval_text_call : goal.decreases-links::eval_text_call
+decreases-links::eval_text_call l = left_with l.plan.now.program.methods l.frames + (8 * heights l.args.now + 2)
 
 abbrev pub decreases-loops::ask : goal.decreases-loops::ask
 decreases-loops::ask l = left_with l.plan.now.program.methods l.frames + (8 * (stmt_height l.s.now - 1) + 2)

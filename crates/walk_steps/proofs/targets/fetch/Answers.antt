@@ -1,4 +1,4 @@
-use Rattle.std.proofs.Common.{◌≡◌, ◌∙◌, ℕ, ap, sym, map, Ok}
+use Rattle.std.proofs.Common.{◌≡◌, ◌∙◌, ℕ, ap, sym, map}
 use Rattle.sed_engine.specs.Stops.{map_ok, and_then}
 use Rattle.sed_engine.specs.Values.{Spot, spot_of}
 use Rattle.sed_engine.specs.State.{State}
@@ -17,7 +17,7 @@ returns-in-Static c =
     let plan = c.args.plan.now in
     let class = c.args.class in
     let s : State = state_of plan class c.args.store.now c.args.locals.now in
-    c.read-in-Static.ensures (map (seen plan class) c.args.locals.now) (Ok (static_spot c.from-in-Static.result)) c.static_field-found.ensures
+    c.read_static.ensures (map (seen plan class) c.args.locals.now)
     ∙ ap (λ (n : ℕ). read_spot (static_spot n) s) c.from-in-Static.ensures
     ∙ ap (λ (t : Target). fetch_of (target_seen plan class t) s) (sym c.in-Static.is)
 

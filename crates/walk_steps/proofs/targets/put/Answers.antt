@@ -9,7 +9,7 @@ use Rattle.walk_steps.specs.declared.targets.Target.{Target}
 use Rattle.walk_steps.specs.Seen.{seen}
 use Rattle.walk_steps.specs.Stored.{state_of}
 use Rattle.walk_steps.specs.Targets.{target_seen}
-use Rattle.walk_steps.proofs.Reaches.{field-is, element-is, field-element-is}
+use Rattle.walk_steps.proofs.Reaches.{element-is, field-element-is}
 use Rattle.walk_steps.proofs.targets.put.Goals as goal
 
 pub returns-in-Static-clause-end : goal.returns-in-Static-clause-end
@@ -30,9 +30,7 @@ returns-in-Field-clause-end c =
     let s : State = state_of plan class c.args.store.now c.args.locals.now in
     let p = c.in-Field in
     let object = seen plan class p.object in
-    let number = c.from-in-Field.result in
-    c.write-in-Field.ensures.end (map (seen plan class) c.args.locals.now) (map_ok (λ spot. inside spot number) (spot_of object)) c.field-found.ensures
-    ∙ sym (field-is s object number (λ spot s1. write_spot p.prim spot v s1))
+    c.write_field.ensures.end (map (seen plan class) c.args.locals.now)
     ∙ ap (λ (n : ℕ). put_of (OfField p.prim object n) v s) c.from-in-Field.ensures
     ∙ ap (λ (t : Target). put_of (target_seen plan class t) v s) (sym p.is)
 
