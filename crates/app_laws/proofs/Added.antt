@@ -50,7 +50,7 @@ use Rattle.app_laws.proofs.Trees.{IsTreeOf, tree_of, tree_once, tree_parents, tr
 
 -- ---- the values of a new component
 
-abbrev EachMay : Meaning → ℕ → List (ℕ × Value) → Type 0
+abbrev pub EachMay : Meaning → ℕ → List (ℕ × Value) → Type 0
 EachMay m class [] = Unit {0}
 EachMay m class (e ∷ pairs) = IsTrue (may_store m class e.0 e.1) × EachMay m class pairs
 
@@ -60,7 +60,7 @@ EachProperty m class [] = Unit {0}
 EachProperty m class (slot ∷ rest) = IsTrue (is_some (slot_type m class slot)) × EachProperty m class rest
 
 module _ (m : Meaning) (stored : (o : Object) (slot : ℕ) (v : Value) → IsObject m o → IsTrue (may_store m o.class slot v) → IsObject m (with_slot m o slot v)) where
-  slots_fit : (pairs : List (ℕ × Value)) (o : Object) → IsObject m o → EachMay m o.class pairs → IsObject m (with_slots m pairs o)
+  pub slots_fit : (pairs : List (ℕ × Value)) (o : Object) → IsObject m o → EachMay m o.class pairs → IsObject m (with_slots m pairs o)
   slots_fit [] o is may = is
   slots_fit (e ∷ pairs) o is may = slots_fit pairs (with_slot m o e.0 e.1) (stored o e.0 e.1 is may.0) may.1
 

@@ -13,3 +13,6 @@ pub mod FreeIds
 pub mod Added
 pub mod EachCommand
 pub mod FirstWhole
+pub mod KeptValues
+pub mod KeptWhole
+pub mod KeptApplications
