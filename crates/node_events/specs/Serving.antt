@@ -29,8 +29,8 @@ replies n reply = record { application = n.application; subscriptions = n.subscr
 -- ---- a command
 
 -- why the session of a place may not ask a command; today each may ask every one
-abbrev pub denied : Node → ℕ → Asked → Option Answered
-denied n place asked = None
+abbrev pub denied : Setup → Node → ℕ → Asked → Option Answered
+denied s n place asked = None
 
 -- memory is wanted where a command would else be done
 abbrev pub lacks_memory : Meaning → Setup → Node → Asked → Mishap → Bool
@@ -79,4 +79,4 @@ unless_denied n (Some denial) serving = replies n denial
 abbrev pub served : Meaning → Setup → Node → ℕ → Wish → Mishap → Serving
 served m s n place (is_refused refusal) mishap = replies n (refused refusal)
 served m s n place (asks command) mishap =
-    unless_denied n (denied n place command) (commanded m s n place command mishap)
+    unless_denied n (denied s n place command) (commanded m s n place command mishap)
