@@ -10,3 +10,5 @@ pub mod OpenSubscribed
 pub mod OverEngines
 pub mod Examples
 pub mod Measured
+pub mod OpenMessages
+pub mod FewSent

@@ -24,10 +24,10 @@ use Rattle.node_events.specs.Node.{is_open}
 
 -- ---- lists of sessions
 
-abbrev Sessions : Type 0
+abbrev pub Sessions : Type 0
 Sessions = List (Option Session)
 
-within : (xs : Sessions) (i : ℕ) (x : Session) → get_or xs i None ≡ Some x → i < length xs
+pub within : (xs : Sessions) (i : ℕ) (x : Session) → get_or xs i None ≡ Some x → i < length xs
 within [] i x is = absurd (let no : ◌≡◌ {A = Option Session} None (Some x) = is in cc)
 within (y ∷ xs) zero x is = omega arith
 within (y ∷ xs) (suc i) x is = let less = within xs i x is in omega arith
@@ -141,7 +141,7 @@ module _ (state : State) where
 abbrev nobody : Option Session
 nobody = None
 
-free_is : (at place : ℕ) (xs : Sessions) → free_from at xs ≡ Some place → (at ≤ place) × (get_or xs (place - at) None ≡ None)
+pub free_is : (at place : ℕ) (xs : Sessions) → free_from at xs ≡ Some place → (at ≤ place) × (get_or xs (place - at) None ≡ None)
 free_is at place [] is = absurd (let no : ◌≡◌ {A = Option ℕ} None (Some place) = is in cc)
 free_is at place (None ∷ xs) is =
     let same : at ≡ place = some_eq at place is in
@@ -154,7 +154,7 @@ free_is at place (Some x ∷ xs) is =
     let less = rest.0 in
     (omega arith, ap (λ (k : ℕ). get_or (Some x ∷ xs) k None) (let next : place - at ≡ suc (place - suc at) = omega arith in next) ∙ rest.1)
 
-found_is : (test : Session → Bool) (at : ℕ) (xs : Sessions) (found : Found) → found_from test at xs ≡ Some found
+pub found_is : (test : Session → Bool) (at : ℕ) (xs : Sessions) (found : Found) → found_from test at xs ≡ Some found
     → (at ≤ found.place) × (get_or xs (found.place - at) None ≡ Some found.session)
 found_is test at [] found is = absurd (let no : ◌≡◌ {A = Option Found} None (Some found) = is in cc)
 found_is test at (None ∷ xs) found is =

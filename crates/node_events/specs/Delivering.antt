@@ -31,7 +31,11 @@ abbrev pub replied : ℕ → List ℕ → Node → List Letter → Serving → D
 replied place payload n sent serving =
     let posted : Outcome = post_of n.sessions place (answered_text (number_in payload) serving.reply) in
     record {
-      node = record { application = serving.application; sessions = posted.state; subscriptions = serving.subscriptions };
+      node = record {
+        application = serving.application;
+        sessions = posted.state;
+        subscriptions = serving.subscriptions;
+      };
       sent = sent ++ posted.letters;
       reply = Some serving.reply;
       save = serving.save;
@@ -44,9 +48,11 @@ handed m s wish mishap n sent (ended_at place) = leaves (without_session place n
 handed m s wish mishap n sent (payload_at place payload) = replied place payload n sent (served m s n place wish mishap)
 
 abbrev pub received_by : Meaning → Setup → Wish → Mishap → Node → Outcome → Delivery
-received_by m s wish mishap n outcome = handed m s wish mishap (record n { sessions = outcome.state }) outcome.letters outcome.handing
+received_by m s wish mishap n outcome =
+    handed m s wish mishap (record n { sessions = outcome.state }) outcome.letters outcome.handing
 
 -- a datagram from an address, which says this
 abbrev pub delivered : Meaning → Setup → Node → Addr → Option Heard → Mishap → Delivery
 delivered m s n from None mishap = leaves n []
-delivered m s n from (Some heard) mishap = received_by m s heard.wish mishap n (received n.sessions from (Some heard.message))
+delivered m s n from (Some heard) mishap =
+    received_by m s heard.wish mishap n (received n.sessions from (Some heard.message))

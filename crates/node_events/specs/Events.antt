@@ -80,11 +80,13 @@ abbrev pub then_call : Telling → Outcome → Telling
 then_call t outcome = record { node = record t.node { sessions = outcome.state }; sent = t.sent ++ outcome.letters }
 
 abbrev pub with_last : ℕ → ℕ → Part → List ℕ → Telling → Telling
-with_last place id part bytes t = record t { node = record t.node { subscriptions = with_event place id part bytes t.node.subscriptions } }
+with_last place id part bytes t =
+    record t { node = record t.node { subscriptions = with_event place id part bytes t.node.subscriptions } }
 
 -- an event with the bytes of a part is posted, and these are its last event's
 abbrev pub told : ℕ → ℕ → Part → List ℕ → Telling → Telling
-told place id part bytes t = then_call (with_last place id part bytes t) (post_of t.node.sessions place (event_bytes id part bytes))
+told place id part bytes t =
+    then_call (with_last place id part bytes t) (post_of t.node.sessions place (event_bytes id part bytes))
 
 -- where a part is due and there is room
 abbrev pub told_if_due : Meaning → ℕ → Telling → PartAt → Telling

@@ -1,10 +1,11 @@
 -- A node: an application, the sessions of its clients, and what they have subscribed.
-use Rattle.std.specs.Prelude.{ℕ, ℤ, ◌≡◌, Bool, false, count_by, is_some, if◌then◌else◌, List, None}
+use Rattle.std.specs.Prelude.{ℕ, ℤ, ◌≡◌, ◌≤◌, Bool, false, IfSome, length, count_by, is_some, if◌then◌else◌, List, None}
 use Rattle.std.specs.Option.{option_map_or}
 use Rattle.sed_engine.specs.Code.{Meaning}
 use Rattle.comp_tree.specs.Application.{Application, ById, is_live}
 use Rattle.comp_tree.specs.Cycle.{Begin}
 use Rattle.dasp_users.specs.declared.user.User.{User}
+use Rattle.dasp_window.specs.Posted.{open_part}
 use Rattle.dasp_session.specs.Hearing.{is_authenticated}
 use Rattle.dasp_session.specs.Looking.{session_at}
 use Rattle.dasp_session.specs.Receive.{new_state}
@@ -51,7 +52,8 @@ of_the_live all subs place id part = if is_live all id then subs place id part e
 -- only parts of live components are subscribed
 abbrev pub OnlyOfTheLive : Node → Type 0
 OnlyOfTheLive n =
-    (place id : ℕ) (part : Part) → is_live n.application.components.by_id id ≡ false → n.subscriptions place id part ≡ None
+    (place id : ℕ) (part : Part) → is_live n.application.components.by_id id ≡ false
+    → n.subscriptions place id part ≡ None
 
 -- a session lives in a place, and is authenticated
 abbrev pub is_open : State → ℕ → Bool
@@ -60,3 +62,8 @@ is_open sessions place = option_map_or is_authenticated (session_at sessions pla
 -- only sessions that live and are authenticated have subscribed anything
 abbrev pub OnlyOfTheOpen : Node → Type 0
 OnlyOfTheOpen n = (place id : ℕ) (part : Part) → is_open n.sessions place ≡ false → n.subscriptions place id part ≡ None
+
+-- in no session more than 31 messages stand from the first one on that is not acknowledged
+abbrev pub KeepsWindows : State → Type 0
+KeepsWindows sessions =
+    (place : ℕ) → IfSome (session_at sessions place) (λ session. length (open_part session.posted) ≤ 31)

@@ -56,10 +56,12 @@ listed None = []
 listed (Some save) = save ∷ []
 
 abbrev pub by_delivery : Delivery → Reached
-by_delivery d = record { node = d.node; sent = d.sent; saves = listed d.save; counts = record { ticks = 0; taken = 1; traps = 0 } }
+by_delivery d =
+    record { node = d.node; sent = d.sent; saves = listed d.save; counts = record { ticks = 0; taken = 1; traps = 0 } }
 
 abbrev pub by_tick : Ticked → Reached
-by_tick t = record { node = t.node; sent = t.sent; saves = []; counts = record { ticks = 1; taken = 0; traps = t.traps } }
+by_tick t =
+    record { node = t.node; sent = t.sent; saves = []; counts = record { ticks = 1; taken = 0; traps = t.traps } }
 
 abbrev pub one_event : Meaning → Setup → Node → Event → Reached
 one_event m s n (comes from heard mishap) = by_delivery (delivered m s n from heard mishap)
@@ -71,7 +73,11 @@ abbrev pub nothing_yet : Node → Reached
 nothing_yet n = record { node = n; sent = []; saves = []; counts = record { ticks = 0; taken = 0; traps = 0 } }
 
 abbrev pub count_both : Counts → Counts → Counts
-count_both first then = record { ticks = first.ticks + then.ticks; taken = first.taken + then.taken; traps = first.traps + then.traps }
+count_both first then = record {
+  ticks = first.ticks + then.ticks;
+  taken = first.taken + then.taken;
+  traps = first.traps + then.traps;
+}
 
 -- what comes behind what was reached
 abbrev pub followed_by : Reached → Reached → Reached

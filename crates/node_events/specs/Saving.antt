@@ -20,7 +20,8 @@ is_too_long m slot a = nat_lt slot (length (app_text m (Kept m a)))
 -- it begins where there is room for the text, and is acknowledged unless the disk fails it
 abbrev pub save_of : Meaning → ℕ → Application → Mishap → Option Save
 save_of m slot a mishap =
-    if is_too_long m slot a then None else Some (record { application = Kept m a; acknowledged = not (is_disk_failed mishap) })
+    if is_too_long m slot a then None
+    else Some (record { application = Kept m a; acknowledged = not (is_disk_failed mishap) })
 
 -- `I`
 abbrev pub saved : Answered

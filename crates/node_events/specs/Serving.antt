@@ -29,13 +29,14 @@ replies n reply = record { application = n.application; subscriptions = n.subscr
 -- ---- a command
 
 -- why the session of a place may not ask a command; today each may ask every one
-abbrev pub denied : Node → ℕ → Asked → Option Answered
-denied n place asked = None
+abbrev pub denied : Setup → Node → ℕ → Asked → Option Answered
+denied s n place asked = None
 
 -- memory is wanted where a command would else be done
 abbrev pub lacks_memory : Meaning → Setup → Node → Asked → Mishap → Bool
 lacks_memory m s n asked mishap =
-    is_no_memory mishap && (may_want_memory asked && is_ok (Edit m n.application (command_of asked) s.turns n.sessions.moment))
+    is_no_memory mishap
+    && (may_want_memory asked && is_ok (Edit m n.application (command_of asked) s.turns n.sessions.moment))
 
 abbrev pub given : Meaning → Setup → Node → Asked → Mishap → Answer
 given m s n asked mishap =
@@ -52,7 +53,8 @@ subscribed_after Deleted place a subs = of_the_live a.components.by_id subs
 
 -- a save changes nothing else, begun or not
 abbrev pub by_save : Node → Option Save → Serving
-by_save n save = record { application = n.application; subscriptions = n.subscriptions; reply = answer_to_save save; save = save }
+by_save n save =
+    record { application = n.application; subscriptions = n.subscriptions; reply = answer_to_save save; save = save }
 
 -- a save has its own reply, and every other command that of its answer
 abbrev pub done_by : Meaning → Setup → Node → ℕ → Mishap → Answer → Option Answered → Serving
@@ -76,4 +78,5 @@ unless_denied n (Some denial) serving = replies n denial
 
 abbrev pub served : Meaning → Setup → Node → ℕ → Wish → Mishap → Serving
 served m s n place (is_refused refusal) mishap = replies n (refused refusal)
-served m s n place (asks command) mishap = unless_denied n (denied n place command) (commanded m s n place command mishap)
+served m s n place (asks command) mishap =
+    unless_denied n (denied s n place command) (commanded m s n place command mishap)

@@ -22,7 +22,8 @@ without_ended (payload_at place payload) t = t
 
 -- the timeouts of the session of a place, and else what is to be sent again
 abbrev pub timed : ℕ → Telling → Telling
-timed place t = let outcome : Outcome = tick_of t.node.sessions place in without_ended outcome.handing (then_call t outcome)
+timed place t =
+    let outcome : Outcome = tick_of t.node.sessions place in without_ended outcome.handing (then_call t outcome)
 
 -- one keepAlive where an acknowledgement is still owed
 abbrev pub kept_up : ℕ → Telling → Telling

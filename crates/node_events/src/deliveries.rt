@@ -16,27 +16,32 @@ ghost use Rattle.node_events.specs.Saving.{Save, answer_to_save};
 use dasp_session::strangers_change_nothing;
 use sox_commands::refused_commands_change_nothing;
 
-/// A datagram that is no message leaves a node as it was, and gets no answer. So does a message, but a hello, whose id or
-/// address is that of no live session.
+/// A datagram that is no message leaves a node as it was, and gets no answer. So does a message, but a hello, whose
+/// id or address is that of no live session.
 pub fn strangers_leave_a_node()
-    ensures malformed { (m : Meaning) (s : Setup) (n : State) (from : Address) (mishap : Wrong) → delivered m s n from None mishap ≡ leaves n [] }
-    ensures stranger { (m : Meaning) (s : Setup) (n : State) (from : Address) (heard : Hearing) (mishap : Wrong) → heard.message.kind ≢ MsgKind.Hello
+    ensures malformed { (m : Meaning) (s : Setup) (n : State) (from : Address) (mishap : Wrong)
+        → delivered m s n from None mishap ≡ leaves n [] }
+    ensures stranger { (m : Meaning) (s : Setup) (n : State) (from : Address) (heard : Hearing) (mishap : Wrong)
+        → heard.message.kind ≢ MsgKind.Hello
         → found_from (is_session_of heard.message.to from) 0 n.sessions.sessions ≡ None
         → delivered m s n from (Some heard) mishap ≡ leaves n [] }
 {
     strangers_change_nothing();
 }
 
-/// A command that is refused leaves the application and the subscriptions as they were, and begins no save, but for one that the
-/// disk then fails.
+/// A command that is refused leaves the application and the subscriptions as they were, and begins no save, but for
+/// one that the disk then fails.
 pub fn refused_commands_leave_a_node()
-    ensures application { (m : Meaning) (s : Setup) (n : State) (from : Address) (heard : Hearing) (mishap : Wrong) (refusal : Refusal)
+    ensures application { (m : Meaning) (s : Setup) (n : State) (from : Address) (heard : Hearing)
+        (mishap : Wrong) (refusal : Refusal)
         → (delivered m s n from (Some heard) mishap).reply ≡ Some (refused refusal)
         → (delivered m s n from (Some heard) mishap).node.application ≡ n.application }
-    ensures subscriptions { (m : Meaning) (s : Setup) (n : State) (from : Address) (heard : Hearing) (mishap : Wrong) (refusal : Refusal)
+    ensures subscriptions { (m : Meaning) (s : Setup) (n : State) (from : Address) (heard : Hearing)
+        (mishap : Wrong) (refusal : Refusal)
         → (delivered m s n from (Some heard) mishap).reply ≡ Some (refused refusal)
         → (delivered m s n from (Some heard) mishap).node.subscriptions ≡ n.subscriptions }
-    ensures save { (m : Meaning) (s : Setup) (n : State) (from : Address) (heard : Hearing) (mishap : Wrong) (refusal : Refusal)
+    ensures save { (m : Meaning) (s : Setup) (n : State) (from : Address) (heard : Hearing) (mishap : Wrong)
+        (refusal : Refusal)
         → (delivered m s n from (Some heard) mishap).reply ≡ Some (refused refusal) → refusal ≢ SaveDevice
         → (delivered m s n from (Some heard) mishap).save ≡ None }
 {

@@ -9,13 +9,15 @@ ghost use Rattle.node_events.specs.Node.{of_the_live};
 
 use sed_engine::Engine;
 
-/// Over an engine, a part has the bytes, and is due, as it is for the application that is stood for; and what stays subscribed is what
-/// is of its live components.
+/// Over an engine, a part has the bytes, and is due, as it is for the application that is stood for; and what stays
+/// subscribed is what is of its live components.
 pub fn events_are_of_the_application<E: Engine>()
     ensures bytes { (a : Linked E) (id : ℕ) (part : PartOf)
         → over.bytes_of E.Engine a id part ≡ bytes_of (E.meaning a.tree.engine) (application_of E.Engine a) id part }
     ensures due { (a : Linked E) (subs : Subscriptions) (place id : ℕ) (part : PartOf)
-        → over.differs E.Engine a subs place id part ≡ is_due (E.meaning a.tree.engine) (application_of E.Engine a) subs place id part }
+        → over.differs E.Engine a subs place id part
+        ≡ is_due (E.meaning a.tree.engine) (application_of E.Engine a) subs place id part }
     ensures live { (a : Linked E) (subs : Subscriptions) (place id : ℕ) (part : PartOf)
-        → over.of_the_live E.Engine a subs place id part ≡ of_the_live (application_of E.Engine a).components.by_id subs place id part }
+        → over.of_the_live E.Engine a subs place id part
+        ≡ of_the_live (application_of E.Engine a).components.by_id subs place id part }
 {}

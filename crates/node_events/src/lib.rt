@@ -1,15 +1,16 @@
 //! What a node is, and what each event makes of it: definitions, and their laws.
 //!
-//! A node is an application, the sessions of its clients, and what they have subscribed. An event is a datagram or a tick.
-//! `delivered` and `ticked` say what each makes of a node and what the node then sends, `run` what a list of them comes to,
-//! over whatever code. A law is the contract of a function that does nothing. The running node is to stand on this crate: each of
-//! its calls does what an event is said here to do.
+//! A node is an application, the sessions of its clients, and what they have subscribed. An event is a datagram or
+//! a tick. `delivered` and `ticked` say what each makes of a node and what the node then sends, `run` what a list
+//! of them comes to, over whatever code. A law is the contract of a function that does nothing. The running node is
+//! to stand on this crate: each of its calls does what an event is said here to do.
 #![tactic(auto)]
 
 mod deliveries;
 mod events;
 mod runs;
 mod saves;
+mod sendings;
 mod subscriptions;
 mod ticks;
 
@@ -22,5 +23,6 @@ pub use runs::{
     moments_never_go_back, runs_follow_one_another, saves_are_of_what_was_reached, users_stay,
 };
 pub use saves::saves_are_measured;
+pub use sendings::few_messages_are_sent;
 pub use subscriptions::{only_live_components_are_subscribed, only_open_sessions_have_subscribed};
 pub use ticks::{ticks_begin_no_save, ticks_run_one_cycle};

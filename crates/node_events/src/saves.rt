@@ -16,11 +16,14 @@ ghost use Rattle.node_events.specs.Node.{Node as State, Setup};
 ghost use Rattle.node_events.specs.Saving.{answer_to_save, save_of};
 ghost use Rattle.node_events.specs.Serving.{by_save, served};
 
-/// Where the App's `save` is asked for and no refusal of its row stands against it, a save begins, or is refused as too long for the
-/// store; nothing else changes. It is too long exactly where the text of what is kept has more bytes than a slot.
+/// Where the App's `save` is asked for and no refusal of its row stands against it, a save begins, or is refused as
+/// too long for the store; nothing else changes. It is too long exactly where the text of what is kept has more
+/// bytes than a slot.
 pub fn saves_are_measured()
-    ensures save { (m : Meaning) (s : Setup) (n : State) (place : ℕ) (asked : Asked) (mishap : Wrong) → asks_for_save asked ≡ true
-        → first_refusal (refusals_of m n.application asked) ≡ None → served m s n place (asks asked) mishap ≡ by_save n (save_of m s.slot n.application mishap) }
+    ensures save { (m : Meaning) (s : Setup) (n : State) (place : ℕ) (asked : Asked) (mishap : Wrong)
+        → asks_for_save asked ≡ true
+        → first_refusal (refusals_of m n.application asked) ≡ None
+        → served m s n place (asks asked) mishap ≡ by_save n (save_of m s.slot n.application mishap) }
     ensures full { (m : Meaning) (slot : ℕ) (a : Application) (mishap : Wrong)
         → (answer_to_save (save_of m slot a mishap) ≡ refused StoreFull) ↔ (slot < length (app_text m (Kept m a))) }
 {}
