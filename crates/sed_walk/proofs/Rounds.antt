@@ -7,6 +7,7 @@ use Rattle.std.proofs.Math.Seq.{drop-length}
 use Rattle.std.proofs.lemmas.Bool.Decides.{nat_tests}
 use Rattle.sed_typed.specs.declared.kind.Kind.{Kind}
 use Rattle.sed_typed.specs.declared.operators.Width.TheVariants.{Int as IntWidth}
+use Rattle.sed_typed.specs.declared.operators.Update.{Update}
 use Rattle.sed_typed.specs.declared.program.Method.{Method}
 use Rattle.sed_typed.specs.declared.program.Program.{Program}
 use Rattle.sed_typed.specs.declared.statement.Label.{Label}
@@ -18,10 +19,13 @@ use Rattle.sed_engine.specs.Stops.{Stop, Traps, Untyped, map_ok, there}
 use Rattle.sed_engine.specs.Values.{Val, begun, whole, is_begun, are_begun}
 use Rattle.walk_steps.specs.declared.word.Word.{Word}
 use Rattle.sed_engine.specs.State.{Shared, State, End, gives, answers, then_do}
-use Rattle.sed_engine.specs.Steps.{with_local, read_local}
-use Rattle.sed_engine.specs.Expressions.{Setting, put_all, in_chain}
+use Rattle.sed_engine.specs.Steps.{with_local, read_local, write_local}
+use Rattle.sed_engine.specs.Operators.{arithmetic_of, given}
+use Rattle.sed_engine.specs.Places.{OfLocal, put}
+use Rattle.sed_engine.specs.Expressions.{Setting, eval, put_all, in_chain}
 use Rattle.sed_engine.specs.Statements.{Flow, Next, Return, Round, Again, Over, Answer, after_round, follows, in_order, loop, exec, switch, label_of, leaves}
 use Rattle.sed_engine.specs.Root.{calls_with, run_method, run_body, untyped, called, is_frame_of}
+use Rattle.sed_walk.specs.Forms.{put_computed, update_local_with}
 
 -- ---- calls
 
@@ -99,12 +103,29 @@ rest-is xs i x h at = drop_more xs i x h ∙ ap (λ (y : _). y ∷ drop (i + 1) 
 -- ---- locals
 
 -- a local that is read
-pub local-read : (kind : Kind) (i : ℕ) (v : Val) (s : State) → Ok v ≡ map_ok (λ x. begun kind x) (there (slice_get s.locals i)) → gives v s ≡ read_local kind i s
+local-read : (kind : Kind) (i : ℕ) (v : Val) (s : State) → Ok v ≡ map_ok (λ x. begun kind x) (there (slice_get s.locals i)) → gives v s ≡ read_local kind i s
 local-read kind i v s = go (slice_get s.locals i)
   where
     go : (o : Option Val) → Ok v ≡ map_ok (λ x. begun kind x) (there o) → gives v s ≡ then_do (answers (there o) s) (λ x s1. gives (begun kind x) s1)
     go (Some x) h = ap (λ (r : Result Val Stop). answers r s) h
     go None h = absurd (let no : ⊥ = cc in no)
+
+-- a compound assignment to a local, of which the old value is read
+module _ (w : Setting) (u : Update) (kind : Kind) (i n : ℕ) (is : n ≡ i) (e : Expr) (v : Val) (s : State) (read : Ok v ≡ map_ok (λ x. begun kind x) (there (slice_get s.locals n))) where
+  -- the operand ends so
+  pub update-goes : (r : End Val) → r ≡ eval w e s → then_do r (λ x s1. put_computed u (OfLocal kind i) v x s1) ≡ update_local_with w u kind i e s
+  update-goes r ends =
+      ap (λ (q : End Val). then_do q (λ x s1. put_computed u (OfLocal kind i) v x s1)) ends
+      ∙ ap (λ (q : End Val). then_do q (λ old s1. then_do (eval w e s1) (λ x s2. put_computed u (OfLocal kind i) old x s2))) (local-read kind n v s read ∙ ap (λ (j : ℕ). read_local kind j s) is)
+
+  -- the operand has a value, of which another is computed, and the store of that ends so
+  pub update-stores : (x y : Val) (t : State) (m : ℕ) → m ≡ i → gives x t ≡ eval w e s → Ok y ≡ arithmetic_of u.arithmetic u.width v x → (r : End Val) → r ≡ write_local m y t →
+      then_do r (λ new s1. gives (given u.gives v new) s1) ≡ update_local_with w u kind i e s
+  update-stores x y t m at ends computes r writes =
+      let finish : End Val → End Val = λ q. then_do q (λ new s1. gives (given u.gives v new) s1) in
+      ap finish (writes ∙ ap (λ (j : ℕ). write_local j y t) at)
+      ∙ ap (λ (q : Result Val Stop). then_do (answers q t) (λ z s1. finish (put (OfLocal kind i) z s1))) computes
+      ∙ update-goes (gives x t) ends
 
 -- ---- arguments
 

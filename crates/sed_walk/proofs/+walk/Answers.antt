@@ -9,7 +9,7 @@ use Rattle.sed_engine.specs.Root.{run_method}
 use Rattle.walk_steps.specs.Seen.{seen, stop_seen}
 use Rattle.walk_steps.specs.Stored.{shared_of, state_of, ended}
 use Rattle.walk_steps.specs.Targets.{setting_of}
-use Rattle.sed_walk.proofs.Rounds.{calls_in, local-read, put-next, frame-fails, body-runs, loop-again, loop-answer, loop-over, loop-stop, switch-goes}
+use Rattle.sed_walk.proofs.Rounds.{calls_in, update-goes, update-stores, put-next, frame-fails, body-runs, loop-again, loop-answer, loop-over, loop-stop, switch-goes}
 use Rattle.sed_engine.specs.Operators.{given as given_of}
 use Rattle.sed_engine.specs.Steps.{with_local, read_local, write_local}
 use Rattle.sed_engine.specs.Stops.{Stop}
@@ -488,17 +488,14 @@ expressions::update_local-returns-in_err-operand-clause-end t c =
     let class = c.args.class in
     let w : Setting = setting_of plan class c.args.frames in
     let s : State = state_of plan class c.args.store.now c.args.locals.now in
+    let u = c.args.update in
+    let i = c.args.number in
+    let e = c.args.operand.now in
     let v = seen plan class c.in_ok-old.old in
-    let target = OfLocal c.args.kind c.args.number in
-    let read : gives v s ≡ read_local c.args.kind c.args.number s =
-    local-read c.args.kind c.from.result v s (c.in_ok-old.ensures plan class) ∙ ap (λ (n : ℕ). read_local c.args.kind n s) c.from.ensures in
-    let all : (r : End Val) → r ≡ eval_of w c.args.operand.now s → then_do r (λ x s1. put_computed c.args.update target v x s1) ≡ update_local_with w c.args.update c.args.kind c.args.number c.args.operand.now s =
-    λ r e. ap (λ (q : End Val). then_do q (λ x s1. put_computed c.args.update target v x s1)) e
-    ∙ ap (λ (q : End Val). then_do q (λ old s1. then_do (eval_of w c.args.operand.now s1) (λ x s2. put_computed c.args.update target old x s2))) read in
-    let x = stop_seen c.in_err-operand.field-0.0 in
-    let stop : Result Val Stop = Err x in
-    let q : ended plan class stop c.eval_operand.new.store c.eval_operand.new.locals ≡ update_local_with w c.args.update c.args.kind c.args.number c.args.operand.now s =
-    all (ended plan class stop c.eval_operand.new.store c.eval_operand.new.locals) c.in_err-operand.ensures.end in
+    let stop : Result Val Stop = Err (stop_seen c.in_err-operand.field-0.0) in
+    let end : End Val = ended plan class stop c.eval_operand.new.store c.eval_operand.new.locals in
+    let q : end ≡ update_local_with w u c.args.kind i e s =
+    update-goes w u c.args.kind i c.from.result c.from.ensures e v s (c.in_ok-old.ensures plan class) end c.in_err-operand.ensures.end in
     search (rules, q)
 
 pub expressions::update_local-returns-in_err-new-clause-end : goal.expressions::update_local-returns-in_err-new-clause-end
@@ -507,24 +504,18 @@ expressions::update_local-returns-in_err-new-clause-end t c =
     let class = c.args.class in
     let w : Setting = setting_of plan class c.args.frames in
     let s : State = state_of plan class c.args.store.now c.args.locals.now in
+    let u = c.args.update in
+    let i = c.args.number in
+    let e = c.args.operand.now in
     let v = seen plan class c.in_ok-old.old in
-    let target = OfLocal c.args.kind c.args.number in
-    let read : gives v s ≡ read_local c.args.kind c.args.number s =
-    local-read c.args.kind c.from.result v s (c.in_ok-old.ensures plan class) ∙ ap (λ (n : ℕ). read_local c.args.kind n s) c.from.ensures in
-    let all : (r : End Val) → r ≡ eval_of w c.args.operand.now s → then_do r (λ x s1. put_computed c.args.update target v x s1) ≡ update_local_with w c.args.update c.args.kind c.args.number c.args.operand.now s =
-    λ r e. ap (λ (q : End Val). then_do q (λ x s1. put_computed c.args.update target v x s1)) e
-    ∙ ap (λ (q : End Val). then_do q (λ old s1. then_do (eval_of w c.args.operand.now s1) (λ x s2. put_computed c.args.update target old x s2))) read in
     let x = seen plan class c.in_ok-operand.operand in
     let y = seen plan class c.in_ok-value.value in
-    let s1 : State = state_of plan class c.eval_operand.new.store c.eval_operand.new.locals in
-    let finish : End Val → End Val = λ r. then_do r (λ new s2. gives (given_of c.args.update.gives v new) s2) in
-    let whole : (r : End Val) → r ≡ write_local c.from-2.result y s1 → finish r ≡ update_local_with w c.args.update c.args.kind c.args.number c.args.operand.now s =
-    λ r e. ap finish (e ∙ ap (λ (n : ℕ). write_local n y s1) c.from-2.ensures)
-    ∙ ap (λ (r : Result Val Stop). then_do (answers r s1) (λ z s2. finish (put_of target z s2))) (c.in_ok-value.ensures plan class)
-    ∙ all (gives x s1) c.in_ok-operand.ensures.end in
+    let t1 : State = state_of plan class c.eval_operand.new.store c.eval_operand.new.locals in
+    let stores = update-stores w u c.args.kind i c.from.result c.from.ensures e v s (c.in_ok-old.ensures plan class) x y t1 c.from-2.result c.from-2.ensures
+    c.in_ok-operand.ensures.end (c.in_ok-value.ensures plan class) in
     let stop : Result Val Stop = Err (stop_seen c.in_err-new.field-0.0) in
-    let q : ended plan class stop c.eval_operand.new.store c.put.new.locals ≡ update_local_with w c.args.update c.args.kind c.args.number c.args.operand.now s =
-    whole (ended plan class stop c.eval_operand.new.store c.put.new.locals) (c.in_err-new.ensures plan class c.eval_operand.new.store) in
+    let end : End Val = ended plan class stop c.eval_operand.new.store c.put.new.locals in
+    let q : end ≡ update_local_with w u c.args.kind i e s = stores end (c.in_err-new.ensures plan class c.eval_operand.new.store) in
     search (rules, q)
 
 pub expressions::update_local-returns-clause-end : goal.expressions::update_local-returns-clause-end
@@ -533,21 +524,15 @@ expressions::update_local-returns-clause-end t c =
     let class = c.args.class in
     let w : Setting = setting_of plan class c.args.frames in
     let s : State = state_of plan class c.args.store.now c.args.locals.now in
+    let u = c.args.update in
+    let i = c.args.number in
+    let e = c.args.operand.now in
     let v = seen plan class c.in_ok-old.old in
-    let target = OfLocal c.args.kind c.args.number in
-    let read : gives v s ≡ read_local c.args.kind c.args.number s =
-    local-read c.args.kind c.from.result v s (c.in_ok-old.ensures plan class) ∙ ap (λ (n : ℕ). read_local c.args.kind n s) c.from.ensures in
-    let all : (r : End Val) → r ≡ eval_of w c.args.operand.now s → then_do r (λ x s1. put_computed c.args.update target v x s1) ≡ update_local_with w c.args.update c.args.kind c.args.number c.args.operand.now s =
-    λ r e. ap (λ (q : End Val). then_do q (λ x s1. put_computed c.args.update target v x s1)) e
-    ∙ ap (λ (q : End Val). then_do q (λ old s1. then_do (eval_of w c.args.operand.now s1) (λ x s2. put_computed c.args.update target old x s2))) read in
     let x = seen plan class c.in_ok-operand.operand in
     let y = seen plan class c.in_ok-value.value in
-    let s1 : State = state_of plan class c.eval_operand.new.store c.eval_operand.new.locals in
-    let finish : End Val → End Val = λ r. then_do r (λ new s2. gives (given_of c.args.update.gives v new) s2) in
-    let whole : (r : End Val) → r ≡ write_local c.from-2.result y s1 → finish r ≡ update_local_with w c.args.update c.args.kind c.args.number c.args.operand.now s =
-    λ r e. ap finish (e ∙ ap (λ (n : ℕ). write_local n y s1) c.from-2.ensures)
-    ∙ ap (λ (r : Result Val Stop). then_do (answers r s1) (λ z s2. finish (put_of target z s2))) (c.in_ok-value.ensures plan class)
-    ∙ all (gives x s1) c.in_ok-operand.ensures.end in
-    let s2 : State = state_of plan class c.eval_operand.new.store c.put.new.locals in
-    ap (λ (z : Val). gives z s2) (c.given.ensures plan class)
-    ∙ whole (gives (seen plan class c.in_ok-new.new) s2) (c.in_ok-new.ensures plan class c.eval_operand.new.store)
+    let t1 : State = state_of plan class c.eval_operand.new.store c.eval_operand.new.locals in
+    let stores = update-stores w u c.args.kind i c.from.result c.from.ensures e v s (c.in_ok-old.ensures plan class) x y t1 c.from-2.result c.from-2.ensures
+    c.in_ok-operand.ensures.end (c.in_ok-value.ensures plan class) in
+    let t2 : State = state_of plan class c.eval_operand.new.store c.put.new.locals in
+    ap (λ (z : Val). gives z t2) (c.given.ensures plan class)
+    ∙ stores (gives (seen plan class c.in_ok-new.new) t2) (c.in_ok-new.ensures plan class c.eval_operand.new.store)
