@@ -17,12 +17,12 @@ use Rattle.app_front.proofs.Fronts.{front-read, front-whole, front_of}
 
 -- ---- the first place that differs is one
 
-record IsOnePlace (p q : ℕ) (f g k l : Option KitRef) : Type 0 where
-  place : p ≡ q
-  in_file : f ≡ g
-  in_kits : k ≡ l
+pub record IsOnePlace (p q : ℕ) (f g k l : Option KitRef) : Type 0 where
+  pub place : p ≡ q
+  pub in_file : f ≡ g
+  pub in_kits : k ≡ l
 
-one_place : (ours theirs : List KitRef) (p q : ℕ) (f g k l : Option KitRef) → DifferAt ours theirs p f k → DifferAt ours theirs q g l → IsOnePlace p q f g k l
+pub one_place : (ours theirs : List KitRef) (p q : ℕ) (f g k l : Option KitRef) → DifferAt ours theirs p f k → DifferAt ours theirs q g l → IsOnePlace p q f g k l
 one_place ours theirs p q f g k l a b = by_order (cases_order p q)
   where
     by_order : (p ≡ q) ⊎ ((p < q) ⊎ (q < p)) → IsOnePlace p q f g k l
@@ -34,7 +34,7 @@ one_place ours theirs p q f g k l a b = by_order (cases_order p q)
     by_order (inr (inl before)) = absurd (a.differ (sym a.file_has ∙ b.before p before ∙ a.kits_have))
     by_order (inr (inr before)) = absurd (b.differ (sym b.file_has ∙ a.before q before ∙ b.kits_have))
 
-not_of_itself : (kits : List KitRef) (p : ℕ) (f k : Option KitRef) → DifferAt kits kits p f k → ⊥
+pub not_of_itself : (kits : List KitRef) (p : ℕ) (f k : Option KitRef) → DifferAt kits kits p f k → ⊥
 not_of_itself kits p f k d = d.differ (sym d.file_has ∙ d.kits_have)
 
 kits_of : (f g : Front) → f ≡ g → f.kits ≡ g.kits
@@ -43,21 +43,19 @@ kits_of f g same = ap (λ (x : Front). x.kits) same
 -- ---- what is answered has its reason
 
 module _ (schema : Schema) (old new : List ℕ) where
-  pub is_outcome : (result : Result ℕ AppRefusal) → IsAnswerTo schema.kits (form.front.reads old) new result
-      → (m : Meaning) → m.schema ≡ schema → IsFrontOutcome m old new result
-  is_outcome (Ok version) answer m same =
-      subst (λ (s : Schema). IsFront version s.kits old new) (sym same) (front-read (front_of version schema.kits) old new answer)
-  is_outcome (Err (NotAnApp at)) answer m same =
+  pub is_outcome : (result : Result ℕ AppRefusal) → IsAnswerTo schema.kits (form.front.reads old) new result → IsFrontOutcome schema old new result
+  is_outcome (Ok version) answer = front-read (front_of version schema.kits) old new answer
+  is_outcome (Err (NotAnApp at)) answer =
       λ version kits rest is. not_found new rest (front_of version kits) (sym answer ∙ front-whole version kits old rest is)
-  is_outcome (Err (WrongKits place in_file in_kits)) answer m same = record {
+  is_outcome (Err (WrongKits place in_file in_kits)) answer = λ m same. record {
     version = answer.front.version;
     kits = answer.front.kits;
     rest = answer.rest;
     front = front-read answer.front old answer.rest answer.found;
     first = subst (λ (s : Schema). DifferAt answer.front.kits s.kits place in_file in_kits) (sym same) answer.differ;
   }
-  is_outcome (Err (OverLimit which)) answer m same = absurd answer
-  is_outcome (Err Memory) answer m same = tt
+  is_outcome (Err (OverLimit which)) answer = answer
+  is_outcome (Err Memory) answer = tt
 
   -- ---- and where there is a reason it is answered
 

@@ -1,5 +1,14 @@
 pub mod Texts
 pub mod Fronts
+pub mod Answered
 pub mod Answering
+pub mod Bodies
+pub mod EndedRows
+pub mod EndedTexts
+pub mod IdTexts
 pub mod Names
 pub mod Places
+pub mod RowTexts
+pub mod RowsAnswered
+pub mod ValueRows
+pub mod ValueTexts

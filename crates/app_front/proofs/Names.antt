@@ -1,17 +1,15 @@
 -- What a reader gives of names, as their form reads them; and rows that end early.
 use Rattle.std.proofs.Common.{◌≡◌, ℕ, suc, ◌+◌, ◌-◌, ◌<◌, Bool, true, false, List, ◌++◌, Result, Err, IsOkAnd, refl, sym, ◌∙◌, ap, arith}
 use Rattle.std.specs.Prelude.{Option, Some, None, if◌then◌else◌}
-use Rattle.sed_value.specs.Names.{is_kit_name}
 use Rattle.sed_wire.specs.Reading.{Reads}
 use Rattle.sed_wire.specs.Text.{SpellsText}
 use Rattle.sed_wire.specs.declared.fault.StrFault.{StrFault}
-use Rattle.scode_image.specs.Form.{Form, on_none, on_whole, passed}
+use Rattle.scode_image.specs.Form.{Form, on_none, only, on_whole, passed}
 use Rattle.scode_image.specs.Leaves.{text}
 use Rattle.scode_image.specs.Reading.{Reading, Found, Stuck}
 use Rattle.scode_image.specs.Row.{row}
 use Rattle.scode_image.proofs.LeafLemmas.{text_none, text_read}
 use Rattle.scode_image.proofs.Rows.{Left, with_front}
-use Rattle.app_front.specs.Form as form
 use Rattle.app_front.specs.Gives.{Gives}
 use Rattle.app_front.specs.declared.halt.Halt.{Halt}
 use Rattle.app_front.specs.declared.halt.Halt.TheVariants.{Fault, Memory}
@@ -26,22 +24,20 @@ fails : (b : Bool) (t : List ℕ) (new old : List ℕ) → ◌≡◌ {A = Option
 fails true t new old e = absurd (let no : ◌≡◌ {A = Option (List ℕ)} (Some t) None = e in cc)
 fails false t new old e = refl
 
-pub name_found : (t name old new : List ℕ) → Reads SpellsText t old new → (if is_kit_name t then Some t else None) ≡ Some name → form.kit_name.reads old ≡ Found name new
-unfolding form.kit_name
-name_found t name old new read e =
-    on_whole (text.reads old) (λ a rest. passed (is_kit_name a) a rest old) t new _ (text_read t old new read) (passes (is_kit_name t) t name new old e)
+module _ (test : List ℕ → Bool) where
+  pub name_found : (t name old new : List ℕ) → Reads SpellsText t old new → (if test t then Some t else None) ≡ Some name → (only test text).reads old ≡ Found name new
+  name_found t name old new read e =
+      on_whole (text.reads old) (λ a rest. passed (test a) a rest old) t new _ (text_read t old new read) (passes (test t) t name new old e)
 
-pub name_wrong : (t old new : List ℕ) → Reads SpellsText t old new → ◌≡◌ {A = Option (List ℕ)} (if is_kit_name t then Some t else None) None → form.kit_name.reads old ≡ Stuck old
-unfolding form.kit_name
-name_wrong t old new read e =
-    on_whole (text.reads old) (λ a rest. passed (is_kit_name a) a rest old) t new _ (text_read t old new read) (fails (is_kit_name t) t new old e)
+  pub name_wrong : (t old new : List ℕ) → Reads SpellsText t old new → ◌≡◌ {A = Option (List ℕ)} (if test t then Some t else None) None → (only test text).reads old ≡ Stuck old
+  name_wrong t old new read e =
+      on_whole (text.reads old) (λ a rest. passed (test a) a rest old) t new _ (text_read t old new read) (fails (test t) t new old e)
 
-pub name_none : {T : Type 0} (now : T → List ℕ) (result : Result T StrFault) (fault : StrFault) (old new : List ℕ) → result ≡ Err fault
-    → ((t spelling follows : List ℕ) → SpellsText t spelling → old ≡ spelling ++ follows → IsOkAnd result (λ read. now read ≡ t) × (new ≡ follows))
-    → form.kit_name.reads old ≡ Stuck old
-unfolding form.kit_name
-name_none now result fault old new e again =
-    on_none (text.reads old) (λ a rest. passed (is_kit_name a) a rest old) old (text_none now result fault old new e again)
+  pub name_none : {T : Type 0} (now : T → List ℕ) (result : Result T StrFault) (fault : StrFault) (old new : List ℕ) → result ≡ Err fault
+      → ((t spelling follows : List ℕ) → SpellsText t spelling → old ≡ spelling ++ follows → IsOkAnd result (λ read. now read ≡ t) × (new ≡ follows))
+      → (only test text).reads old ≡ Stuck old
+  name_none now result fault old new e again =
+      on_none (text.reads old) (λ a rest. passed (test a) a rest old) old (text_none now result fault old new e again)
 
 -- ---- rows that end early
 

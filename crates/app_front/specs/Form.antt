@@ -10,6 +10,9 @@ use Rattle.app_front.specs.declared.front.Front.{Front}
 unfoldable pub u1 : Form ℕ
 u1 = number 1
 
+unfoldable pub u2 : Form ℕ
+u2 = number 2
+
 unfoldable pub u4 : Form ℕ
 u4 = number 4
 

@@ -1,5 +1,5 @@
--- What a step of the reader answers, by what a form reads: what is found, with the bytes behind it left. Or a fault where
--- reading gets stuck, with the bytes left from there on. Want of memory is free.
+-- What a step of the reader answers, by what a form reads: what is found, with the bytes behind it left. Or a fault
+-- where reading gets stuck, with the bytes left from there on. Want of memory is free.
 use Rattle.std.specs.Prelude.{◌≡◌, ℕ, List, Option, Result, Ok, Err}
 use Rattle.sed_value.specs.declared.kit.KitRef.{KitRef}
 use Rattle.scode_image.specs.Reading.{Reading, Found, Stuck}
@@ -16,7 +16,8 @@ Gives (Err Fault) rest reading = reading ≡ Stuck rest
 Gives (Err Memory) rest reading = Unit {0}
 
 -- a front was read whose kits differ from these
-pub record ReadsOtherKits (kits : List KitRef) (reading : Reading Front) (place : ℕ) (in_file in_kits : Option KitRef) : Type 0 where
+pub record ReadsOtherKits (kits : List KitRef) (reading : Reading Front) (place : ℕ)
+    (in_file in_kits : Option KitRef) : Type 0 where
   pub front : Front
   pub rest : List ℕ
   pub found : reading ≡ Found front rest

@@ -1,4 +1,10 @@
+pub mod BodyForm
 pub mod Differing
+pub mod Ended
 pub mod Form
 pub mod Front
 pub mod Gives
+pub mod LinkForm
+pub mod RowForm
+pub mod Rows
+pub mod ValueForm

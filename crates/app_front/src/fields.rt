@@ -17,6 +17,16 @@ pub(crate) fn u1(reader: &mut Reader) -> Result<u8, Halt>
     }
 }
 
+#[tactic(auto, unfolding(crate::specs::Form::u2), using(scode_image::proofs::LeafLemmas::number_read, scode_image::proofs::LeafLemmas::number_short))]
+pub(crate) fn u2(reader: &mut Reader) -> Result<u16, Halt>
+    ensures { Gives result reader.new (form.u2.reads reader.old) }
+{
+    match reader.u2() {
+        Ok(number) => Ok(number),
+        Err(_) => Err(Halt::Fault),
+    }
+}
+
 #[tactic(auto, unfolding(crate::specs::Form::u4), using(scode_image::proofs::LeafLemmas::number_read, scode_image::proofs::LeafLemmas::number_short))]
 pub(crate) fn u4(reader: &mut Reader) -> Result<u32, Halt>
     ensures { Gives result reader.new (form.u4.reads reader.old) }

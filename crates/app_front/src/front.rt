@@ -32,7 +32,7 @@ pub(crate) struct Front {
 /// wanted for the kits alone, of which there are at most 255. After an error the reader stands somewhere in the front.
 pub fn read_front(alloc: Global, schema: &Schema, reader: &mut Reader) -> Result<u32, AppRefusal>
     // A version is that of a front with the schema's kits, and a refusal has its reason.
-    ensures outcome { (m : Meaning) → m.schema ≡ schema.now → IsFrontOutcome m reader.old reader.new result }
+    ensures outcome { IsFrontOutcome schema.now reader.old reader.new result }
     // A front with these kits is read, and a reason to refuse is told, unless memory runs out.
     ensures front { (version : ℕ) (rest : List ℕ) → IsFront version schema.now.kits reader.old rest
         → IsVersionAnswer version rest reader.new result }

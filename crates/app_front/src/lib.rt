@@ -1,15 +1,23 @@
 //! Reading the application file, as far as it asks nothing of an application.
 //!
-//! `read_front` reads what begins a file, up to the end of its kits, and holds these against the kits of a code: it gives
-//! the version where they are the same, and else says at which place they differ first, or that the bytes begin no file.
-//! The definitions give the front as a form of bytes, with a reading from left to right that the reader follows; the
-//! definitions of app_file say which bytes are a front, and the contracts speak of these alone.
+//! `read_rows` gives the rows of a file as data, with its version and its links, where the bytes are such a text with
+//! the kits of a schema; else it says at which place the kits differ first, or that the bytes are no file. `read_front`
+//! does the same for what begins a file. The definitions give a file as forms of bytes, with a reading from left to
+//! right that the readers follow; the definitions of app_file say which text rows and links have, and the contracts
+//! speak of these. What makes an application of the rows is to stand on it.
 #![tactic(auto)]
 
+mod components;
 mod differing;
 mod fields;
 mod front;
 mod halt;
 mod kits;
+mod links;
+mod reading;
+pub mod rows;
+mod values;
 
 pub use front::read_front;
+pub use reading::read_rows;
+pub use rows::{FileRow, FileRows};

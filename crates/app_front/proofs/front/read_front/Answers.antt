@@ -2,7 +2,7 @@ use Rattle.app_front.proofs.Answering.{is_none, is_outcome, is_version, is_wrong
 use Rattle.app_front.proofs.front.read_front.Goals as goal
 
 pub returns-clause-outcome : goal.returns-clause-outcome
-returns-clause-outcome c = λ m same. is_outcome c.args.schema.now _ _ _ c.match_front.ensures m same
+returns-clause-outcome c = is_outcome c.args.schema.now _ _ _ c.match_front.ensures
 
 pub returns-clause-front : goal.returns-clause-front
 returns-clause-front c = λ version rest is. is_version c.args.schema.now _ _ _ c.match_front.ensures version rest is
