@@ -12,6 +12,7 @@ use Rattle.sub_table.specs.declared.part.Part.{Part}
 use Rattle.sub_table.specs.declared.part.Part.TheVariants.{Tree, Config, Runtime, Links}
 use Rattle.sub_table.specs.Table.{Subscriptions, with_event}
 use Rattle.sox_msg.specs.Command.{u2}
+use Rattle.sox_events.specs.Due.{letter_of}
 use Rattle.dasp_window.specs.Posted.{has_room}
 use Rattle.dasp_session.specs.Letters.{Letter}
 use Rattle.dasp_session.specs.Looking.{session_at}
@@ -20,13 +21,6 @@ use Rattle.dasp_session.specs.Session.{State}
 use Rattle.node_events.specs.Node.{Node}
 
 -- ---- parts
-
--- the letter of a part
-abbrev pub letter_of : Part → ℕ
-letter_of Tree = 116
-letter_of Config = 99
-letter_of Runtime = 114
-letter_of Links = 108
 
 -- the bytes of a part of the component with an id
 abbrev pub bytes_of : Meaning → Application → ℕ → Part → List ℕ
