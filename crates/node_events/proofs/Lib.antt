@@ -12,3 +12,6 @@ pub mod Examples
 pub mod Measured
 pub mod OpenMessages
 pub mod FewSent
+pub mod Taking
+pub mod Truths
+pub mod Answering

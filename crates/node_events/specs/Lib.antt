@@ -4,6 +4,7 @@ pub mod Mishap
 pub mod Saving
 pub mod Serving
 pub mod Delivering
+pub mod Replying
 pub mod Events
 pub mod Ticking
 pub mod Running

@@ -2,8 +2,8 @@
 //!
 //! A node is an application, the sessions of its clients, and what they have subscribed. An event is a datagram or
 //! a tick. `delivered` and `ticked` say what each makes of a node and what the node then sends, `run` what a list
-//! of them comes to, over whatever code. A law is the contract of a function that does nothing. The running node is
-//! to stand on this crate: each of its calls does what an event is said here to do.
+//! of them comes to, over whatever code. A law is the contract of a function that does nothing, or only
+//! reads. The running node is to stand on this crate: each of its calls does what an event is said here to do.
 #![tactic(auto)]
 
 mod deliveries;
@@ -15,8 +15,8 @@ mod subscriptions;
 mod ticks;
 
 pub use deliveries::{
-    refused_commands_leave_a_node, replies_show_what_went_wrong, saves_show_in_replies,
-    strangers_leave_a_node,
+    refused_commands_leave_a_node, replies_are_answers, replies_are_sent,
+    replies_show_what_went_wrong, saves_show_in_replies, strangers_leave_a_node,
 };
 pub use events::events_are_of_the_application;
 pub use runs::{
