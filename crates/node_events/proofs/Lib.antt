@@ -13,5 +13,6 @@ pub mod Measured
 pub mod OpenMessages
 pub mod FewSent
 pub mod Taking
+pub mod Causes
 pub mod Truths
 pub mod Answering

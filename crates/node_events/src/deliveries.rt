@@ -85,9 +85,19 @@ pub fn saves_show_in_replies()
         → (delivered m s n from (Some heard) mishap).reply ≡ Some (answer_to_save (Some save)) }
 {}
 
-/// What went wrong shows in the reply: where the replies to a datagram are the same, so is all that it comes to.
+/// What went wrong shows in the reply: where the replies to a datagram are the same, so is all that it comes to. To a
+/// payload that is heard as it asks, want of memory is replied only where memory was wanted, and that the disk failed
+/// only where it did.
 pub fn replies_show_what_went_wrong()
-    ensures { (m : Meaning) (s : Setup) (n : State) (from : Address) (heard : Option Hearing) (one other : Wrong)
+    ensures same { (m : Meaning) (s : Setup) (n : State) (from : Address) (heard : Option Hearing) (one other : Wrong)
         → (delivered m s n from heard one).reply ≡ (delivered m s n from heard other).reply
         → delivered m s n from heard one ≡ delivered m s n from heard other }
-{}
+    ensures memory { (m : Meaning) (s : Setup) (n : State) (from : Address) (heard : Hearing) (mishap : Wrong)
+        → IsWish heard.message.payload heard.wish
+        → (delivered m s n from (Some heard) mishap).reply ≡ Some (refused OutOfMemory) → mishap ≡ no_memory }
+    ensures disk { (m : Meaning) (s : Setup) (n : State) (from : Address) (heard : Hearing) (mishap : Wrong)
+        → IsWish heard.message.payload heard.wish
+        → (delivered m s n from (Some heard) mishap).reply ≡ Some (refused SaveDevice) → mishap ≡ disk_failed }
+{
+    commands_are_refused_by_their_rows();
+}
