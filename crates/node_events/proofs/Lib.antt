@@ -14,5 +14,6 @@ pub mod OpenMessages
 pub mod FewSent
 pub mod Taking
 pub mod Causes
+pub mod Elsewhere
 pub mod Truths
 pub mod Answering

@@ -9,3 +9,4 @@ pub mod Events
 pub mod Ticking
 pub mod Running
 pub mod LiveEvents
+pub mod Elsewhere

@@ -11,6 +11,7 @@ ghost use Rattle.sox_msg.specs.Answered.{Answered, refused};
 ghost use Rattle.sox_msg.specs.Command.{Asked};
 ghost use Rattle.sox_commands.specs.Answer.{answer, asks_for_save};
 ghost use Rattle.node_events.specs.Delivering.{delivered, leaves};
+ghost use Rattle.node_events.specs.Elsewhere.{IsAtOnePlace};
 ghost use Rattle.node_events.specs.Heard.{Heard as Hearing, IsWish, asks, is_refused};
 ghost use Rattle.node_events.specs.Mishap.{Mishap as Wrong, disk_failed, no_memory};
 ghost use Rattle.node_events.specs.Node.{Node as State, Setup};
@@ -101,3 +102,10 @@ pub fn replies_show_what_went_wrong()
 {
     commands_are_refused_by_their_rows();
 }
+
+/// A datagram has to do with one place at most: the session there has the sender's address, or there was none. Each
+/// other session stays as it was, and of what it has subscribed only parts of components go that are gone.
+pub fn datagrams_change_one_place()
+    ensures { (m : Meaning) (s : Setup) (n : State) (from : Address) (heard : Option Hearing) (mishap : Wrong)
+        → IsAtOnePlace from n (delivered m s n from heard mishap).node }
+{}

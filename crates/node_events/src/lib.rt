@@ -15,8 +15,8 @@ mod subscriptions;
 mod ticks;
 
 pub use deliveries::{
-    refused_commands_leave_a_node, replies_are_answers, replies_are_sent,
-    replies_show_what_went_wrong, saves_show_in_replies, strangers_leave_a_node,
+    datagrams_change_one_place, refused_commands_leave_a_node, replies_are_answers,
+    replies_are_sent, replies_show_what_went_wrong, saves_show_in_replies, strangers_leave_a_node,
 };
 pub use events::events_are_of_the_application;
 pub use runs::{
@@ -25,4 +25,4 @@ pub use runs::{
 pub use saves::saves_are_measured;
 pub use sendings::few_messages_are_sent;
 pub use subscriptions::{only_live_components_are_subscribed, only_open_sessions_have_subscribed};
-pub use ticks::{ticks_begin_no_save, ticks_run_one_cycle};
+pub use ticks::{ticks_begin_no_save, ticks_run_one_cycle, ticks_subscribe_nothing};
