@@ -15,5 +15,6 @@ pub mod FewSent
 pub mod Taking
 pub mod Causes
 pub mod Elsewhere
+pub mod Subscribing
 pub mod Truths
 pub mod Answering

@@ -10,3 +10,4 @@ pub mod Ticking
 pub mod Running
 pub mod LiveEvents
 pub mod Elsewhere
+pub mod Subscribing

@@ -24,5 +24,8 @@ pub use runs::{
 };
 pub use saves::saves_are_measured;
 pub use sendings::few_messages_are_sent;
-pub use subscriptions::{only_live_components_are_subscribed, only_open_sessions_have_subscribed};
+pub use subscriptions::{
+    only_live_components_are_subscribed, only_open_sessions_have_subscribed,
+    subscriptions_are_asked_for,
+};
 pub use ticks::{ticks_begin_no_save, ticks_run_one_cycle, ticks_subscribe_nothing};
