@@ -16,5 +16,6 @@ pub mod Taking
 pub mod Causes
 pub mod Elsewhere
 pub mod Subscribing
+pub mod InOrder
 pub mod Truths
 pub mod Answering

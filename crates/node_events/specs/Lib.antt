@@ -11,3 +11,4 @@ pub mod Running
 pub mod LiveEvents
 pub mod Elsewhere
 pub mod Subscribing
+pub mod InOrder

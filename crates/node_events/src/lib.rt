@@ -11,6 +11,7 @@ mod events;
 mod runs;
 mod saves;
 mod sendings;
+mod steps;
 mod subscriptions;
 mod ticks;
 
@@ -24,6 +25,9 @@ pub use runs::{
 };
 pub use saves::saves_are_measured;
 pub use sendings::few_messages_are_sent;
+pub use steps::{
+    events_are_sent, events_come_part_by_part, parts_stand_in_order, ticks_go_by_steps,
+};
 pub use subscriptions::{
     only_live_components_are_subscribed, only_open_sessions_have_subscribed,
     subscriptions_are_asked_for,
