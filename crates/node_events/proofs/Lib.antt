@@ -18,4 +18,5 @@ pub mod Elsewhere
 pub mod Subscribing
 pub mod InOrder
 pub mod Truths
+pub mod OneWay
 pub mod Answering

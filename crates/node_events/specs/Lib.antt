@@ -12,3 +12,4 @@ pub mod LiveEvents
 pub mod Elsewhere
 pub mod Subscribing
 pub mod InOrder
+pub mod Handling

@@ -8,6 +8,7 @@
 
 mod deliveries;
 mod events;
+mod hearing;
 mod runs;
 mod saves;
 mod sendings;
@@ -20,6 +21,7 @@ pub use deliveries::{
     replies_are_sent, replies_show_what_went_wrong, saves_show_in_replies, strangers_leave_a_node,
 };
 pub use events::events_are_of_the_application;
+pub use hearing::{bytes_are_heard, bytes_are_heard_in_one_way};
 pub use runs::{
     moments_never_go_back, runs_follow_one_another, saves_are_of_what_was_reached, users_stay,
 };
