@@ -19,4 +19,5 @@ pub mod Subscribing
 pub mod InOrder
 pub mod Truths
 pub mod OneWay
+pub mod Bounded
 pub mod Answering

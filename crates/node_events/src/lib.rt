@@ -26,7 +26,7 @@ pub use runs::{
     moments_never_go_back, runs_follow_one_another, saves_are_of_what_was_reached, users_stay,
 };
 pub use saves::saves_are_measured;
-pub use sendings::few_messages_are_sent;
+pub use sendings::{few_messages_are_sent, sixteen_sessions_live_at_most};
 pub use steps::{
     events_are_sent, events_come_part_by_part, parts_stand_in_order, ticks_go_by_steps,
 };
