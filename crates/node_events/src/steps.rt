@@ -13,8 +13,8 @@ ghost use Rattle.node_events.specs.Node.{Node as State, Setup};
 ghost use Rattle.node_events.specs.Replying.{next_letter};
 ghost use Rattle.node_events.specs.Ticking.{advanced_to, at_place, at_places, cycle_of, kept_up, ticked, timed};
 
-/// A tick goes from place to place once its cycle has run, and leaves what the last place leaves. At a place come
-/// timeouts and resends, then events, and then what is still owed.
+/// A tick goes from place to place, from 0 to 15, once its cycle has run, and leaves what the last place leaves. At a
+/// place come timeouts and resends, then events, and then what is still owed.
 pub fn ticks_go_by_steps()
     ensures node { (m : Meaning) (s : Setup) (n : State) (moment : ℤ)
         → (ticked m s n moment).node
@@ -26,6 +26,9 @@ pub fn ticks_go_by_steps()
         ≡ (at_places m (record (advanced_to moment n) {
           application = (cycle_of m s (advanced_to moment n)).application;
         })).sent }
+    ensures places { (m : Meaning) (n : State)
+        → at_places m n ≡ fold (at_place m) (record { node = n; sent = [] })
+        (0 ∷ 1 ∷ 2 ∷ 3 ∷ 4 ∷ 5 ∷ 6 ∷ 7 ∷ 8 ∷ 9 ∷ 10 ∷ 11 ∷ 12 ∷ 13 ∷ 14 ∷ 15 ∷ []) }
     ensures place { (m : Meaning) (t : Telling) (place : ℕ)
         → at_place m t place ≡ kept_up place (told_all m place (timed place t)) }
 {}
