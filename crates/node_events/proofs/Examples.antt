@@ -1,23 +1,25 @@
 -- Computed from the definitions: the App (0) with a Folder `f` (1) and a Note `n` (2), one session in place 0.
-use Rattle.std.proofs.Common.{◌≡◌, ℕ, pos, List, [], ◌∷◌, true, false, length, refl}
+use Rattle.std.proofs.Common.{◌≡◌, ℕ, pos, List, [], ◌∷◌, true, false, length, map as map_list, refl, ap}
 use Rattle.std.specs.Prelude.{replicate, codes, Some, None}
 use Rattle.std.specs.FinMap as map
+use Rattle.std.specs.List.{flat_map, fold}
 use Rattle.sed_outside.specs.declared.addr.Addr.{Addr}
 use Rattle.sed_value.specs.declared.refusal.Refusal.TheVariants.{SaveDevice, StoreFull}
 use Rattle.sed_engine.specs.Code.{Meaning}
-use Rattle.comp_tree.specs.Application.{Application, ById}
+use Rattle.comp_tree.specs.Application.{Application, ById, Component}
 use Rattle.comp_tree.specs.Parts.{Kept}
 use Rattle.app_file.specs.Text.{app_text}
 use Rattle.dasp_msg.specs.declared.kind.MsgKind.TheVariants.{Datagram}
+use Rattle.dasp_window.specs.Posted.{new_message}
 use Rattle.dasp_session.specs.Letters.{bare, datagram, keep_alive}
 use Rattle.dasp_session.specs.Session.{Session, State}
-use Rattle.sub_table.specs.declared.part.Part.TheVariants.{Config}
+use Rattle.sub_table.specs.declared.part.Part.TheVariants.{Tree, Config, Runtime, Links}
 use Rattle.sub_table.specs.Table.{Subscriptions, nothing_subscribed, with_event, with_subscribed}
 use Rattle.sox_msg.specs.Answered.{refused}
 use Rattle.sox_msg.specs.Command.{subscribe}
 use Rattle.sox_commands.proofs.Building.{application, code, found, three}
 use Rattle.node_events.specs.Delivering.{delivered}
-use Rattle.node_events.specs.Events.{Telling, is_due, told_if_due}
+use Rattle.node_events.specs.Events.{Telling, is_due, parts_at, parts_of, told_if_due}
 use Rattle.node_events.specs.Heard.{Heard, asks}
 use Rattle.node_events.specs.Mishap.{disk_failed, nothing_wrong}
 use Rattle.node_events.specs.Node.{Node, Setup, of_the_live}
@@ -119,6 +121,36 @@ keep_alive_acknowledges : (all : ById) → map.entries all ≡ three
     → (at_part all nothing_subscribed).sent ≡ record { to = client; message = keep_alive 0x1234 (0 ∷ []) } ∷ []
 unfolding code
 keep_alive_acknowledges all is = rw (found all three is 2) refl
+
+-- ---- the parts of an application with two components
+
+all_parts : (all : ById) (one other : Component) → map.entries all ≡ (1, one) ∷ (3, other) ∷ []
+    → parts_of (application all [])
+    ≡ record { id = 1; part = Tree } ∷ record { id = 1; part = Config } ∷ record { id = 1; part = Runtime } ∷ record { id = 1; part = Links }
+    ∷ record { id = 3; part = Tree } ∷ record { id = 3; part = Config } ∷ record { id = 3; part = Runtime } ∷ record { id = 3; part = Links }
+    ∷ []
+all_parts all one other is = ap (λ (entries : List (ℕ × Component)). flat_map parts_at (map_list (λ (e : ℕ × Component). e.0) entries)) is
+
+-- ---- a session that has room for one more message, and two parts that are due
+
+abbrev crowded : State
+crowded = record sessions { sessions = Some (record session { posted = replicate 30 (new_message [] (pos 0)) }) ∷ replicate 15 None }
+
+abbrev crowded_node : ById → Node
+crowded_node all = record { application = application all []; sessions = crowded; subscriptions = with_subscribed 0 2 10 nothing_subscribed }
+
+abbrev after_two : ById → Telling
+after_two all =
+    fold (told_if_due code 0) (record { node = crowded_node all; sent = [] }) (record { id = 2; part = Config } ∷ record { id = 2; part = Links } ∷ [])
+
+first_goes_out : (all : ById) → map.entries all ≡ three
+    → (after_two all).sent ≡ record { to = client; message = datagram 0x1234 [] 30 config_event } ∷ []
+unfolding code
+first_goes_out all is = rw (found all three is 2) refl
+
+second_waits : (all : ById) → map.entries all ≡ three → (after_two all).node.subscriptions 0 2 Links ≡ Some None
+unfolding code
+second_waits all is = rw (found all three is 2) refl
 
 -- ---- a component that is deleted, and its id taken
 

@@ -40,7 +40,7 @@ IsFew o = IfSome o (λ (x : Session). open_count x.posted ≤ 31)
 
 -- ---- places
 
-set_here : (xs : Sessions) (place : ℕ) (x : Session) (o : Option Session) → get_or xs place None ≡ Some x → get_or (set xs place o) place None ≡ o
+pub set_here : (xs : Sessions) (place : ℕ) (x : Session) (o : Option Session) → get_or xs place None ≡ Some x → get_or (set xs place o) place None ≡ o
 set_here xs place x o is = get_or-set_same xs place o None (within xs place x is)
 
 here : (o : Option Session) (x : Session) → o ≡ Some x → IsFew o → open_count x.posted ≤ 31

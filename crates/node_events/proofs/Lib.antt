@@ -12,3 +12,12 @@ pub mod Examples
 pub mod Measured
 pub mod OpenMessages
 pub mod FewSent
+pub mod Taking
+pub mod Causes
+pub mod Elsewhere
+pub mod Subscribing
+pub mod InOrder
+pub mod Truths
+pub mod OneWay
+pub mod Bounded
+pub mod Answering

@@ -1,9 +1,10 @@
 -- What no event changes of the sessions as a whole, and what a tick does to their moment.
-use Rattle.std.proofs.Common.{◌≡◌, ℕ, Bool, true, false, List, [], ◌∷◌, refl, ◌∙◌, arith}
-use Rattle.std.specs.Prelude.{ℤ, ◌==◌, ◌&&◌, not, ◌≤ℤ◌, Option, Some, None, if◌then◌else◌}
+use Rattle.std.proofs.Common.{◌≡◌, ℕ, Bool, true, false, List, [], ◌∷◌, length, refl, ◌∙◌, arith}
+use Rattle.std.specs.Prelude.{ℤ, ◌==◌, ◌&&◌, not, ◌≤ℤ◌, Option, Some, None, slice_set, if◌then◌else◌}
 use Rattle.std.specs.Int.Signed.{≤ℤ_refl}
 use Rattle.std.specs.List.{fold}
 use Rattle.std.proofs.lemmas.Int.{clamps, ints}
+use Rattle.std.proofs.lemmas.List.{length-set}
 use Rattle.sed_outside.specs.declared.addr.Addr.{Addr}
 use Rattle.sed_engine.specs.Code.{Meaning}
 use Rattle.comp_tree.specs.Application.{Application}
@@ -11,10 +12,10 @@ use Rattle.dasp_msg.specs.declared.kind.MsgKind.{MsgKind}
 use Rattle.dasp_msg.specs.declared.kind.MsgKind.TheVariants.{Hello, Challenge, Authenticate, Welcome, KeepAlive, Datagram, Close}
 use Rattle.dasp_msg.specs.Shown.{Message}
 use Rattle.dasp_session.specs.Closing.{other_digest, other_version, too_many}
-use Rattle.dasp_session.specs.Hearing.{Step}
+use Rattle.dasp_session.specs.Hearing.{Step, in_session}
 use Rattle.dasp_session.specs.Letters.{Letter, close}
 use Rattle.dasp_session.specs.Looking.{Found, found_from, free_from, is_session_of, is_waiting_for, session_at}
-use Rattle.dasp_session.specs.Receive.{Handing, Outcome, none, ended_at, payload_at, advanced, answers, at_place, challenged, greeted, hello, in_found, is_sha_1, keep_of, made_at, post_of, received, received_as, tick_of}
+use Rattle.dasp_session.specs.Receive.{Handing, Outcome, none, ended_at, payload_at, advanced, answers, at_place, challenged, greeted, hello, in_found, is_sha_1, keep_of, made_at, new_session, post_of, received, received_as, tick_of}
 use Rattle.dasp_session.specs.Session.{Session, State}
 use Rattle.dasp_session.specs.Ticking.{kept_up as step_kept, posted_in, ticked as step_ticked}
 use Rattle.sox_msg.specs.Command.{number_in}
@@ -32,22 +33,27 @@ pub record Same (before after : State) : Type 0 where
   pub users : after.users ≡ before.users
   pub secret : after.secret ≡ before.secret
   pub moment : after.moment ≡ before.moment
+  pub places : length after.sessions ≡ length before.sessions
 
 same : (x : State) → Same x x
-same x = record { users = refl; secret = refl; moment = refl }
+same x = record { users = refl; secret = refl; moment = refl; places = refl }
 
 then_same : (x y z : State) → Same x y → Same y z → Same x z
 then_same x y z one other = record {
   users = other.users ∙ one.users;
   secret = other.secret ∙ one.secret;
   moment = other.moment ∙ one.moment;
+  places = other.places ∙ one.places;
 }
 
 -- ---- the calls of the sessions
 
+put_same : (state : State) (place : ℕ) (o : Option Session) → Same state (record state { sessions = slice_set state.sessions place o })
+put_same state place o = record { users = refl; secret = refl; moment = refl; places = length-set state.sessions place o }
+
 step_same : (state : State) (place : ℕ) (step : Session → Step) (o : Option Session) → Same state (at_place state place step o).state
 step_same state place step None = same state
-step_same state place step (Some session) = record { users = refl; secret = refl; moment = refl }
+step_same state place step (Some session) = put_same state place (step session).session
 
 post_same : (state : State) (place : ℕ) (bytes : List ℕ) → Same state (post_of state place bytes).state
 post_same state place bytes = step_same state place (posted_in state.moment bytes) (session_at state place)
@@ -65,7 +71,12 @@ either state false x y one other = other
 module _ (state : State) (from : Addr) where
   made_same : (remote_id : ℕ) (o : Option ℕ) → Same state (made_at state from remote_id o).state
   made_same remote_id None = same state
-  made_same remote_id (Some place) = record { users = refl; secret = refl; moment = refl }
+  made_same remote_id (Some place) = record {
+    users = refl;
+    secret = refl;
+    moment = refl;
+    places = length-set state.sessions place (Some (new_session state from remote_id place));
+  }
 
   challenged_same : (remote_id : ℕ) (o : Option Found) → Same state (challenged state from remote_id o).state
   challenged_same remote_id (Some found) = same state
@@ -90,7 +101,7 @@ module _ (state : State) (from : Addr) where
 
   found_same : (message : Message) (o : Option Found) → Same state (in_found state message o).state
   found_same message None = same state
-  found_same message (Some found) = record { users = refl; secret = refl; moment = refl }
+  found_same message (Some found) = put_same state found.place (in_session state.users state.moment message found.session).session
 
   received_same : (kind : MsgKind) (message : Message) → Same state (received_as kind state from message).state
   received_same Hello message = hello_same message.version message.remote_id message.algorithm
@@ -188,8 +199,6 @@ module _ (m : Meaning) (s : Setup) where
 
 -- ---- a run
 
--- ---- a run
-
 module _ (m : Meaning) (s : Setup) where
   event_goes_on : (n : Node) (event : Event) → n.sessions.moment ≤ℤ (one_event m s n event).node.sessions.moment
   event_goes_on n (comes from heard mishap) = let is = (delivered_same m s n from heard mishap).moment in omega (arith, ints)
@@ -215,3 +224,9 @@ module _ (m : Meaning) (s : Setup) where
   secret_stays n (comes from heard mishap ∷ events) =
       secret_stays (one_event m s n (comes from heard mishap)).node events ∙ (delivered_same m s n from heard mishap).secret
   secret_stays n (passes moment ∷ events) = secret_stays (one_event m s n (passes moment)).node events ∙ (ticked_same m s n moment).secret
+
+  pub places_stay : (n : Node) (events : List Event) → length (run m s n events).node.sessions.sessions ≡ length n.sessions.sessions
+  places_stay n [] = refl
+  places_stay n (comes from heard mishap ∷ events) =
+      places_stay (one_event m s n (comes from heard mishap)).node events ∙ (delivered_same m s n from heard mishap).places
+  places_stay n (passes moment ∷ events) = places_stay (one_event m s n (passes moment)).node events ∙ (ticked_same m s n moment).places

@@ -151,5 +151,13 @@ pub fewer_after : (posted : List Posted) (ack : Option ℕ) (more : Option (List
 fewer_after posted None more = omega arith
 fewer_after posted (Some ack) more = fewer_to posted _ (count_of posted ack)
 
+long_to : (posted : List Posted) (more : Option (List ℕ)) (count : Option ℕ) → length (acknowledged_to posted more count) ≡ length posted
+long_to posted more None = refl
+long_to posted more (Some count) = (acknowledged_longer (is_for count more) 0 posted).1
+
+pub long_after : (posted : List Posted) (ack : Option ℕ) (more : Option (List ℕ)) → length (after_acks posted ack more) ≡ length posted
+long_after posted None more = refl
+long_after posted (Some ack) more = long_to posted _ (count_of posted ack)
+
 pub room_is : (posted : List Posted) → has_room posted ≡ true → open_count posted < 31
 room_is posted is = grind (arith, nat_tests)

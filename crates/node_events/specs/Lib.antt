@@ -4,7 +4,12 @@ pub mod Mishap
 pub mod Saving
 pub mod Serving
 pub mod Delivering
+pub mod Replying
 pub mod Events
 pub mod Ticking
 pub mod Running
 pub mod LiveEvents
+pub mod Elsewhere
+pub mod Subscribing
+pub mod InOrder
+pub mod Handling

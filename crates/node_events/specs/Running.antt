@@ -1,5 +1,5 @@
 -- A run: one event after another.
-use Rattle.std.specs.Prelude.{ℕ, ◌+◌, ◌≡◌, ℤ, true, List, [], ◌∷◌, ◌++◌, length, Option, Some, None, ⊤}
+use Rattle.std.specs.Prelude.{ℕ, ◌+◌, ◌≡◌, ℤ, true, List, [], ◌∷◌, ◌++◌, length, Option, Some, None}
 use Rattle.sed_outside.specs.declared.addr.Addr.{Addr}
 use Rattle.sed_engine.specs.Code.{Meaning}
 use Rattle.comp_tree.specs.Application.{Application}
@@ -26,12 +26,6 @@ IsEvent (datagram sender bytes) (comes from heard mishap) = (from ≡ sender) ×
 IsEvent (datagram sender bytes) (passes moment) = ⊥
 IsEvent (tick ticks) (comes from heard mishap) = ⊥
 IsEvent (tick ticks) (passes moment) = moment ≡ ticks
-
-abbrev pub AreEvents : List Entry → List Event → Type 0
-AreEvents [] [] = ⊤
-AreEvents [] (event ∷ events) = ⊥
-AreEvents (entry ∷ entries) [] = ⊥
-AreEvents (entry ∷ entries) (event ∷ events) = IsEvent entry event × AreEvents entries events
 
 -- ---- what they come to
 

@@ -1,3 +1,4 @@
+use Rattle.node_events.proofs.Bounded.{run_offered}
 use Rattle.node_events.proofs.FewSent.{delivered_few, nobody_few, place_few, place_keeps, run_keeps, ticked_few}
 use Rattle.node_events.proofs.sendings.few_messages_are_sent.Goals as goal
 
@@ -18,3 +19,6 @@ returns-clause-opened c = λ m s a users secret moment. nobody_few 16
 
 pub returns-clause-run : goal.returns-clause-run
 returns-clause-run c = run_keeps
+
+pub returns-clause-offered : goal.returns-clause-offered
+returns-clause-offered c = run_offered
