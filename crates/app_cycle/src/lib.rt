@@ -2,7 +2,7 @@
 //!
 //! `cycle` visits the components depth first, a parent before its children: the links into each are copied, and then it is
 //! executed. `begin` calls `start` of each in the same order. Both leave the application that is defined of them and say how
-//! many root calls trapped; nothing here refuses or takes memory. A node's ticks are to stand on it.
+//! many root calls trapped; nothing here refuses or takes memory. A node's ticks (sed_node) stand on it.
 #![tactic(auto)]
 
 mod cycles;

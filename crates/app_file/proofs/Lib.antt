@@ -15,3 +15,4 @@ pub mod WithinLimits
 pub mod ToldRows
 pub mod ToldTexts
 pub mod WholeFiles
+pub mod OtherLimits

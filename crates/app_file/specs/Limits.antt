@@ -1,4 +1,4 @@
--- The limits that a file may pass.
+-- The limits that a file may pass, and applications under another limit of data.
 use Rattle.std.specs.Prelude.{ℕ, Bool, nat_le, nat_lt, if◌then◌else◌, List, [], ◌∷◌, length, Option, Some, None}
 use Rattle.std.specs.List.{list_any}
 use Rattle.std.specs.FinMap as map
@@ -26,3 +26,10 @@ first_passed (row ∷ rows) = if row.0 then Some row.1 else first_passed rows
 
 abbrev pub limit_passed : Meaning → Application → Option ℕ
 limit_passed m a = first_passed (limits_passed m a)
+
+-- the same application, but with this limit of data
+abbrev pub under : ℕ → Application → Application
+under limit a = record {
+  components = record { by_id = a.components.by_id; statics = a.components.statics; limit = limit };
+  links = a.links;
+}

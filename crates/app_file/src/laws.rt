@@ -1,18 +1,21 @@
 //! Laws of the texts of applications. Each is the contract of a function that does nothing.
 ghost use Rattle.std.specs.Prelude.{◌≡◌, ◌≤◌, ℕ, List, None};
 ghost use Rattle.sed_value.specs.declared.kit.KitRef.{KitRef};
+ghost use Rattle.disk_model.specs.Disk.{Image};
 ghost use Rattle.sed_engine.specs.Code.{Meaning};
 ghost use Rattle.sed_engine.specs.Whole.{HasTables};
 ghost use Rattle.comp_tree.specs.Application.{Application, Link, children_of, is_live, parent_of};
 ghost use Rattle.comp_tree.specs.Shape.{IsTree};
 ghost use Rattle.comp_tree.specs.Whole.{Whole};
 ghost use Rattle.app_file.specs.Formed.{IsFormed};
-ghost use Rattle.app_file.specs.Limits.{limit_passed};
-ghost use Rattle.app_file.specs.Reading.{CanBeTold, IsFront, IsReadAs, Reading, StandsFor};
+ghost use Rattle.app_file.specs.Limits.{limit_passed, under};
+ghost use Rattle.app_file.specs.Opens.{Opens};
+ghost use Rattle.app_file.specs.Reading.{CanBeTold, IsFile, IsFront, IsReadAs, Reading, StandsFor};
 ghost use Rattle.app_file.specs.Rows.{Row, rows_of};
 ghost use Rattle.app_file.specs.Telling.{RowsAgree, told_application, told_by, told_text};
 ghost use Rattle.app_file.specs.Text.{AppText, HasShortNames, OldText, old_version, version};
 
+use app_save::stores_open_to_one;
 use comp_tree::{trees_are_walked_once, walked_ids_are_shallow};
 
 /// No bytes are a text of both kinds.
@@ -57,6 +60,25 @@ pub fn what_is_whole_passes_no_limit()
     ensures within { (m : Meaning) (a : Application) → Whole m a → limit_passed m a ≡ None }
 {
     walked_ids_are_shallow();
+}
+
+/// What is read under a data limit is read under each larger one that there may be, and what a store opens to under
+/// the one it opens to under the other: the same application, but with that limit. Bytes stand for the same application
+/// under any two limits, so what is read under both differs in the limit alone, and so does what a store opens to.
+pub fn a_larger_data_limit_reads_the_same()
+    ensures stands { (m : Meaning) (limit other : ℕ) (bytes : List ℕ) (a : Application) → StandsFor m limit bytes a
+        → StandsFor m other bytes (under other a) }
+    ensures file { (m : Meaning) (limit more : ℕ) (bytes : List ℕ) (a : Application) → IsFile m limit bytes a
+        → limit ≤ more → more ≤ 4194304 → IsFile m more bytes (under more a) }
+    ensures opens { (m : Meaning) (limit more : ℕ) (image : Image) (a : Application) → Opens m limit image a
+        → limit ≤ more → more ≤ 4194304 → Opens m more image (under more a) }
+    ensures one_file { (m : Meaning) (limit other : ℕ) (bytes : List ℕ) (a b : Application) → HasTables m
+        → CanBeTold m.schema → IsFile m limit bytes a → IsFile m other bytes b → b ≡ under other a }
+    ensures one_opened { (m : Meaning) (limit other : ℕ) (image : Image) (a b : Application) → HasTables m
+        → CanBeTold m.schema → Opens m limit image a → Opens m other image b → b ≡ under other a }
+{
+    walked_ids_are_shallow();
+    stores_open_to_one();
 }
 
 /// Rows that agree with the children of each id tell of components that have just these rows, and the text in which they stand with

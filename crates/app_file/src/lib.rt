@@ -3,15 +3,17 @@
 //! The definitions say which text an application has under the kits of a code, and what bytes are to it under a data
 //! limit: the one application whose text they are, or no file, a file of other kits, or one whose application passes
 //! a limit. A text that was written before names could be long is read too. The laws say that nothing is read in two
-//! ways. What a store holds is what the payload of its newest slot is read as. Reading and writing, the node and the
-//! program's commands over a store are to stand on it.
+//! ways, and that under a larger data limit the same is read. What a store holds is what the payload of its newest
+//! slot is read as. The reading of a file (app_front), the writing (app_writer), the making of a store (new_store) and
+//! the definitions of a node (node_events) stand on it.
 #![tactic(auto)]
 
 mod laws;
 pub mod refusal;
 
 pub use laws::{
-    bytes_are_read_as_one, fronts_are_one, rows_tell_of_applications, texts_are_of_one_kind,
-    texts_stand_for_one, what_is_whole_passes_no_limit, what_passes_no_limit_is_whole,
+    a_larger_data_limit_reads_the_same, bytes_are_read_as_one, fronts_are_one,
+    rows_tell_of_applications, texts_are_of_one_kind, texts_stand_for_one,
+    what_is_whole_passes_no_limit, what_passes_no_limit_is_whole,
 };
 pub use refusal::AppRefusal;

@@ -12,6 +12,7 @@ use Rattle.sed_typed.specs.Schemas.{type_at}
 use Rattle.sed_typed.specs.declared.schema.ClassInfo.{ClassInfo}
 use Rattle.sed_engine.specs.Code.{Meaning}
 use Rattle.prop_values.specs.Properties.{config_types}
+pub use Rattle.prop_values.specs.Values.{AreOfTypes}
 use Rattle.comp_tree.specs.Application.{Link}
 use Rattle.comp_tree.specs.Parts.{no_id}
 use Rattle.app_file.specs.Reading.{HasNoFront, HasWrongKits, IsFront}
@@ -36,13 +37,6 @@ told_row r = record {
   next_sibling = number_of_id r.next_sibling;
   config = r.config;
 }
-
--- a value of each type, in their order
-abbrev pub AreOfTypes : List SlotType → List Value → Type 0
-AreOfTypes [] [] = Unit {0}
-AreOfTypes [] (v ∷ values) = ⊥
-AreOfTypes (t ∷ types) [] = ⊥
-AreOfTypes (t ∷ types) (v ∷ values) = IsTrue (is_of_type t v) × AreOfTypes types values
 
 -- an id that stands in a file
 abbrev pub IsToldId : Id → Type 0

@@ -4,7 +4,7 @@
 //! the kits of a schema; else it says at which place the kits differ first, or that the bytes are no file. `read_front`
 //! does the same for what begins a file. The definitions give a file as forms of bytes, with a reading from left to
 //! right that the readers follow; the definitions of app_file say which text rows and links have, and the contracts
-//! speak of these. What makes an application of the rows is to stand on it.
+//! speak of these. What makes an application of the rows stands on it.
 #![tactic(auto)]
 
 mod components;

@@ -1,3 +1,4 @@
 pub mod SoFar
 pub mod ValueLemmas
 pub mod PartLemmas
+pub mod Lengths

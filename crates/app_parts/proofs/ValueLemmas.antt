@@ -65,7 +65,7 @@ values_from is value n [] = []
 values_from is value n (s ∷ ss) = (if is s then spelling_of (value n) else []) ++ values_from is value (n + 1) ss
 
 -- and their sizes
-pub sizes_from : (SlotInfo → Bool) → List SlotInfo → ℕ
+unfoldable pub sizes_from : (SlotInfo → Bool) → List SlotInfo → ℕ
 sizes_from is [] = 0
 sizes_from is (s ∷ ss) = (if is s then value_size s.form else 0) + sizes_from is ss
 

@@ -29,7 +29,8 @@ pub fn put_link(writer: &mut Writer, link: LinkRec)
 /// bytes.
 pub fn put_link_part<E: Engine>(writer: &mut Writer, app: &App<E>, id: Id)
     requires { 362 ≤ room writer.old }
-    ensures { Appends writer.old writer.new (link_part id.0 app.now.links) }
+    ensures bytes { Appends writer.old writer.new (link_part id.0 app.now.links) }
+    ensures short { length (link_part id.0 app.now.links) ≤ 362 }
 {
     put_links_at(writer, app, id);
     put_u2(writer, 0xffff);

@@ -1,5 +1,5 @@
 //! A part of a component.
-ghost use Rattle.std.specs.Prelude.{◌≡◌, ◌≤◌, IsSomeAnd};
+ghost use Rattle.std.specs.Prelude.{◌≡◌, ◌≤◌, IsSomeAnd, length};
 ghost use Rattle.std.specs.FinMap as map;
 ghost use Rattle.sed_wire.specs.Writing.{Appends, room};
 ghost use Rattle.comp_tree.specs.Edit.{part_bytes};
@@ -8,6 +8,7 @@ ghost use Rattle.comp_tree.specs.Told.{IsEntry};
 ghost use Rattle.comp_tree.specs.Application.{most_children};
 ghost use Rattle.link_prop.specs.Linked.{application_of};
 ghost use Rattle.sox_msg.specs.Reply.{Puts};
+ghost use Rattle.app_parts.specs.Longest.{longest_part};
 
 use crate::links::put_link_part;
 use crate::put::put_u1;
@@ -22,11 +23,12 @@ use sed_wire::Writer;
 /// How many bytes a part has at most.
 pub const LONGEST_PART: usize = 438;
 
-/// Puts the part of a component that a letter names in front of `into`, and says how many bytes it has; what stood behind
-/// it stays. The letters are `t`, `c`, `r`, `l` and `f`. For any other letter, and of an id that is not live, there is
-/// nothing to put.
+/// Puts the part of a component that a letter names in front of `into`, and says how many bytes it has, no more than
+/// any component of the code's schema may have; what stood behind it stays. The letters are `t`, `c`, `r`, `l` and `f`.
+/// For any other letter, and of an id that is not live, there is nothing to put.
 pub fn write_part<E: Engine>(app: &App<E>, id: Id, part: u8, into: &mut [u8; 438]) -> usize
-    ensures { Puts (part_bytes (E.meaning app.now.tree.engine) (application_of E.Engine app.now) id.0 part) result into.old into.new }
+    ensures bytes { Puts (part_bytes (E.meaning app.now.tree.engine) (application_of E.Engine app.now) id.0 part) result into.old into.new }
+    ensures short { result ≤ longest_part (E.meaning app.now.tree.engine).schema part }
 {
     let mut writer = Writer::new(into);
     put_part(&mut writer, app, id, part);
@@ -36,7 +38,8 @@ pub fn write_part<E: Engine>(app: &App<E>, id: Id, part: u8, into: &mut [u8; 438
 // Puts the part of a component that a letter names.
 fn put_part<E: Engine>(writer: &mut Writer, app: &App<E>, id: Id, part: u8)
     requires { 438 ≤ room writer.old }
-    ensures { Appends writer.old writer.new (part_bytes (E.meaning app.now.tree.engine) (application_of E.Engine app.now) id.0 part) }
+    ensures bytes { Appends writer.old writer.new (part_bytes (E.meaning app.now.tree.engine) (application_of E.Engine app.now) id.0 part) }
+    ensures short { length (part_bytes (E.meaning app.now.tree.engine) (application_of E.Engine app.now) id.0 part) ≤ longest_part (E.meaning app.now.tree.engine).schema part }
 {
     if let Some(entry) = app.tree().find(id) {
         put_part_told(writer, app, id, &entry, part);
@@ -48,7 +51,8 @@ fn put_part_told<E: Engine>(writer: &mut Writer, app: &App<E>, id: Id, entry: &E
     requires told { IsSomeAnd (map.get (components_of E.Engine app.now.tree).by_id id.0) (IsEntry (E.live app.now.tree.engine) entry.now) }
     requires few { entry.now.children ≤ most_children }
     requires room { 438 ≤ room writer.old }
-    ensures { Appends writer.old writer.new (part_bytes (E.meaning app.now.tree.engine) (application_of E.Engine app.now) id.0 part) }
+    ensures bytes { Appends writer.old writer.new (part_bytes (E.meaning app.now.tree.engine) (application_of E.Engine app.now) id.0 part) }
+    ensures short { length (part_bytes (E.meaning app.now.tree.engine) (application_of E.Engine app.now) id.0 part) ≤ longest_part (E.meaning app.now.tree.engine).schema part }
 {
     match part {
         b't' => put_tree_part(writer, app.tree(), id, entry),

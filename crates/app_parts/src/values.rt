@@ -5,6 +5,7 @@ ghost use Rattle.std.specs.Option.{option_map_or};
 ghost use Rattle.sed_typed.specs.Classes.{slots};
 ghost use Rattle.sed_wire.specs.Writing.{Appends, room};
 ghost use Rattle.comp_tree.specs.Held.{components_of};
+ghost use Rattle.app_parts.specs.Longest.{longest_values};
 ghost use Rattle.app_parts.specs.Values.{is_told, slot_bytes, slot_size, values_bytes};
 
 use crate::put::put_value;
@@ -21,7 +22,8 @@ pub enum Values {
     Runtime,
 }
 
-/// Puts the values of a component's config or runtime properties, in the order of the slots: at most 400 bytes.
+/// Puts the values of a component's config or runtime properties, in the order of the slots: at most 400 bytes, and no
+/// more than those of the class that may have most.
 pub fn put_values<E: Engine>(
     writer: &mut Writer,
     tree: &Tree<E>,
@@ -33,6 +35,7 @@ pub fn put_values<E: Engine>(
     requires room { 400 ≤ room writer.old }
     ensures bytes { Appends writer.old writer.new (values_bytes (E.meaning tree.now.engine) (components_of E.Engine tree.now).by_id id.0 kind.0 which) }
     ensures short { length (values_bytes (E.meaning tree.now.engine) (components_of E.Engine tree.now).by_id id.0 kind.0 which) ≤ 400 }
+    ensures sized { length (values_bytes (E.meaning tree.now.engine) (components_of E.Engine tree.now).by_id id.0 kind.0 which) ≤ longest_values which (E.meaning tree.now.engine).schema.classes }
 {
     for slot in 0..slot_count(tree.schema(), kind) {
         put_slot(writer, tree, id, kind, which, slot);
@@ -87,8 +90,8 @@ fn is_told_slot(schema: &Schema, kind: TypeNo, which: Values, slot: usize) -> bo
     }
 }
 
-// Whether a slot is told.
-fn is_told_info(info: &SlotInfo, which: Values) -> bool
+/// Whether the value of a slot is told.
+pub(crate) fn is_told_info(info: &SlotInfo, which: Values) -> bool
     ensures { result ≡ is_told which info.now }
 {
     match (info.form, which) {

@@ -51,6 +51,7 @@ impl Folders {
     /// An engine without components.
     pub fn new(alloc: Global, limit: u32) -> Result<Folders, AllocError>
         ensures empty { IfOk result (λ f. live_of f.places ≡ map.empty) }
+        ensures limit { IfOk result (λ f. f.limit ≡ limit) }
     {
         let schema = Schema {
             kits: Items::new(sys::kits(alloc)?),
@@ -141,6 +142,12 @@ impl Engine for Folders {
     fn schema(&self) -> &Schema {
         masked_codes_are_whole();
         &self.schema
+    }
+
+    // `meta` is the only property.
+    fn same_field(&self, _t: TypeNo, _a: SlotNo, _b: SlotNo) -> bool {
+        let _limit = self.limit;
+        true
     }
 
     fn add(&mut self, t: TypeNo) -> Result<Place, AddRefusal> {

@@ -1,8 +1,8 @@
 //! Writing the application file.
 //!
-//! `write_app` puts the text of an application into a slice that it is lent, exactly as the file's definitions have
-//! it, or says how many bytes that takes where there are fewer. It takes no memory and changes nothing but the slice. A
-//! save and the making of a store are to stand on it.
+//! `write_app` puts the text of an application into a slice that it is lent, exactly as the file's definitions have it,
+//! or says how many bytes that takes where there are fewer. It takes no memory and changes nothing but the slice. The
+//! making of a store (new_store) stands on it.
 #![tactic(auto)]
 
 mod front;

@@ -137,15 +137,20 @@ free_pushed nodes after parent id above found pushed free =
 abbrev config_of : Meaning → ℕ → List ℕ → List (ℕ × Value)
 config_of m class config = zip (config_slots m class) (taken (config_types m class) config)
 
+pub live_with : (m n : Meaning) (live first second : Places) (place class : ℕ) (values : Meaning → List (ℕ × Value)) → first ≡ map.insert live place (new_object m class) → n ≡ m
+    → IfSome (map.get first place) (λ o. second ≡ map.insert first place (with_slots n (values n) o))
+    → second ≡ map.insert live place (with_slots m (values m) (new_object m class))
+live_with m n live first second place class values is same stored =
+    of_found (map.get first place) (new_object m class) (λ o. second ≡ map.insert first place (with_slots n (values n) o))
+    (ap (λ (l : Places). map.get l place) is ∙ get_put live place (new_object m class)) stored
+    ∙ ap (λ (l : Places). map.insert l place (with_slots n (values n) (new_object m class))) is
+    ∙ put_twice live place (new_object m class) (with_slots n (values n) (new_object m class))
+    ∙ ap (λ (x : Meaning). map.insert live place (with_slots x (values x) (new_object m class))) same
+
 pub live_two : (m n : Meaning) (live first second : Places) (place class : ℕ) (config : List ℕ) → first ≡ map.insert live place (new_object m class) → n ≡ m
     → IfSome (map.get first place) (λ o. second ≡ map.insert first place (with_slots n (zip (config_slots n class) (taken (config_types n class) config)) o))
     → second ≡ map.insert live place (with_slots m (zip (config_slots m class) (taken (config_types m class) config)) (new_object m class))
-live_two m n live first second place class config is same stored =
-    of_found (map.get first place) (new_object m class) (λ o. second ≡ map.insert first place (with_slots n (config_of n class config) o))
-    (ap (λ (l : Places). map.get l place) is ∙ get_put live place (new_object m class)) stored
-    ∙ ap (λ (l : Places). map.insert l place (with_slots n (config_of n class config) (new_object m class))) is
-    ∙ put_twice live place (new_object m class) (with_slots n (config_of n class config) (new_object m class))
-    ∙ ap (λ (x : Meaning). map.insert live place (with_slots x (config_of x class config) (new_object m class))) same
+live_two m n live first second place class config is same stored = live_with m n live first second place class (λ x. config_of x class config) is same stored
 
 module _ {E : Type 0} (g : Ghosts E) (h : Held E) (was : IsHeld (g.meaning h.engine) (g.live h.engine) h.nodes) (parent id : Id) (kind : TypeNo) (place : Place) (name config : List ℕ) (engine : E) (nodes after : Nodes) (k : Node)
     (fresh : map.get (g.live h.engine) place.0 ≡ None)

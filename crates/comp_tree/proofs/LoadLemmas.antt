@@ -13,18 +13,18 @@ use Rattle.std.specs.Cmp.{nat_cmp_total}
 use Rattle.std.proofs.lemmas.Bool.{cases_lt}
 use Rattle.std.proofs.lemmas.Bool.Decides.{nat_tests}
 use Rattle.sed_value.specs.declared.id.Id.{Id}
+use Rattle.sed_value.specs.declared.value.Value.{Value}
 use Rattle.sed_typed.specs.declared.number.TypeNo.{TypeNo}
 use Rattle.sed_engine.specs.declared.call.Place.{Place}
 use Rattle.sed_engine.specs.Code.{Meaning, Object, Places, new_object}
-use Rattle.prop_values.specs.Properties.{config_slots, config_types, with_slots}
-use Rattle.prop_values.specs.Values.{taken}
+use Rattle.prop_values.specs.Properties.{config_slots, with_slots}
 use Rattle.node_table.specs.declared.node.Node.{Node}
 use Rattle.comp_tree.specs.declared.loaded.Loaded.{Loaded}
 use Rattle.comp_tree.specs.Application.{ById, Component, children_of, data_size_of, is_live, parent_of}
 use Rattle.comp_tree.specs.Held.{IsPlaced, IsTreeOf, Nodes, by_id_of, children_in, component_of, parent_in}
 use Rattle.comp_tree.specs.Loads.{IsToLoad, loaded, loaded_component}
 use Rattle.comp_tree.specs.Shape.{IsTree}
-use Rattle.comp_tree.proofs.AddLemmas.{class_kept, live_two}
+use Rattle.comp_tree.proofs.AddLemmas.{class_kept, live_with}
 use Rattle.comp_tree.proofs.DeleteLemmas.{parent_is as parent_same}
 use Rattle.comp_tree.proofs.EditLemmas.{children_is, live_same}
 use Rattle.comp_tree.proofs.HeldLemmas.{apart_from_new, by_id-put, component_with, get-by_id, placed_add}
@@ -153,22 +153,22 @@ loaded_tree live nodes all is tree =
 
 module _ (m n : Meaning) (live mid left : Places) (nodes after : Nodes) (was : IsPlaced m live nodes) (e : Loaded) (place : Place) (k : Node)
     (fresh : map.get live place.0 ≡ None) (added : mid ≡ map.insert live place.0 (new_object m e.kind.0)) (meaning : n ≡ m)
-    (bytes : List ℕ) (bytes_are : bytes ≡ e.config) (stored : IfSome (map.get mid place.0) (λ o. left ≡ map.insert mid place.0 (with_slots n (zip (config_slots n e.kind.0) (taken (config_types n e.kind.0) bytes)) o)))
+    (values : List Value) (values_are : values ≡ e.config) (stored : IfSome (map.get mid place.0) (λ o. left ≡ map.insert mid place.0 (with_slots n (zip (config_slots n e.kind.0) values) o)))
     (free : map.get nodes e.id.0 ≡ None) (put : after ≡ map.insert nodes e.id.0 k)
     (kind_is : k.kind ≡ e.kind) (name_is : k.name ≡ e.name) (parent_is : k.parent ≡ e.parent) (children_are : k.children ≡ map_list (λ (id : Id). id.0) e.children) (fault_is : k.fault ≡ 0) (place_is : k.place ≡ place) where
   object : Object
-  object = with_slots m (zip (config_slots m e.kind.0) (taken (config_types m e.kind.0) e.config)) (new_object m e.kind.0)
+  object = with_slots m (zip (config_slots m e.kind.0) e.config) (new_object m e.kind.0)
 
   left_is : left ≡ map.insert live k.place.0 object
   unfolding object
   left_is =
-      live_two m n live mid left place.0 e.kind.0 bytes added meaning stored
-      ∙ ap (λ (config : List ℕ). map.insert live place.0 (with_slots m (zip (config_slots m e.kind.0) (taken (config_types m e.kind.0) config)) (new_object m e.kind.0))) bytes_are
+      live_with m n live mid left place.0 e.kind.0 (λ x. zip (config_slots x e.kind.0) values) added meaning stored
+      ∙ ap (λ (config : List Value). map.insert live place.0 (with_slots m (zip (config_slots m e.kind.0) config) (new_object m e.kind.0))) values_are
       ∙ ap (λ (p : Place). map.insert live p.0 object) (sym place_is)
 
   class_is : object.class ≡ k.kind.0
   unfolding object
-  class_is = class_kept m (zip (config_slots m e.kind.0) (taken (config_types m e.kind.0) e.config)) (new_object m e.kind.0) ∙ ap (λ (t : TypeNo). t.0) (sym kind_is)
+  class_is = class_kept m (zip (config_slots m e.kind.0) e.config) (new_object m e.kind.0) ∙ ap (λ (t : TypeNo). t.0) (sym kind_is)
 
   fresh_there : map.get live k.place.0 ≡ None
   fresh_there = ap (λ (p : Place). map.get live p.0) place_is ∙ fresh

@@ -1,5 +1,5 @@
 -- Components that are loaded, each as an entry tells of it, and no command makes them.
-use Rattle.std.specs.Prelude.{ℕ, ◌≡◌, ◌<◌, ◌≤◌, IsTrue, nat_eq, List, length, map as map_list, None}
+use Rattle.std.specs.Prelude.{ℕ, ◌<◌, ◌≤◌, IsTrue, nat_eq, List, length, map as map_list}
 use Rattle.std.specs.List.{All, IsDistinct, zip}
 use Rattle.std.specs.Option.{option_map}
 use Rattle.std.specs.FinMap as map
@@ -7,8 +7,7 @@ use Rattle.sed_value.specs.declared.id.Id.{Id}
 use Rattle.sed_typed.specs.Contents.{Contents}
 use Rattle.sed_engine.specs.Code.{Meaning, is_creatable, new_object}
 use Rattle.prop_values.specs.Properties.{config_slots, config_types, with_slots}
-use Rattle.prop_values.specs.Read.{refusal_of_values}
-use Rattle.prop_values.specs.Values.{taken}
+use Rattle.prop_values.specs.Values.{AreOfTypes}
 use Rattle.comp_tree.specs.declared.loaded.Loaded.{Loaded}
 use Rattle.comp_tree.specs.Application.{ById, Component, Components, children_of, is_live, most_children, most_components, parent_of}
 use Rattle.comp_tree.specs.Shape.{IsTree}
@@ -21,7 +20,7 @@ loaded_component m l = record {
   name = l.name;
   parent = option_map (λ (id : Id). id.0) l.parent;
   children = map_list (λ (id : Id). id.0) l.children;
-  contents = (with_slots m (zip (config_slots m l.kind.0) (taken (config_types m l.kind.0) l.config)) (new_object m l.kind.0)).contents;
+  contents = (with_slots m (zip (config_slots m l.kind.0) l.config) (new_object m l.kind.0)).contents;
   fault = 0;
 }
 
@@ -37,7 +36,7 @@ pub record IsToLoad (m : Meaning) (l : Loaded) : Type 0 where
   pub id : l.id.0 < most_components
   pub creatable : IsTrue (is_creatable m l.kind.0)
   pub children : length l.children ≤ most_children
-  pub config : refusal_of_values (config_types m l.kind.0) l.config ≡ None
+  pub config : AreOfTypes (config_types m l.kind.0) l.config
 
 -- entries with ids of their own, which are one tree
 pub record AreToLoad (m : Meaning) (entries : List Loaded) : Type 0 where

@@ -6,7 +6,8 @@
 //! components over an `Engine`, which keeps their values and runs their root calls; each of its
 //! calls leaves what the definition of its name says, or gives the first refusal of its table and
 //! leaves all as it was, and says which marks of changed parts it sets. Nodes are kept in a table; room
-//! for all that there may be is taken when a tree is made. Links and cycles are to stand on it.
+//! for all that there may be is taken when a tree is made. The application with its links (link_prop)
+//! stands on it, and by it all that serves, runs, tells and keeps one.
 #![tactic(auto)]
 
 pub mod entry;

@@ -9,7 +9,7 @@ ghost use Rattle.comp_tree.specs.Loads.{IsToLoad, loaded, loaded_component};
 
 use crate::loaded::Loaded;
 use node_table::{Children, Marks, Node, Nodes};
-use prop_values::store_config;
+use prop_values::store_values;
 use sed_engine::{AddRefusal, Engine, Place};
 use sed_value::Id;
 
@@ -61,7 +61,7 @@ fn load_one<E: Engine>(engine: &mut E, nodes: &mut Nodes, entry: &Loaded) -> Res
         Ok(place) => place,
         Err(refusal) => return Err(refusal),
     };
-    store_config(engine, place, entry.kind, entry.config.as_slice());
+    store_values(engine, place, entry.kind, entry.config.as_slice());
     let node = loaded_node(entry, place);
     nodes.insert(entry.id, node);
     Ok(())

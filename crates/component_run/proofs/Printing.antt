@@ -1,14 +1,10 @@
--- The lines of slots, one after another; and how many slots a class has.
-use Rattle.std.proofs.Common.{◌≡◌, ℕ, ◌+◌, ◌<◌, ◌≤◌, List, [], ◌∷◌, ◌++◌, length, take, Option, Some, None, refl, sym, ap, subst, ◌∙◌, arith}
+-- The lines of a class's slots, and how many of them there are.
+use Rattle.std.proofs.Common.{◌≡◌, ℕ, ◌≤◌, List, [], length, Option, Some, None, refl, sym, ap, subst, ◌∙◌, arith}
 use Rattle.std.specs.Prelude.{All, slice_get}
 use Rattle.std.specs.List.{enumerate_from, flat_map}
 use Rattle.std.specs.Option.{option_map_or}
-use Rattle.std.proofs.Math.ListN.{get_or}
-use Rattle.std.proofs.lemmas.List.{flat_map_more, take_more}
 use Rattle.std.proofs.lemmas.List.Elements.{All-get_or}
-use Rattle.std.proofs.lemmas.List.FromFn.{get_or-enumerate_from, length-enumerate_from}
 use Rattle.std.proofs.lemmas.Option.{get_or_from_slice_get, slice_get_within}
-use Rattle.std.proofs.Math.Seq.{take-length}
 use Rattle.sed_typed.specs.declared.schema.ClassInfo.{ClassInfo}
 use Rattle.sed_typed.specs.declared.schema.Schema.{Schema}
 use Rattle.sed_typed.specs.declared.schema.SlotInfo.{SlotInfo}
@@ -16,25 +12,13 @@ use Rattle.sed_typed.specs.Classes.{slots}
 use Rattle.sed_engine.specs.Code.{Meaning}
 use Rattle.sed_engine.specs.Whole.{IsWhole}
 
-within : {X : Type 0} (xs : List X) (i : ℕ) → i < length xs → i < length (enumerate_from 0 xs)
-within xs i lt = subst (λ (n : ℕ). i < n) (sym (length-enumerate_from 0 xs)) lt
-
-from_zero : (i : ℕ) → 0 + i ≡ i
-from_zero i = grind arith
-
--- with one more line
-pub one_more : {X : Type 0} (f : ℕ × X → List ℕ) (before : List ℕ) (xs : List X) (i : ℕ) (d : X) → i < length xs →
-    (before ++ flat_map f (take i (enumerate_from 0 xs))) ++ f (i, get_or xs i d) ≡ before ++ flat_map f (take (i + 1) (enumerate_from 0 xs))
-one_more f before xs i d lt =
-    flat_map_more f before (take i (enumerate_from 0 xs)) (i, get_or xs i d)
-    ∙ ap (λ l. before ++ flat_map f l) (sym (take_more (enumerate_from 0 xs) i (0, d) (within xs i lt)
-    ∙ ap (λ p. take i (enumerate_from 0 xs) ++ p ∷ []) (get_or-enumerate_from 0 xs i (0, d) lt ∙ ap (λ n. (n, get_or xs i d)) (from_zero i))))
-
--- all of them
-pub all_there : {X : Type 0} (f : ℕ × X → List ℕ) (xs : List X) (i : ℕ) → i ≡ length xs →
-    flat_map f (take i (enumerate_from 0 xs)) ≡ flat_map f (enumerate_from 0 xs)
-all_there f xs i e =
-    ap (flat_map f) (ap (λ (n : ℕ). take n (enumerate_from 0 xs)) (e ∙ sym (length-enumerate_from 0 xs)) ∙ take-length (enumerate_from 0 xs))
+-- the lines of the slots that a schema gives a class are those of the slots that its meaning has
+pub same_lines : (f : ℕ × SlotInfo → List ℕ) (m : Meaning) (schema : Schema) (all : List SlotInfo) (class own : ℕ) →
+    all ≡ slots schema.classes class → schema ≡ m.schema → own ≡ class →
+    flat_map f (enumerate_from 0 all) ≡ flat_map f (enumerate_from 0 (slots m.schema.classes own))
+same_lines f m schema all class own is same of_class =
+    ap (λ (xs : List SlotInfo). flat_map f (enumerate_from 0 xs))
+    (is ∙ ap (λ (s : Schema). slots s.classes class) same ∙ ap (slots m.schema.classes) (sym of_class))
 
 slots_few : (xs : List ClassInfo) (class : ℕ) → All (λ (c : ClassInfo). length c.slots ≤ 64) xs → length (slots xs class) ≤ 64
 slots_few xs class h = at (slice_get xs class) refl

@@ -19,7 +19,7 @@ use Rattle.dasp_session.specs.Closing.{not_known, timed_out}
 use Rattle.dasp_session.specs.declared.handed.Effect.{Effect as Told}
 use Rattle.dasp_session.specs.declared.handed.Effect.TheVariants.{Nothing as NothingHere, Ended as EndedHere, Payload as PayloadHere}
 use Rattle.dasp_session.specs.declared.handed.Handed.{Handed}
-use Rattle.dasp_session.specs.declared.handed.Handed.TheVariants.{Payload as PayloadAt}
+use Rattle.dasp_session.specs.declared.handed.Handed.TheVariants.{Ended as EndedAt, Payload as PayloadAt}
 use Rattle.dasp_session.specs.Doing.{Does, IsEffect, handed_as}
 use Rattle.dasp_session.specs.Hearing.{Effect, nothing, ended, delivers, Step, silent, ends, is_proof, is_authenticated, authenticated, taken_in, delivered, answered, hears, in_session}
 use Rattle.dasp_session.specs.Keeping.{Like, Holds, IsOf, AllHold}
@@ -151,17 +151,31 @@ kept_at test (place ∷ places) (suc k) is =
     let rest : Kept test places k = kept_at test places k is in
     record { within = (let w : k < length places = rest.within in omega arith); holds = rest.holds }
 
+-- what is told of a place that is there
+pub of_place : {T : Type 0} (told : Place → T) (other : T) (places : List Place) (k : ℕ) (d : Place) → k < length places
+    → option_map_or told (slice_get places k) other ≡ told (get_or places k d)
+of_place told other [] k d within = absurd (omega arith)
+of_place told other (place ∷ places) zero d within = refl
+of_place told other (place ∷ places) (suc k) d within = of_place told other places k d (omega arith)
+
+-- and of one that was changed
+pub of_set : {T : Type 0} (told : Place → T) (other : T) (places : List Place) (k : ℕ) (place : Place) → k < length places
+    → option_map_or told (slice_get (set places k place) k) other ≡ told place
+of_set told other [] k place within = absurd (omega arith)
+of_set told other (first ∷ places) zero place within = refl
+of_set told other (first ∷ places) (suc k) place within = of_set told other places k place (omega arith)
+
+-- how many messages wait in it
+abbrev pub messages_of : Place → ℕ
+messages_of place = length place.sender.messages
+
 -- what is asked of a place that is there
 pub asked_at : (test : Place → Bool) (places : List Place) (k : ℕ) (d : Place) → k < length places → option_map_or test (slice_get places k) false ≡ test (get_or places k d)
-asked_at test [] k d within = absurd (omega arith)
-asked_at test (place ∷ places) zero d within = refl
-asked_at test (place ∷ places) (suc k) d within = asked_at test places k d (omega arith)
+asked_at test places k d within = of_place test false places k d within
 
 -- and of one that was changed
 pub asked_set : (test : Place → Bool) (places : List Place) (k : ℕ) (place : Place) → k < length places → option_map_or test (slice_get (set places k place) k) false ≡ test place
-asked_set test [] k place within = absurd (omega arith)
-asked_set test (first ∷ places) zero place within = refl
-asked_set test (first ∷ places) (suc k) place within = asked_set test places k place (omega arith)
+asked_set test places k place within = of_set test false places k place within
 
 -- the end of a tick
 pub ended-ticked : (k : ℕ) (moment : ℤ) (session : Session) → is_ended (handed_at k (ticked moment session).effect) ≡ is_over moment session
@@ -198,15 +212,22 @@ handed-effect k at payload nothing told is = ap (λ (t : Told). handed_as t k at
 handed-effect k at payload ended told is = ap (λ (t : Told). handed_as t k at) is
 handed-effect k at payload (delivers bytes) told is = (ap (λ (t : Told). handed_as t k at) is.0, is.1)
 
--- a payload is of the place that was asked
-pub record ToldAt (told : Told) (k other : ℕ) : Type 0 where
+-- a payload is of the place that was asked, and begins at the byte that was said
+pub record ToldAt (told : Told) (k at other begins : ℕ) : Type 0 where
   pub payload : told ≡ PayloadHere
   pub place : k ≡ other
+  pub start : at ≡ begins
 
-pub told_at : (told : Told) (k at other begins : ℕ) → handed_as told k at ≡ PayloadAt other begins → ToldAt told k other
+pub told_at : (told : Told) (k at other begins : ℕ) → handed_as told k at ≡ PayloadAt other begins → ToldAt told k at other begins
 told_at NothingHere k at other begins is = absurd (cc)
 told_at EndedHere k at other begins is = absurd (cc)
-told_at PayloadHere k at other begins is = record { payload = refl; place = cc }
+told_at PayloadHere k at other begins is = record { payload = refl; place = cc; start = cc }
+
+-- so is an end
+pub ended_in : (told : Told) (k at other : ℕ) → handed_as told k at ≡ EndedAt other → k ≡ other
+ended_in NothingHere k at other is = absurd (cc)
+ended_in EndedHere k at other is = cc
+ended_in PayloadHere k at other is = absurd (cc)
 
 -- a kind that is no hello's
 pub other-kind : (kind : MsgKind) (state : State) (from : Addr) (message : Message) → (kind ≡ Hello → ⊥) → received_as kind state from message ≡ told state from message

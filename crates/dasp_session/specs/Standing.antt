@@ -56,6 +56,11 @@ may_post sessions place =
     option_map_or (λ kept. kept.live && is_some kept.user && nat_lt (length kept.sender.messages) 31)
     (slice_get sessions.places.items place) false
 
+-- how many messages stand in it from the first one on that is not acknowledged
+abbrev pub waiting : Sessions → ℕ → ℕ
+waiting sessions place =
+    option_map_or (λ kept. length kept.sender.messages) (slice_get sessions.places.items place) 0
+
 abbrev pub is_ended : Handing → Bool
 is_ended none = false
 is_ended (ended_at place) = true

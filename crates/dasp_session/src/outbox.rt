@@ -1,5 +1,5 @@
 //! The datagrams that are to be sent.
-ghost use Rattle.std.specs.Prelude.{◌≡◌, ◌+◌, ◌<◌, ◌==◌, [], ◌∷◌, length, slice_index_or, IfOk};
+ghost use Rattle.std.specs.Prelude.{◌≡◌, ◌+◌, ◌<◌, ◌≤◌, ◌==◌, [], ◌∷◌, length, slice_index_or, IfOk};
 ghost use Rattle.dasp_msg.specs.Sending.{IsSentAs};
 ghost use Rattle.dasp_msg.specs.View.{message_of};
 ghost use Rattle.dasp_session.specs.Outbox.{CanGo, Datagram as Text, Sends};
@@ -60,11 +60,12 @@ impl Outbox {
         self.len == 0
     }
 
-    /// A datagram's address and bytes, by its place from 0 on.
+    /// A datagram's address and bytes, by its place from 0 on: at most 512 bytes.
     pub fn get(&self, place: usize) -> (Addr, &[u8])
         requires { place < length self.now }
-        ensures { (other : Text)
+        ensures is { (other : Text)
             → slice_index_or self.now place other ≡ record { to = result.0; bytes = result.1.now } }
+        ensures short { length result.1.now ≤ 512 }
     {
         self.datagrams[place].parts()
     }
@@ -120,7 +121,8 @@ impl Written {
     }
 
     fn parts(&self) -> (Addr, &[u8])
-        ensures { self.now ≡ record { to = result.0; bytes = result.1.now } }
+        ensures is { self.now ≡ record { to = result.0; bytes = result.1.now } }
+        ensures short { length result.1.now ≤ 512 }
     {
         (self.to, &self.bytes[..self.len])
     }

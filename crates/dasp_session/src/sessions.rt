@@ -1,6 +1,6 @@
 //! The sessions of a node.
-ghost use Rattle.std.specs.Prelude.{◌≡◌, ◌+◌, ◌<◌, ◌≤◌, ℕ, true, false, Some, None, Option, length, IfOk};
-ghost use Rattle.std.specs.Prelude.{count_by, is_some, not, ◌&&◌};
+ghost use Rattle.std.specs.Prelude.{◌≡◌, ◌+◌, ◌<◌, ◌≤◌, ℕ, true, false, Some, None, Option, length, drop, IfOk};
+ghost use Rattle.std.specs.Prelude.{count_by, is_some, nat_lt, not, ◌&&◌};
 ghost use Rattle.std.specs.Option.{option_map, option_and_then, option_map_or};
 ghost use Rattle.dasp_msg.specs.Shown.{Message};
 ghost use Rattle.dasp_msg.specs.View.{message_of};
@@ -81,7 +81,8 @@ impl Sessions {
 
     /// Handles a datagram that came from an address: what it does, what is sent and what is handed
     /// on is `received` of the message that the bytes are, or of none. At most one answer is put into the outbox, which
-    /// needs one free place. Where a payload is handed on, an answer may be posted in its session.
+    /// needs one free place. Where a payload is handed on, it is the message's own and stands within the bytes, and an
+    /// answer may be posted in its session.
     pub fn datagram(&mut self, from: Addr, bytes: &[u8], out: &mut Outbox) -> Handed
         requires { length out.old < 512 }
         ensures leaves { (state : State) (read : Option Message) → StandsFor self.old state → IsRead bytes.now read
@@ -89,6 +90,11 @@ impl Sessions {
         ensures hands { (state : State) (read : Option Message) → StandsFor self.old state → IsRead bytes.now read
             → Hands bytes.now (step.received state from read).handing result }
         ensures payload { (place at : ℕ) → result ≡ Handed.Payload place at → standing.may_post self.new place ≡ true }
+        ensures own { (message : Message) (place at : ℕ) → IsRead bytes.now (Some message)
+            → result ≡ Handed.Payload place at → drop at bytes.now ≡ message.payload }
+        ensures within { (place at : ℕ) → result ≡ Handed.Payload place at → at ≤ length bytes.now }
+        ensures payload_place { (place at : ℕ) → result ≡ Handed.Payload place at → place < 16 }
+        ensures ended_place { (place : ℕ) → result ≡ Handed.Ended place → place < 16 }
         ensures few { length out.new ≤ length out.old + 1 }
     {
         match read_msg(bytes) {
@@ -107,6 +113,9 @@ impl Sessions {
         ensures few { length out.new ≤ length out.old + 1 }
         ensures payload { (other begins : ℕ) → result ≡ Handed.Payload other begins
             → standing.may_post self.new other ≡ true }
+        ensures at_is { (other begins : ℕ) → result ≡ Handed.Payload other begins → begins ≡ at }
+        ensures payload_place { (other begins : ℕ) → result ≡ Handed.Payload other begins → other < 16 }
+        ensures ended_place { (other : ℕ) → result ≡ Handed.Ended other → other < 16 }
     {
         match msg.kind {
             MsgKind::Hello => {
@@ -196,6 +205,9 @@ impl Sessions {
         ensures few { length out.new ≤ length out.old + 1 }
         ensures payload { (other begins : ℕ) → result ≡ Handed.Payload other begins
             → standing.may_post self.new other ≡ true }
+        ensures at_is { (other begins : ℕ) → result ≡ Handed.Payload other begins → begins ≡ at }
+        ensures payload_place { (other begins : ℕ) → result ≡ Handed.Payload other begins → other < 16 }
+        ensures ended_place { (other : ℕ) → result ≡ Handed.Ended other → other < 16 }
     {
         let place = place_of(msg.to);
         if !is_here(&self.places[place], msg.to, from) {
@@ -205,8 +217,8 @@ impl Sessions {
         handed(effect, place as u8, at)
     }
 
-    /// Posts a message of at most 498 bytes in a session that is live, authenticated and has room, and sends it. Needs
-    /// one free place in the outbox.
+    /// Posts a message of at most 498 bytes in a session that is live, authenticated and has room, and sends it. One
+    /// message more waits in it then. Needs one free place in the outbox.
     pub fn post(&mut self, place: u8, bytes: &[u8], out: &mut Outbox)
         requires may { standing.may_post self.old place ≡ true }
         requires short { length bytes.now ≤ 498 }
@@ -216,6 +228,7 @@ impl Sessions {
         ensures open { standing.is_open self.new place ≡ true }
         ensures live { standing.is_live self.new place ≡ true }
         ensures one { length out.new ≡ length out.old + 1 }
+        ensures waits { standing.waiting self.new place ≡ standing.waiting self.old place + 1 }
     {
         ticking::post(
             &mut self.places[usize::from(place)],
@@ -223,6 +236,13 @@ impl Sessions {
             bytes,
             out,
         );
+    }
+
+    /// The moment, in nanoseconds.
+    pub fn moment(&self) -> i64
+        ensures { (state : State) → StandsFor self.now state → result ≡ state.moment }
+    {
+        self.moment
     }
 
     /// Lets the moment be the greater of what it was and this one, in nanoseconds.
@@ -235,7 +255,8 @@ impl Sessions {
     }
 
     /// Does the timeouts and then the resends of a live session, at the moment. It answers false exactly where the
-    /// session ended. Needs 31 free places in the outbox.
+    /// session ended. One that goes on sends each message that waits in it once at most, and at most 31 wait. Needs 31
+    /// free places in the outbox.
     pub fn tick(&mut self, place: u8, out: &mut Outbox) -> bool
         requires live { standing.is_live self.old place ≡ true }
         requires room { length out.old + 31 ≤ 512 }
@@ -246,6 +267,8 @@ impl Sessions {
         ensures live { standing.is_live self.new place ≡ result }
         ensures open { standing.is_open self.new place ≡ (result && standing.is_open self.old place) }
         ensures few { length out.new ≤ length out.old + 31 }
+        ensures waits { result ≡ true → length out.new ≤ length out.old + standing.waiting self.new place }
+        ensures most { standing.waiting self.new place ≤ 31 }
     {
         ticking::tick(&mut self.places[usize::from(place)], self.moment, out)
     }
@@ -286,6 +309,7 @@ impl Sessions {
         ensures stands { (state : State) → StandsFor self.now state
             → result ≡ option_map_or (λ session. has_room session.posted) (session_at state place) false }
         ensures kept { standing.may_post self.now place ≡ (standing.is_open self.now place && result) }
+        ensures waits { result ≡ nat_lt (standing.waiting self.now place) 31 }
     {
         self.places[usize::from(place)].sender.room()
     }

@@ -32,6 +32,8 @@ pub(crate) fn tick(place: &mut Place, moment: i64, out: &mut Outbox) -> bool
     ensures live { place.new.live ≡ result }
     ensures user { place.new.user ≡ place.old.user }
     ensures few { length out.new ≤ length out.old + 31 }
+    ensures waits { result ≡ true → length out.new ≤ length out.old + length place.new.sender.messages }
+    ensures most { length place.new.sender.messages ≤ 31 }
 {
     if is_over(place, moment) {
         place.live = false;
@@ -79,7 +81,8 @@ fn send_all_due(place: &mut Place, moment: i64, out: &mut Outbox)
         → Does session (ticking.sent_all moment session) place.new out.old out.new }
     ensures live { place.new.live ≡ true }
     ensures user { place.new.user ≡ place.old.user }
-    ensures few { length out.new ≤ length out.old + 31 }
+    ensures as_many { length place.new.sender.messages ≡ length place.old.sender.messages }
+    ensures few { length out.new ≤ length out.old + length place.old.sender.messages }
 {
     'due: while send_due(place, moment, out) {}
 }
@@ -93,6 +96,7 @@ fn send_due(place: &mut Place, moment: i64, out: &mut Outbox) -> bool
     ensures fewer { result ≡ true → count_by (is_due moment) place.new.sender.messages
         < count_by (is_due moment) place.old.sender.messages }
     ensures out { length out.new ≡ length out.old + (if result then 1 else 0) }
+    ensures as_many { length place.new.sender.messages ≡ length place.old.sender.messages }
     ensures live { place.new.live ≡ place.old.live }
     ensures user { place.new.user ≡ place.old.user }
 {
@@ -123,6 +127,7 @@ pub(crate) fn post(place: &mut Place, moment: i64, bytes: &[u8], out: &mut Outbo
     ensures live { place.new.live ≡ true }
     ensures user { place.new.user ≡ place.old.user }
     ensures one { length out.new ≡ length out.old + 1 }
+    ensures waits { length place.new.sender.messages ≡ length place.old.sender.messages + 1 }
 {
     let number = place.sender.push(bytes, moment);
     place.owed = false;

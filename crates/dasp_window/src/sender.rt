@@ -1,5 +1,5 @@
 //! The sending side of a session: messages until they are acknowledged.
-ghost use Rattle.std.specs.Prelude.{◌≡◌, ℕ, ◌<◌, ◌≤◌, List, [], length, Some, IfOk, IsTrue, nat_lt, count_by};
+ghost use Rattle.std.specs.Prelude.{◌≡◌, ℕ, ◌+◌, ◌<◌, ◌≤◌, List, [], length, Some, IfOk, IsTrue, nat_lt, count_by};
 ghost use Rattle.dasp_window.specs.Numbers.{wire_number};
 ghost use Rattle.dasp_window.specs.Posted.{has_room, after_push, after_ack, after_resend, bytes_at};
 ghost use Rattle.dasp_window.specs.Posted.{is_due, due_from, due_of};
@@ -67,6 +67,7 @@ impl Sender {
         ensures number { (posted : List Message) → SendsLike self.old posted → result ≡ wire_number (length posted) }
         ensures after { (posted : List Message) → SendsLike self.old posted → SendsLike self.new (after_push posted bytes.now now) }
         ensures there { IsTrue (has_message self.new result) }
+        ensures longer { length self.new.messages ≡ length self.old.messages + 1 }
     {
         let number = self.first.wrapping_add(self.messages.len() as u16);
         self.messages.push_back_reserved(Message {
@@ -107,6 +108,7 @@ impl Sender {
         ensures after { (posted : List Message) → SendsLike self.old posted → SendsLike self.new (after_resend posted number now) }
         ensures there { (other : ℕ) → has_message self.new other ≡ has_message self.old other }
         ensures fewer { count_by (is_due now) self.new.messages < count_by (is_due now) self.old.messages }
+        ensures as_many { length self.new.messages ≡ length self.old.messages }
     {
         let place = usize::from(number.wrapping_sub(self.first));
         send_again(&mut self.messages[place], now);

@@ -113,9 +113,9 @@ goes_then F a b c free first next value end done rest =
     both_reads F a b c (λ reads. first reads (Ok value)) (λ reads. UnlessFree free (next value reads) end) (λ reads. UnlessFree free (AndThen first next reads) end)
     (λ front back p q. goes_end free first next value end front back p q) done rest
 
-pub decided : {E X : Type 0} (free : E → Bool) (Holds : Result X E → Type 0) (end : Result X E) → UnlessFree free Holds end → UnlessFree free (Decides Holds []) end
+pub decided : {E X : Type 0} (free : E → Bool) (Holds : Result X E → Type 0) (end : Result X E) → UnlessFree free Holds end → UnlessFree free (Decides {A = Read} Holds []) end
 decided free Holds (Ok value) holds = record { none = refl; holds = holds }
-decided free Holds (Err refusal) holds = unless_map (free refusal) (Holds (Err refusal)) (Decides Holds [] (Err refusal)) (λ h. record { none = refl; holds = h }) holds
+decided free Holds (Err refusal) holds = unless_map (free refusal) (Holds (Err refusal)) (Decides {A = Read} Holds [] (Err refusal)) (λ h. record { none = refl; holds = h }) holds
 
 -- one step, and then no read more
 pub decides_then : {T E X Y : Type 0} (F : Ghosts T) (a b : T) (free : E → Bool) (first : List Read → Result X E → Type 0) (Holds : X → Result Y E → Type 0) (value : X) (end : Result Y E)

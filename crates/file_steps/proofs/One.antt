@@ -13,12 +13,12 @@ abbrev pub IsOne : {E X : Type 0} → (List Read → Result X E → Type 0) → 
 IsOne {E} {X} step = (reads others : List Read) (end other : Result X E) → step reads end → step others other
     → Agree reads others → (reads ≡ others) × (end ≡ other)
 
-agree_front : (f k g l : List Read) → Agree (f ++ k) (g ++ l) → Agree f g
+pub agree_front : (f k g l : List Read) → Agree (f ++ k) (g ++ l) → Agree f g
 agree_front [] k g l agree = tt
 agree_front (r ∷ f) k [] l agree = tt
 agree_front (r ∷ f) k (s ∷ g) l agree = (agree.0, agree_front f k g l agree.1)
 
-agree_back : (f k l : List Read) → Agree (f ++ k) (f ++ l) → Agree k l
+pub agree_back : (f k l : List Read) → Agree (f ++ k) (f ++ l) → Agree k l
 agree_back [] k l agree = agree
 agree_back (r ∷ f) k l agree = agree_back f k l agree.1
 

@@ -1,4 +1,5 @@
--- What is read of files, step by step, and how it ends: with a value, or at the first refusal.
+-- What is asked of the outside, step by step, and how it ends: with a value, or at the first refusal. What is asked may
+-- be reads of files, or whatever else is told with its answer.
 use Rattle.std.specs.Prelude.{◌≡◌, ℕ, Bool, List, [], ◌∷◌, ◌++◌, Option, Result, Ok, Err, MatchBool}
 
 -- A read of a file: its name, and the text that it gave, none where it failed.
@@ -10,17 +11,17 @@ pub record Read : Type 0 where
 abbrev pub Step : Type 0 → Type 0 → Type 1
 Step E X = List Read → Result X E → Type 0
 
--- Nothing is read, and the step ends with a value or a refusal of which this holds.
-pub record Decides {E X : Type 0} (Holds : Result X E → Type 0) (reads : List Read) (end : Result X E) : Type 0 where
-  pub none : reads ≡ []
+-- Nothing is asked, and the step ends with a value or a refusal of which this holds.
+pub record Decides {A E X : Type 0} (Holds : Result X E → Type 0) (asks : List A) (end : Result X E) : Type 0 where
+  pub none : asks ≡ []
   pub holds : Holds end
 
--- One step, and then another with its value. A refusal of the first ends both, and nothing more is read.
-pub data AndThen {E X Y : Type 0} (first : List Read → Result X E → Type 0) (next : X → List Read → Result Y E → Type 0)
-    (reads : List Read) (end : Result Y E) : Type 0 where
-  stops : (refusal : E) → first reads (Err refusal) → end ≡ Err refusal → AndThen first next reads end
-  goes_on : (front back : List Read) (value : X) → reads ≡ front ++ back → first front (Ok value) → next value back end
-      → AndThen first next reads end
+-- One step, and then another with its value. A refusal of the first ends both, and nothing more is asked.
+pub data AndThen {A E X Y : Type 0} (first : List A → Result X E → Type 0) (next : X → List A → Result Y E → Type 0)
+    (asks : List A) (end : Result Y E) : Type 0 where
+  stops : (refusal : E) → first asks (Err refusal) → end ≡ Err refusal → AndThen first next asks end
+  goes_on : (front back : List A) (value : X) → asks ≡ front ++ back → first front (Ok value) → next value back end
+      → AndThen first next asks end
 
 -- A step for each item, one after another. The first refusal ends them.
 abbrev pub Each : {E X Y : Type 0} → (X → List Read → Result Y E → Type 0) → List X

@@ -4,7 +4,7 @@
 //! nothing more is read. Steps are put together: one and then another with its value, one for each item of a row.
 //! `HasReads` ties a step to a call: which texts its reads gave, what became of the counts of failed reads, and that
 //! no file changed. `read_text` is the step of one file. Whatever reads several files, each only after the one before
-//! it was accepted, is said by these words; the loading of kits stands on this crate.
+//! it was accepted, is said by these words; kit_sources and input_files stand on this crate.
 #![tactic(auto)]
 
 mod reading;

@@ -10,6 +10,7 @@ ghost use Rattle.comp_tree.specs.Refusals.{first_refusal, refusals_of_clear, ref
 ghost use Rattle.link_prop.specs.Marks.{is_marked};
 ghost use Rattle.link_prop.specs.Marks.AppPart.{OfLinks};
 
+mod building;
 mod commands;
 mod copying;
 mod deleting;
@@ -27,7 +28,7 @@ use std::marker::Model;
 /// The components of an application over an engine, the links between their slots, and the marks of what may have changed.
 ///
 /// Contracts speak of the application that it stands for, by its tree and its links. Each call says besides what it does to
-/// the marks. Where the engine is fixed, no call after `new` wants memory.
+/// the marks. Where the engine is fixed, no call after `new` or `build` wants memory.
 #[derive(Drop)]
 pub struct App<E: Engine> {
     tree: Tree<E>,

@@ -1,14 +1,15 @@
 -- The two lists in which links are kept, when one goes in and when some go out.
-use Rattle.std.proofs.Common.{◌≡◌, ℕ, suc, ◌<◌, ◌≤◌, Bool, true, false, not, ◌||◌, ◌==◌, if◌then◌else◌, List, [], ◌∷◌, ◌++◌, length, drop, get_or, refl, sym, ap, subst, ◌∙◌, ⊎_elim, arith}
+use Rattle.std.proofs.Common.{◌≡◌, ℕ, suc, ◌<◌, ◌≤◌, Bool, true, false, not, ◌||◌, ◌==◌, if◌then◌else◌, List, [], ◌∷◌, ◌++◌, length, length-take, take, drop, get_or, refl, sym, ap, subst, ◌∙◌, ⊎_elim, arith}
 use Rattle.std.specs.Prelude.{filter}
 use Rattle.std.specs.List.{All, list_any}
 use Rattle.std.proofs.lemmas.Bool.{cases_Bool, cond-true, cond-false, eqb-true, eqb-false, eq-eqb, ne_eqb, or_parts}
 use Rattle.std.proofs.lemmas.Bool.Decides.{nat_tests}
+use Rattle.std.proofs.lemmas.List.{get_or-take, get_or_default}
 use Rattle.std.proofs.lemmas.List.Elements.{All-head, All-tail, All-cons, All-nil, All-filter}
 use Rattle.std.proofs.lemmas.List.Kept.{AllPairs-filter}
 use Rattle.std.proofs.lemmas.Map.Views.{any-filter_same}
 use Rattle.link_table.specs.Link.{Link, most_links}
-use Rattle.link_table.specs.Links.{has_target, is_before, is_same_link}
+use Rattle.link_table.specs.Links.{AreInOrder, has_target, is_before, is_same_link, with_link}
 use Rattle.link_table.specs.Marks.{AreMarked, is_at_mark, is_marked}
 use Rattle.link_table.specs.Rows.{AreKept, comes_first, is_from, placed}
 use Rattle.link_table.proofs.FilterLemmas.{filter_yes, filter_no, filter_swap, filter_where}
@@ -159,6 +160,28 @@ kept_with xs ys r s r' s' kept l free few room other_room =
       has_room = omega (arith, kept.has_room);
       has_other_room = omega (arith, kept.has_other_room);
     }
+
+-- ---- one goes in behind the others
+
+pub free_behind : (l : Link) (xs : List Link) → All (λ k. is_before k l ≡ true) xs → list_any (has_target l.to l.to_slot) xs ≡ false
+free_behind l [] all = refl
+free_behind l (x ∷ xs) all =
+    let first : is_before x l ≡ true = All-head (λ k. is_before k l ≡ true) x xs all in
+    let unlike : has_target l.to l.to_slot x ≡ false = grind (arith, nat_tests) in
+    rw unlike (free_behind l xs (All-tail (λ k. is_before k l ≡ true) x xs all))
+
+pub with_behind : (l : Link) (xs : List Link) → All (λ k. is_before k l ≡ true) xs → with_link l xs ≡ xs ++ l ∷ []
+with_behind l [] all = refl
+with_behind l (x ∷ xs) all =
+    cond-true (is_before x l) (x ∷ with_link l xs) (l ∷ x ∷ xs) (All-head (λ k. is_before k l ≡ true) x xs all)
+    ∙ ap (λ ys. x ∷ ys) (with_behind l xs (All-tail (λ k. is_before k l ≡ true) x xs all))
+
+-- the links before one in a list that ascends
+pub before_here : (xs : List Link) (n : ℕ) (l : Link) → AreInOrder xs → n < length xs → get_or xs n l ≡ l → All (λ k. is_before k l ≡ true) (take n xs)
+before_here xs n l up within is k d below =
+    let lower : k < n = omega (arith, below, length-take n xs) in
+    subst (λ m. is_before m l ≡ true) (sym (get_or-take n xs k d lower))
+    (subst (λ m. is_before (get_or xs k d) m ≡ true) (get_or_default xs n d l within ∙ is) (up k n d lower within))
 
 -- ---- some go out
 

@@ -4,7 +4,7 @@
 //! which are one. It finds the link into a slot and those at a component by binary search, whichever end
 //! is there, and each change leaves what the definition of its name says. Room for all links that there
 //! may be is taken when a table is made, so no later call takes memory. `laws` says what follows from the
-//! order. The links of an application are to stand on it.
+//! order. The links of an application (link_prop) stand on it.
 #![tactic(auto)]
 
 mod edits;

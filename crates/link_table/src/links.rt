@@ -1,8 +1,8 @@
 //! The table.
-ghost use Rattle.std.specs.Prelude.{◌≡◌, ◌<◌, ◌≤◌, ℕ, List, [], false, IfOk, is_some, nat_le, find, length, slice_get};
-ghost use Rattle.std.specs.List.{list_any};
+ghost use Rattle.std.specs.Prelude.{◌≡◌, ◌<◌, ◌≤◌, ◌++◌, ◌∷◌, ℕ, List, [], false, IfOk, IsTrue, is_some, nat_le, find, length, slice_get};
+ghost use Rattle.std.specs.List.{All, list_any};
 ghost use Rattle.link_table.specs.Link.{most_links};
-ghost use Rattle.link_table.specs.Links.{AreInOrder, has_target, is_same_link, links_at, links_into};
+ghost use Rattle.link_table.specs.Links.{AreInOrder, has_target, is_before, is_same_link, links_at, links_into};
 ghost use Rattle.link_table.specs.Links.{with_link, without_link, without_links_at};
 ghost use Rattle.link_table.specs.Marks.{AreMarked};
 
@@ -20,8 +20,8 @@ pub const MOST_LINKS: usize = 8192;
 /// The links of an application, at most 8,192, in ascending order of their targets: by the component's id
 /// and then by the slot. Contracts see that list; no two of its links have one target.
 ///
-/// Room for all is taken by `new`; no other call takes memory. A search takes time in the logarithm of the
-/// number of links, and in the number of those at the component. Only `remove_at` goes over all links.
+/// Room for all is taken by `new` and `from_slice`; no other call takes memory. A search takes time in the logarithm of
+/// the number of links, and in the number of those at the component. Only `remove_at` goes over all links.
 #[derive(Drop)]
 pub struct Links {
     // In the order of the targets.
@@ -43,7 +43,7 @@ impl Model for Links {
 }
 
 impl Links {
-    /// No links, and room for all that there may be.
+    /// No links, and room for all that there may be. `Memory` comes where that is refused.
     pub fn new(alloc: Global) -> Result<Links, Memory>
         ensures { IfOk result (λ links. links ≡ []) }
     {
@@ -53,6 +53,19 @@ impl Links {
             by_target,
             by_source,
         })
+    }
+
+    /// These links, whose targets ascend, and room for all that there may be. `Memory` comes where that is refused.
+    pub fn from_slice(alloc: Global, links: &[LinkRec]) -> Result<Links, Memory>
+        requires order { AreInOrder links.now }
+        requires few { length links.now ≤ most_links }
+        ensures { IfOk result (λ all. all ≡ links.now) }
+    {
+        let mut all = Links::new(alloc)?;
+        for l in links {
+            all.push(*l);
+        }
+        Ok(all)
     }
 
     /// How many there are: at most 8,192, in the order of their targets.
@@ -125,6 +138,15 @@ impl Links {
     {
         put_by_target(&mut self.by_target, link);
         put_by_source(&mut self.by_source, link);
+    }
+
+    /// Puts a link in behind the others. Their targets come before its own.
+    pub fn push(&mut self, link: LinkRec)
+        requires order { All (λ k. IsTrue (is_before k link)) self.old }
+        requires room { length self.old < most_links }
+        ensures { self.new ≡ self.old ++ link ∷ [] }
+    {
+        self.insert(link);
     }
 
     /// Takes a link out, and says whether it was there; where it was not, all stays.

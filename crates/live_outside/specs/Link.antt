@@ -1,5 +1,5 @@
 -- What a link means, and what each of its calls does to that.
-use Rattle.std.specs.Prelude.{◌≡◌, ◌≤◌, ◌+◌, ◌-◌, ◌^◌, ℕ, min, List, [], ◌∷◌, length, take, Option, Some, None, if◌then◌else◌, nat_le}
+use Rattle.std.specs.Prelude.{◌≡◌, ◌≤◌, ◌+◌, ◌-◌, ◌^◌, ℕ, Bool, min, List, [], ◌∷◌, length, take, Option, Some, None, if◌then◌else◌, nat_le}
 use Rattle.live_outside.specs.declared.polling.Polling.{Polling}
 use Rattle.live_outside.specs.declared.polling.Polling.TheVariants as to_come
 use Rattle.live_outside.specs.declared.link.Polled.{Polled}
@@ -42,10 +42,11 @@ KeepsUnlessGot (Got peer len) before after = Unit {0}
 KeepsUnlessGot Nothing before after = after ≡ before
 KeepsUnlessGot Failed before after = after ≡ before
 
--- How often a port was asked for, and the last one.
+-- How often a port was asked for, the last one, and whether that was taken.
 pub record Bound : Type 0 where
   pub count : ℕ
   pub port : ℕ
+  pub taken : Bool
 
 -- A port was asked for once more, and it is the last one. The count stands still at its end.
 abbrev pub Binds : Option Bound → Option Bound → ℕ → Type 0

@@ -15,9 +15,9 @@ polls_in link = link.polls
 abbrev pub offered_in : MemLink → Bounded Datagram
 offered_in link = link.offered
 
--- How often a port was asked for, and which.
+-- How often a port was asked for, the last one, and whether that was taken.
 abbrev pub bound_in : MemLink → Bound
-bound_in link = record { count = link.binds; port = link.port }
+bound_in link = record { count = link.binds; port = link.port; taken = link.taken }
 
 -- Which of its calls fail, binds and sends numbered together.
 abbrev pub plan_of : MemLink → Plan

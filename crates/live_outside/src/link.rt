@@ -1,5 +1,5 @@
 //! A link for datagrams.
-ghost use Rattle.std.specs.Prelude.{◌≡◌, ◌≤◌, ◌+◌, [], ◌∷◌, List, ℕ, Option, IsErr, IfSome};
+ghost use Rattle.std.specs.Prelude.{◌≡◌, ◌≤◌, ◌+◌, [], ◌∷◌, List, ℕ, Option, is_ok, IsErr, IfSome};
 ghost use Rattle.std.specs.Option.{option_map};
 ghost use Rattle.sed_outside.specs.Cause.{HasCause};
 ghost use Rattle.live_outside.specs.declared.datagram.Datagram.{Datagram};
@@ -43,7 +43,7 @@ pub trait Link {
     /// The datagrams that were offered so far, whether they were sent or not.
     ghost offered: { Self → Option (Told Datagram) };
 
-    /// How often a port was asked for, and which one last.
+    /// How often a port was asked for, which one last, and whether that was taken.
     ghost bound: { Self → Option Bound };
 
     /// How many calls have failed. The count never falls, goes on by one, and stands still at 2^64 - 1.
@@ -52,6 +52,7 @@ pub trait Link {
     /// Takes a port, in place of one that was taken before. After a fault none is taken.
     fn bind(&mut self, port: u16) -> Result<(), LinkFault>
         ensures bound { Binds (bound self.old) (bound self.new) port }
+        ensures taken { IfSome (bound self.new) (λ now. now.taken ≡ is_ok result) }
         ensures polls { polls self.new ≡ polls self.old }
         ensures offered { offered self.new ≡ offered self.old }
         ensures cause { HasCause (faults self.old) (faults self.new) (IsErr result) }

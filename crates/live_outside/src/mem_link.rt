@@ -1,5 +1,5 @@
 //! A link in memory.
-ghost use Rattle.std.specs.Prelude.{◌≡◌, ◌≤◌, ◌+◌, ◌-◌, ◌^◌, ◌↔◌, [], ◌∷◌, min, Some, IfOk, IsOk, IsErr, IsTrue};
+ghost use Rattle.std.specs.Prelude.{◌≡◌, ◌≤◌, ◌+◌, ◌-◌, ◌^◌, ◌↔◌, [], ◌∷◌, false, min, Some, is_ok, IfOk, IsOk, IsErr, IsTrue};
 ghost use Rattle.std.specs.Bool.{OnTrue, OnFalse};
 ghost use Rattle.sed_outside.specs.Cause.{HasCause};
 ghost use Rattle.sed_outside.specs.Failing.{begins_with, FailsNow, after_call};
@@ -16,14 +16,15 @@ use sed_value::{InPlace, Memory};
 use std::alloc::Global;
 
 /// A link in memory, whose polls are given and whose binds and sends fail by number. It tells its polls, how often a
-/// port was asked for and which, and of the datagrams that were offered the first ones, as many as its room, and
-/// whether there were more.
+/// port was asked for, which one last and whether that was taken, and of the datagrams that were offered the first ones,
+/// as many as its room, and whether there were more.
 #[derive(Drop)]
 pub struct MemLink {
     polls: Polls,
     offered: FirstOnes<Datagram>,
     binds: u64,
     port: u16,
+    taken: bool,
     calls: FailingCalls,
     faults: u64,
 }
@@ -31,7 +32,7 @@ pub struct MemLink {
 impl MemLink {
     /// A link whose polls give these in their order, with room for so many datagrams, for which it takes all its memory
     /// here. `fails` has the numbers, from 0, of the calls that fail, binds and sends numbered together. No port was
-    /// asked for yet; the last one is told as 0.
+    /// asked for yet; the last one is told as 0, and as not taken.
     pub fn new(
         alloc: Global,
         polls: Vec<Polling>,
@@ -40,7 +41,7 @@ impl MemLink {
     ) -> Result<MemLink, Memory>
         ensures polls { IfOk result (λ link. ⟦<MemLink as Link>⟧.polls link ≡ Some polls.items) }
         ensures offered { IfOk result (λ link. ⟦<MemLink as Link>⟧.offered link ≡ Some told_none) }
-        ensures bound { IfOk result (λ link. ⟦<MemLink as Link>⟧.bound link ≡ Some (record { count = 0; port = 0 })) }
+        ensures bound { IfOk result (λ link. ⟦<MemLink as Link>⟧.bound link ≡ Some (record { count = 0; port = 0; taken = false })) }
         ensures faults { IfOk result (λ link. ⟦<MemLink as Link>⟧.faults link ≡ 0) }
         ensures to_come { IfOk result (λ link. polls_in link ≡ polls.items) }
         ensures room { IfOk result (λ link. offered_in link ≡ record { told = told_none; room = room }) }
@@ -52,6 +53,7 @@ impl MemLink {
                 offered,
                 binds: 0,
                 port: 0,
+                taken: false,
                 calls: FailingCalls::new(fails),
                 faults: 0,
             }),
@@ -112,7 +114,8 @@ impl Link for MemLink {
 
     /// As every bind, and: the call is counted, and is a fault exactly where its number is among those that fail.
     fn bind(&mut self, port: u16) -> Result<(), LinkFault>
-        ensures bound { bound_in self.new ≡ record { count = min ((bound_in self.old).count + 1) (2 ^ 64 - 1); port = port } }
+        ensures bound { bound_in self.new ≡ record { count = min ((bound_in self.old).count + 1) (2 ^ 64 - 1); port = port; taken = is_ok result } }
+        ensures taken { (bound_in self.new).taken ≡ is_ok result }
         ensures polls { polls_in self.new ≡ polls_in self.old }
         ensures offered { offered_in self.new ≡ offered_in self.old }
         ensures cause { HasCause (faults_of self.old) (faults_of self.new) (IsErr result) }
@@ -123,7 +126,8 @@ impl Link for MemLink {
     {
         self.binds = self.binds.saturating_add(1);
         self.port = port;
-        if self.calls.fails_now() {
+        self.taken = !self.calls.fails_now();
+        if !self.taken {
             return Err(counted(&mut self.faults));
         }
         Ok(())

@@ -1,2 +1,4 @@
 pub mod FirstText
 pub mod NewStores
+pub mod SmallApp
+pub mod AlikeTexts

@@ -4,12 +4,16 @@
 //! all its memory before it asks anything of the disk, and measures the application's text against a slot before that
 //! too: so a slot that is too small, and want of memory, leave the disk as it was. From its one mark on, each image
 //! that a crash may leave is a store with slots of the size asked for that opens to what a file keeps of the App alone.
-//! A command that makes a store is to stand on it.
+//! Its two halves stand alone too, for a command that attaches the file between them: `text_of_alone`, which knows no
+//! disk, and `make` of app_save, with the law that a store which opens to that text opens to the App alone.
 #![tactic(auto)]
 
 mod alone;
+mod laws;
 mod making;
 mod refusal;
 
+pub use alone::text_of_alone;
+pub use laws::{new_stores_open_to_the_app, texts_alone_are_alike, the_app_is_small};
 pub use making::new_store;
 pub use refusal::NewRefusal;

@@ -21,3 +21,5 @@ pub mod Truths
 pub mod OneWay
 pub mod Bounded
 pub mod Answering
+pub mod KeepsWhole
+pub mod Gives

@@ -124,13 +124,13 @@ ended_open before none t leaves only = after_stays before t.node.sessions t.node
 ended_open before (ended_at place) t leaves only = left_out before t.node.sessions t.node.subscriptions place leaves only
 ended_open before (payload_at place payload) t leaves only = after_stays before t.node.sessions t.node.subscriptions leaves.0 only
 
-timed_open : (place : ℕ) (t : Telling) → OnlyOfTheOpen t.node → OnlyOfTheOpen (timed place t).node
+pub timed_open : (place : ℕ) (t : Telling) → OnlyOfTheOpen t.node → OnlyOfTheOpen (timed place t).node
 timed_open place t only =
     let outcome = tick_of t.node.sessions place in
     ended_open t.node.sessions outcome.handing (then_call t outcome) (tick_leaves t.node.sessions place) only
 
 module _ (m : Meaning) where
-  part_open : (place : ℕ) (t : Telling) (p : PartAt) → OnlyOfTheOpen t.node → OnlyOfTheOpen (told_if_due m place t p).node
+  pub part_open : (place : ℕ) (t : Telling) (p : PartAt) → OnlyOfTheOpen t.node → OnlyOfTheOpen (told_if_due m place t p).node
   part_open place t p only = by_test (has_room_at t.node.sessions place && is_due m t.node.application t.node.subscriptions place p.id p.part) refl
     where
       -- what is due is subscribed, so its session is open
@@ -159,7 +159,7 @@ module _ (m : Meaning) where
   parts_open place [] t only = only
   parts_open place (p ∷ parts) t only = parts_open place parts (told_if_due m place t p) (part_open place t p only)
 
-  place_open : (t : Telling) (place : ℕ) → OnlyOfTheOpen t.node → OnlyOfTheOpen (at_place m t place).node
+  pub place_open : (t : Telling) (place : ℕ) → OnlyOfTheOpen t.node → OnlyOfTheOpen (at_place m t place).node
   place_open t place only =
       let after = told_all m place (timed place t) in
       after_stays after.node.sessions (keep_of after.node.sessions place).state after.node.subscriptions (keep_stays after.node.sessions place)

@@ -13,3 +13,4 @@ pub mod Elsewhere
 pub mod Subscribing
 pub mod InOrder
 pub mod Handling
+pub mod Giving

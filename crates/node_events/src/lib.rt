@@ -3,7 +3,7 @@
 //! A node is an application, the sessions of its clients, and what they have subscribed. An event is a datagram or
 //! a tick. `delivered` and `ticked` say what each makes of a node and what the node then sends, `run` what a list
 //! of them comes to, over whatever code. A law is the contract of a function that does nothing, or only
-//! reads. The running node is to stand on this crate: each of its calls does what an event is said here to do.
+//! reads. The running node (sed_node) stands on this crate: each of its calls does what an event is said here to do.
 #![tactic(auto)]
 
 mod deliveries;
@@ -15,6 +15,7 @@ mod sendings;
 mod steps;
 mod subscriptions;
 mod ticks;
+mod wholes;
 
 pub use deliveries::{
     datagrams_change_one_place, refused_commands_leave_a_node, replies_are_answers,
@@ -35,3 +36,4 @@ pub use subscriptions::{
     subscriptions_are_asked_for,
 };
 pub use ticks::{ticks_begin_no_save, ticks_run_one_cycle, ticks_subscribe_nothing};
+pub use wholes::events_keep_whole;

@@ -4,6 +4,8 @@ ghost use Rattle.sed_engine.specs.Code.{Meaning};
 ghost use Rattle.comp_tree.specs.Application.{Application, is_live};
 ghost use Rattle.dasp_users.specs.declared.user.User.{User};
 ghost use Rattle.node_events.specs.Node.{Node as State, OnlyOfTheLive, OnlyOfTheOpen, Setup, opened};
+ghost use Rattle.node_events.specs.Events.{PartAt, Telling, told_if_due};
+ghost use Rattle.node_events.specs.Ticking.{at_place as visited, timed as in_time};
 ghost use Rattle.node_events.specs.Running.{Event as Happening, one_event, run};
 ghost use Rattle.node_events.specs.Subscribing.{IsSubscribe};
 ghost use Rattle.sub_table.specs.declared.part.Part.{Part as PartOf};
@@ -18,10 +20,16 @@ pub fn only_live_components_are_subscribed()
 {}
 
 /// Only sessions that live and are authenticated have subscribed anything: in a node that has just begun, and in
-/// each that a run reaches from one of which that holds. So a session that takes a place anew has no subscription.
+/// each that a run reaches from one of which that holds, at each place of its ticks too and after each part of it. So a
+/// session that takes a place anew has no subscription.
 pub fn only_open_sessions_have_subscribed()
     ensures opened { (m : Meaning) (s : Setup) (a : Application) (users : List User) (secret : List ℕ) (moment : ℤ)
         → OnlyOfTheOpen (opened m s a users secret moment) }
+    ensures timed { (t : Telling) (place : ℕ) → OnlyOfTheOpen t.node → OnlyOfTheOpen (in_time place t).node }
+    ensures part { (m : Meaning) (t : Telling) (place : ℕ) (p : PartAt) → OnlyOfTheOpen t.node
+        → OnlyOfTheOpen (told_if_due m place t p).node }
+    ensures place { (m : Meaning) (t : Telling) (place : ℕ) → OnlyOfTheOpen t.node
+        → OnlyOfTheOpen (visited m t place).node }
     ensures run { (m : Meaning) (s : Setup) (n : State) (events : List Happening) → OnlyOfTheOpen n
         → OnlyOfTheOpen (run m s n events).node }
 {}

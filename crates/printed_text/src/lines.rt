@@ -1,35 +1,27 @@
 //! The lines of a component.
-ghost use Rattle.std.specs.Prelude.{◌≡◌, ◌++◌, OnOk};
 ghost use Rattle.printed_text.specs.Printed as printed;
+ghost use Rattle.printed_text.specs.Puts.{Puts};
 
-use crate::values::value_text;
+use crate::pieces::{put_bytes, put_number, put_word};
+use crate::values::put_value;
+use sed_outside::{Sink, SinkFault};
 use sed_value::{Value, Word};
-use std::alloc::{AllocError, Global};
 
-/// Puts the line `NAME=VALUE` of a property behind the bytes.
-///
-/// Want of memory is the only refusal; a front of the line may then stand behind the bytes.
-pub fn put_property_line(
-    alloc: Global,
-    into: &mut Vec<u8>,
-    name: &Word,
-    value: &Value,
-) -> Result<(), AllocError>
-    ensures { OnOk result (into.new.items ≡ into.old.items ++ printed.property_line name.now value.now) }
+/// Puts the line `NAME=VALUE` of a property into a sink. Takes no memory of its own.
+pub fn put_property_line<O: Sink>(name: &Word, value: &Value, out: &mut O) -> Result<(), SinkFault>
+    ensures { Puts O.Sink out.old out.new (printed.property_line name.now value.now) result }
 {
-    let value = value_text(alloc, value)?;
-    into.extend_from_slice(name.as_bytes())?;
-    into.extend_from_slice(b"=")?;
-    into.extend_from_slice(value.as_bytes())?;
-    into.extend_from_slice(b"\n")
+    put_word(name, out)?;
+    put_bytes(b"=", out)?;
+    put_value(value, out)?;
+    put_bytes(b"\n", out)
 }
 
-/// Puts the line `fault=N` behind the bytes.
-///
-/// Want of memory is the only refusal; a front of the line may then stand behind the bytes.
-pub fn put_fault_line(alloc: Global, into: &mut Vec<u8>, fault: u8) -> Result<(), AllocError>
-    ensures { OnOk result (into.new.items ≡ into.old.items ++ printed.fault_line fault) }
+/// Puts the line `fault=N` into a sink. Takes no memory of its own.
+pub fn put_fault_line<O: Sink>(fault: u8, out: &mut O) -> Result<(), SinkFault>
+    ensures { Puts O.Sink out.old out.new (printed.fault_line fault) result }
 {
-    let line = format!(in alloc; "fault={fault}\n")?;
-    into.extend_from_slice(line.as_bytes())
+    put_bytes(b"fault=", out)?;
+    put_number(fault, out)?;
+    put_bytes(b"\n", out)
 }

@@ -3,3 +3,4 @@ pub mod MatchLemmas
 pub mod ReadLemmas
 pub mod SchemaLemmas
 pub mod ConfigLemmas
+pub mod GivenLemmas

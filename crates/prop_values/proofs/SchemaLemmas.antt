@@ -18,7 +18,7 @@ use Rattle.prop_values.specs.Read.{CanBeHeld, config_type_of}
 use Rattle.sed_engine.specs.Whole.{HasBufSize, KeepsLimits}
 use Rattle.sed_wire.specs.Spelling.{can_be_held}
 
-at_place : {A : Type 0} (P : A → Type 0) (xs : List A) (k : ℕ) (x : A) → All P xs → slice_get xs k ≡ Some x → P x
+pub at_place : {A : Type 0} (P : A → Type 0) (xs : List A) (k : ℕ) (x : A) → All P xs → slice_get xs k ≡ Some x → P x
 at_place {A} P xs k x all is = subst P (get_or_from_slice_get xs k x x is) (all k x (slice_get_within xs k x is))
 
 held_by : (t : SlotType) → HasBufSize (Prop t) → IsTrue (can_be_held t)

@@ -76,3 +76,14 @@ pub record StoresSlot (m : Meaning) (before after : Places) (place : ℕ) (o : O
   pub live : after ≡ map.insert before place object
   pub class : object.class ≡ o.class
   pub rest : stored_from m (n + 1) (drop (n + 1) slots) new object ≡ stored_from m n (drop n slots) old o
+
+-- what is left of an object once these values are stored in the config slots from this one on
+abbrev pub filled_from : Meaning → ℕ → List SlotInfo → List Value → Object → Object
+filled_from m n slots values o = with_slots m (zip (numbers_in n slots) values) o
+
+-- the first of these values was stored in the slot with this number, where it is a config property, and the others are left
+pub record StoresNext (m : Meaning) (before after : Places) (place : ℕ) (o : Object) (n : ℕ) (slots : List SlotInfo) (old new : List Value) : Type 0 where
+  pub object : Object
+  pub live : after ≡ map.insert before place object
+  pub class : object.class ≡ o.class
+  pub rest : filled_from m (n + 1) (drop (n + 1) slots) new object ≡ filled_from m n (drop n slots) old o

@@ -1,8 +1,9 @@
 -- Values as bytes, one behind another.
-use Rattle.std.specs.Prelude.{ℕ, Bool, true, false, nat_lt, if◌then◌else◌, List, [], ◌∷◌, ◌++◌, length, take, drop, Option, Some, None}
+use Rattle.std.specs.Prelude.{ℕ, Bool, IsTrue, true, false, nat_lt, if◌then◌else◌, List, [], ◌∷◌, ◌++◌, length, take, drop, Option, Some, None}
 use Rattle.std.specs.Option.{option_map, option_map_or}
 use Rattle.std.specs.List.{flat_map, list_any, zip}
 use Rattle.std.specs.Int.{w32, w64, bytes_high_first, cast_signed, cast_unsigned}
+use Rattle.sed_value.specs.Value.{is_of_type}
 use Rattle.sed_value.specs.declared.slot_type.Primitive.TheVariants.{Bool as BoolType, Byte as ByteType, Short as ShortType, Int as IntType, Long as LongType}
 use Rattle.sed_value.specs.declared.slot_type.SlotType.{SlotType}
 use Rattle.sed_value.specs.declared.slot_type.SlotType.TheVariants.{Prim as PrimSlot, Buf as BufSlot}
@@ -66,3 +67,12 @@ are_bad_values types bytes = option_map_or (λ values. list_any is_bad_truth val
 -- one of the values is a Buf that is longer than its type says
 abbrev pub have_long_buffer : List SlotType → List ℕ → Bool
 have_long_buffer types bytes = list_any (λ e. is_too_long e.0 e.1) (zip types (taken types bytes))
+
+-- ---- of types
+
+-- a value of each type, in their order
+abbrev pub AreOfTypes : List SlotType → List Value → Type 0
+AreOfTypes [] [] = Unit {0}
+AreOfTypes [] (v ∷ values) = ⊥
+AreOfTypes (t ∷ types) [] = ⊥
+AreOfTypes (t ∷ types) (v ∷ values) = IsTrue (is_of_type t v) × AreOfTypes types values

@@ -8,12 +8,12 @@ ghost use Rattle.sed_value.specs.declared.refusal.Refusal.TheVariants.{BadValue}
 ghost use Rattle.sed_engine.specs.Code.{Meaning};
 ghost use Rattle.sed_engine.specs.Whole.{KeepsLimits};
 ghost use Rattle.prop_values.specs.Properties.{config_slots, config_types, with_slots};
-ghost use Rattle.prop_values.specs.Read.{CanBeHeld, PassesSlot, StoresSlot, config_type_of, refusal_after, refusal_of_values, types_in};
-ghost use Rattle.prop_values.specs.Values.{taken};
+ghost use Rattle.prop_values.specs.Read.{CanBeHeld, PassesSlot, StoresNext, StoresSlot, config_type_of, refusal_after, refusal_of_values, types_in};
+ghost use Rattle.prop_values.specs.Values.{AreOfTypes, taken};
 
 use sed_engine::{Engine, Place};
 use sed_typed::{Schema, SlotForm, SlotInfo, SlotNo, TypeNo};
-use sed_value::{Refusal, SlotBuf, SlotType};
+use sed_value::{Refusal, SlotBuf, SlotType, Value};
 use sed_wire::{Reader, ValueFault};
 
 /// The first refusal of the values that bytes give the config properties of a class, if there is
@@ -156,4 +156,51 @@ fn store_slot<E: Engine>(
     let mut holder = SlotBuf::new();
     holder.put(value);
     engine.set(place, SlotNo(slot as u8), &holder);
+}
+
+/// Stores values in the config properties of an object's class, in the order of the slots: there is
+/// a value of the type of each.
+pub fn store_values<E: Engine>(engine: &mut E, place: Place, kind: TypeNo, values: &[Value])
+    requires live { IsSomeAnd (map.get (E.live engine.old) place.0) (λ o. o.class ≡ kind.0) }
+    requires typed { AreOfTypes (config_types (E.meaning engine.old) kind.0) values.now }
+    ensures stored { IfSome (map.get (E.live engine.old) place.0) (λ o. E.live engine.new ≡ map.insert (E.live engine.old) place.0 (with_slots (E.meaning engine.old) (zip (config_slots (E.meaning engine.old) kind.0) values.now) o)) }
+    ensures meaning { E.meaning engine.new ≡ E.meaning engine.old }
+    ensures statics { E.statics engine.new ≡ E.statics engine.old }
+    ensures limit { E.limit engine.new ≡ E.limit engine.old }
+    ensures fixed { E.fixed engine.new ≡ E.fixed engine.old }
+{
+    let mut rest = values;
+    for slot in 0..slot_count(engine.schema(), kind) {
+        rest = store_next(engine, place, kind, slot, rest);
+    }
+}
+
+// Stores the first of these values in a slot, where it is a config property: the values that are left.
+fn store_next<'a, E: Engine>(
+    engine: &mut E,
+    place: Place,
+    kind: TypeNo,
+    slot: usize,
+    values: &'a [Value],
+) -> &'a [Value]
+    requires live { IsSomeAnd (map.get (E.live engine.old) place.0) (λ o. o.class ≡ kind.0) }
+    requires there { slot < length (slots (E.meaning engine.old).schema.classes kind.0) }
+    requires typed { AreOfTypes (types_in (drop slot (slots (E.meaning engine.old).schema.classes kind.0))) values.now }
+    ensures typed { AreOfTypes (types_in (drop (slot + 1) (slots (E.meaning engine.old).schema.classes kind.0))) result.now }
+    ensures stored { IfSome (map.get (E.live engine.old) place.0) (λ o. StoresNext (E.meaning engine.old) (E.live engine.old) (E.live engine.new) place.0 o slot (slots (E.meaning engine.old).schema.classes kind.0) values.now result.now) }
+    ensures meaning { E.meaning engine.new ≡ E.meaning engine.old }
+    ensures statics { E.statics engine.new ≡ E.statics engine.old }
+    ensures limit { E.limit engine.new ≡ E.limit engine.old }
+    ensures fixed { E.fixed engine.new ≡ E.fixed engine.old }
+{
+    let Some(_wanted) = config_type(engine.schema(), kind, slot) else {
+        return values;
+    };
+    let Some((value, rest)) = values.split_first() else {
+        return values;
+    };
+    let mut holder = SlotBuf::new();
+    holder.put(*value);
+    engine.set(place, SlotNo(slot as u8), &holder);
+    rest
 }

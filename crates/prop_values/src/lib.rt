@@ -11,6 +11,6 @@ pub mod config;
 pub mod slot;
 pub mod values;
 
-pub use config::{config_refusal, store_config};
+pub use config::{config_refusal, store_config, store_values};
 pub use slot::form_of;
 pub use values::{are_same, one_argument, one_value};

@@ -1,5 +1,5 @@
 -- A code, as everything above an engine knows it, and the objects that an engine keeps of it.
-use Rattle.std.specs.Prelude.{ℕ, ℤ, Bool, true, false, ◌&&◌, not, sum_by, List, [], ◌∷◌, slice_get, Option, Some, None}
+use Rattle.std.specs.Prelude.{ℕ, ℤ, Bool, true, false, ◌==◌, ◌&&◌, not, sum_by, List, [], ◌∷◌, slice_get, Option, Some, None}
 use Rattle.std.specs.Option.{option_map, option_map_or}
 use Rattle.std.specs.FinMap as map
 use Rattle.std.specs.Ordering.{nat_cmp}
@@ -103,6 +103,10 @@ data_of m live = sum_by (λ o. m.data_size o.class) (map.values live)
 -- a slot that is a property
 abbrev pub is_property : Meaning → ℕ → ℕ → Bool
 is_property m class slot = option_map_or (λ _. true) (slot_type m class slot) false
+
+-- two slots that have a field each, and the same one: what is stored in the one is read in the other
+abbrev pub is_same_field : Meaning → ℕ → ℕ → ℕ → Bool
+is_same_field m class a b = option_map_or (λ i. option_map_or (λ j. i == j) (m.slot_field class b) false) (m.slot_field class a) false
 
 -- a value that may be stored in a slot of this class
 abbrev pub may_store : Meaning → ℕ → ℕ → Value → Bool

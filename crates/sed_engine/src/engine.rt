@@ -3,7 +3,7 @@
 ghost use Rattle.std.specs.Prelude.{◌≡◌, ◌↔◌, ℕ, ◌+◌, ◌<◌, ◌≤◌, Bool, false, IsTrue, IfOk, OnErr, IfSome, IsSome, IsSomeAnd};
 ghost use Rattle.std.specs.FinMap as map;
 ghost use Rattle.sed_typed.specs.Contents.{Contents};
-ghost use Rattle.sed_engine.specs.Code.{Meaning, Places, is_creatable, is_property, may_store, may_call, data_of, new_object, slot_value, with_slot, root_of, called};
+ghost use Rattle.sed_engine.specs.Code.{Meaning, Places, is_creatable, is_property, is_same_field, may_store, may_call, data_of, new_object, slot_value, with_slot, root_of, called};
 ghost use Rattle.sed_engine.specs.Fits.{Fits};
 ghost use Rattle.sed_engine.specs.Whole.{IsObject, IsWhole};
 
@@ -38,6 +38,13 @@ pub trait Engine: Drop {
         ensures whole { IsWhole (meaning self.now) }
         ensures objects { (p : ℕ) → IfSome (map.get (live self.now) p) (IsObject (meaning self.now)) }
         ensures statics { Fits (meaning self.now).fields (meaning self.now).static_fields (meaning self.now).initial_statics (statics self.now) };
+
+    /// Whether two properties of a class are kept in one field, so that what is stored in the one is read in the other. A
+    /// property is kept in one field with itself.
+    fn same_field(&self, t: TypeNo, a: SlotNo, b: SlotNo) -> bool
+        requires first { IsTrue (is_property (meaning self.now) t.0 a.0) }
+        requires other { IsTrue (is_property (meaning self.now) t.0 b.0) }
+        ensures { result ≡ is_same_field (meaning self.now) t.0 a.0 b.0 };
 
     /// Makes an object of a component type that is not abstract, at a place that was not live.
     ///

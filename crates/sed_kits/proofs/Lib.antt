@@ -1,3 +1,4 @@
 pub mod Loads
 pub mod Ends
 pub mod Units
+pub mod Alike

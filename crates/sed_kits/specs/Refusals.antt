@@ -28,6 +28,13 @@ refusal_of (Err refusal) = Some refusal
 abbrev pub HasRefusalOf : Result Program KitsRefusal → Result Program KitsRefusal → Type 0
 HasRefusalOf end other = refusal_of other ≡ refusal_of end
 
+-- Programs that are alike in all but their methods, whose bodies may group chains in other ways.
+pub record AreAlike (p q : Program) : Type 0 where
+  pub schema : p.schema ≡ q.schema
+  pub fields : p.fields ≡ q.fields
+  pub statics : p.statics ≡ q.statics
+  pub texts : p.texts ≡ q.texts
+
 -- the names of the reads that failed, by the refusal, and by how it ended
 abbrev pub failed_of : KitsRefusal → List (List ℕ)
 failed_of (FileFault file) = file ∷ []

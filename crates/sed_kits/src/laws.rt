@@ -1,21 +1,23 @@
 //! Laws of what is loaded. Each is the contract of a function that does nothing.
-ghost use Rattle.std.specs.Prelude.{◌≡◌, ℕ, List, Result};
+ghost use Rattle.std.specs.Prelude.{◌≡◌, ℕ, List, Result, Ok};
 ghost use Rattle.file_steps.specs.Steps.{Read, Agree};
 ghost use Rattle.file_steps.specs.Reads.{failed_names};
 ghost use Rattle.sed_typed.specs.declared.program.Program.{Program};
 ghost use Rattle.sed_kits.specs.declared.refusal.KitsRefusal.{KitsRefusal};
-ghost use Rattle.sed_kits.specs.Refusals.{HasRefusalOf, failed_in};
+ghost use Rattle.sed_kits.specs.Refusals.{AreAlike, HasRefusalOf, failed_in};
 ghost use Rattle.sed_kits.specs.Loading.{KitsLoaded, TextLoaded};
 
 use kit_sources::{failed_reads_are_told, what_is_read_is_one};
 
 /// Whether a program is loaded, and else the refusal, is one for the same reads: where two rows of reads give the same
 /// wherever they read one name at one place, they are the same reads, and both end with a program or with the same
-/// refusal.
+/// refusal; and the programs are alike in all but their methods.
 pub fn loads_agree()
     ensures kits { (names : List (List ℕ)) (reads others : List Read) (end other : Result Program KitsRefusal)
         → KitsLoaded names reads end → KitsLoaded names others other → Agree reads others
         → (reads ≡ others) × HasRefusalOf end other }
+    ensures alike { (names : List (List ℕ)) (reads others : List Read) (p q : Program)
+        → KitsLoaded names reads (Ok p) → KitsLoaded names others (Ok q) → Agree reads others → AreAlike p q }
     ensures text { (name : List ℕ) (reads others : List Read) (end other : Result Program KitsRefusal)
         → TextLoaded name reads end → TextLoaded name others other → Agree reads others
         → (reads ≡ others) × HasRefusalOf end other }

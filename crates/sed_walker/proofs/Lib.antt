@@ -2,3 +2,4 @@ pub mod Live
 pub mod Sums
 pub mod Keeping
 pub mod Changes
+mod SlotFields

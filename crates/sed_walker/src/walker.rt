@@ -88,6 +88,12 @@ impl Engine for Walker {
         &self.slots.plan().program().schema
     }
 
+    // A field of a program is behind one slot at most.
+    fn same_field(&self, _t: TypeNo, a: SlotNo, b: SlotNo) -> bool {
+        let _limit = self.limit;
+        a.0 == b.0
+    }
+
     fn add(&mut self, t: TypeNo) -> Result<Place, AddRefusal> {
         what_is_kept_fits();
         let size = size_of(&self.slots.plan().program().schema, t.0);

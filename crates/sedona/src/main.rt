@@ -1,6 +1,9 @@
-//! The program: `sedona` over the system's files and standard output. It ends with the status that the call gives.
+//! The program: `sedona` over the system's files, a UDP socket of 127.0.0.1, its clock, its disk and standard output. It
+//! ends with the status that the call gives.
 #![tactic(auto)]
 
+use disk_model::FileDisk;
+use live_outside::{RealClock, UdpLink};
 use sed_outside::{OutSink, RealFiles, Sink};
 use sedona_cli::sedona;
 use std::env::{self, Env};
@@ -31,5 +34,17 @@ fn main(rt: HostRuntime) -> ExitCode {
         Err(_) => Vec::new(rt.alloc()),
     };
     let mut files = RealFiles::new(&rt);
-    ExitCode::from(sedona(rt.alloc(), &words, &mut files, &mut out))
+    let mut link = UdpLink::new(&rt);
+    let mut clock = RealClock::new(&rt);
+    let mut disk = FileDisk::new(&rt);
+    let status = sedona(
+        rt.alloc(),
+        &words,
+        &mut files,
+        &mut link,
+        &mut clock,
+        &mut disk,
+        &mut out,
+    );
+    ExitCode::from(status)
 }

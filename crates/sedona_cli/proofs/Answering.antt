@@ -1,54 +1,150 @@
 -- How a command is answered.
-use Rattle.std.proofs.Common.{◌≡◌, ◌≤◌, ◌<◌, ℕ, List, [], ◌∷◌, length, Option, Some, None, Result, Ok, Err, refl, sym, ap, subst, ◌∙◌, inl, inr, arith}
-use Rattle.std.specs.Prelude.{MatchOption, Contains}
+use Rattle.std.proofs.Common.{◌≡◌, ◌≤◌, ◌<◌, ℕ, true, List, [], ◌∷◌, length, Option, Some, None, Result, Ok, Err, refl, sym, ap, subst, ◌∙◌, inl, inr, arith}
+use Rattle.std.specs.Prelude.{◌⊎◌, MatchOption, Contains}
 use Rattle.std.specs.Option.{option_map_or}
 use Rattle.std.specs.List.{flat_map}
 use Rattle.std.proofs.lemmas.List.Elements.{Contains-append_left, Contains-append_right}
 use Rattle.sed_outside.specs.Cause.{Rose}
 use Rattle.sed_outside.specs.Files.{Contents, IsUnreadable, largest_file}
-use Rattle.file_steps.specs.Steps.{Read, Agree, UnlessFree}
+use Rattle.file_steps.specs.Steps.{Read, Agree}
+use Rattle.file_steps.proofs.Joining.{both_empty}
+use Rattle.sedona_cli.specs.Writing.{unwritten_in}
 use Rattle.file_steps.specs.Reads.{AreGiven, AreKnown, AreTold, IsGiven, failed_name, failed_names}
-use Rattle.sed_kits.specs.declared.refusal.KitsRefusal.{KitsRefusal}
-use Rattle.sed_kits.specs.declared.refusal.KitsRefusal.TheVariants.{FileFault, Refused, Rule, Memory}
-use Rattle.sed_kits.specs.Refusals.{is_want}
-use Rattle.sedona_cli.specs.Command.{Command}
-use Rattle.sedona_cli.specs.Lines.{line_of}
+use Rattle.sedona_cli.specs.declared.refusal.Refusal.{Refusal}
+use Rattle.sedona_cli.specs.declared.refusal.Refusal.TheVariants.{FileFault, Refused, Rule, SlotTooSmall, DeviceFault, StoreExists, NoStore, NoApplication, WrongKits, OverLimit, BadUsers, ShortSecret, BadRecord, LinkFault, Memory}
+use Rattle.sedona_cli.specs.Agree.{AgreeOn, failed_by, failed_calls}
+use Rattle.sedona_words.specs.Command.{Command, output_of}
+use Rattle.sedona_cli.specs.Lines.{line_of, memory_line}
+use Rattle.sedona_cli.specs.Outside.{Ask, reads_in}
+use Rattle.sedona_cli.specs.Refusals.{is_worded}
 use Rattle.sedona_cli.specs.Status.{number_of, status_of}
-use Rattle.sedona_cli.specs.Program.{Comes, DidNotFail, Follows, IsAnswer, done, unput, refused, wanted, Puts, given_name}
-use Rattle.sedona_cli.proofs.Comings.{HasOneEnd}
+use Rattle.sedona_cli.specs.Puts.{Puts}
+use Rattle.sedona_cli.specs.Program.{Comes, ComesUntil, ComesOrWants, DidNotFail, Follows, IsAnswer, done, unput, stopped, refused, wanted, given_name}
+use Rattle.sedona_cli.proofs.Comings.{TellsCalls, spares_early, until_comes}
+use Rattle.sedona_cli.proofs.Loadings.{HasOneEnd}
+use Rattle.sedona_cli.proofs.Ends.{some_refusal, no_refusal}
 
 -- ---- a refusal
 
-pub is_refused : (command : Command) (reads : List Read) (before after : Option (List ℕ)) (fb fa : ℕ) (refusal : KitsRefusal)
-    → Puts before after fb fa (line_of refusal) → UnlessFree is_want (Comes command reads) (Err refusal)
-    → IsAnswer command reads before after fb fa (number_of (status_of refusal))
-is_refused command reads before after fb fa (FileFault file) puts came = refused (FileFault file) came refl puts
-is_refused command reads before after fb fa (Refused file why) puts came = refused (Refused file why) came refl puts
-is_refused command reads before after fb fa Memory puts came = wanted refl puts
-is_refused command reads before after fb fa (Rule file at rule) puts came = refused (Rule file at rule) came refl puts
+pub is_refused : (command : Command) (asks : List Ask) (before after : Option (List ℕ)) (fb fa : ℕ) (refusal : Refusal)
+    → Puts before after fb fa (line_of refusal) → ComesOrWants command asks (Err refusal)
+    → IsAnswer command asks before after fb fa (number_of (status_of refusal))
+is_refused command asks before after fb fa (FileFault file) puts came = refused (FileFault file) came refl puts
+is_refused command asks before after fb fa (Refused file why) puts came = refused (Refused file why) came refl puts
+is_refused command asks before after fb fa (Rule file at rule) puts came = refused (Rule file at rule) came refl puts
+is_refused command asks before after fb fa (SlotTooSmall needs has) puts came = refused (SlotTooSmall needs has) came refl puts
+is_refused command asks before after fb fa DeviceFault puts came = refused DeviceFault came refl puts
+is_refused command asks before after fb fa StoreExists puts came = refused StoreExists came refl puts
+is_refused command asks before after fb fa NoStore puts came = refused NoStore came refl puts
+is_refused command asks before after fb fa NoApplication puts came = refused NoApplication came refl puts
+is_refused command asks before after fb fa (WrongKits kit in_file in_kits) puts came = refused (WrongKits kit in_file in_kits) came refl puts
+is_refused command asks before after fb fa (OverLimit which) puts came = refused (OverLimit which) came refl puts
+is_refused command asks before after fb fa BadUsers puts came = refused BadUsers came refl puts
+is_refused command asks before after fb fa ShortSecret puts came = refused ShortSecret came refl puts
+is_refused command asks before after fb fa (BadRecord at) puts came = refused (BadRecord at) came refl puts
+is_refused command asks before after fb fa LinkFault puts came = refused LinkFault came refl puts
+is_refused command asks before after fb fa Memory puts came = wanted came refl puts
+
+-- memory was wanted for its line
+pub is_wanted : (command : Command) (asks : List Ask) (before after : Option (List ℕ)) (fb fa : ℕ) (refusal : Refusal) → is_worded refusal ≡ true
+    → Puts before after fb fa memory_line → ComesOrWants command asks (Err refusal) → IsAnswer command asks before after fb fa 7
+is_wanted command asks before after fb fa (FileFault file) worded puts came = wanted (spares_early command asks (FileFault file) refl came) refl puts
+is_wanted command asks before after fb fa (Refused file why) worded puts came = wanted (spares_early command asks (Refused file why) refl came) refl puts
+is_wanted command asks before after fb fa (Rule file at rule) worded puts came = wanted (spares_early command asks (Rule file at rule) refl came) refl puts
+is_wanted command asks before after fb fa (SlotTooSmall needs has) worded puts came = wanted (spares_early command asks (SlotTooSmall needs has) refl came) refl puts
+is_wanted command asks before after fb fa (WrongKits kit in_file in_kits) worded puts came = wanted (spares_early command asks (WrongKits kit in_file in_kits) refl came) refl puts
+is_wanted command asks before after fb fa (OverLimit which) worded puts came = wanted (spares_early command asks (OverLimit which) refl came) refl puts
+is_wanted command asks before after fb fa (BadRecord at) worded puts came = wanted (spares_early command asks (BadRecord at) refl came) refl puts
+is_wanted command asks before after fb fa BadUsers worded puts came = absurd (cc)
+is_wanted command asks before after fb fa ShortSecret worded puts came = absurd (cc)
+is_wanted command asks before after fb fa DeviceFault worded puts came = absurd (cc)
+is_wanted command asks before after fb fa LinkFault worded puts came = absurd (cc)
+is_wanted command asks before after fb fa StoreExists worded puts came = absurd (cc)
+is_wanted command asks before after fb fa NoStore worded puts came = absurd (cc)
+is_wanted command asks before after fb fa NoApplication worded puts came = absurd (cc)
+is_wanted command asks before after fb fa Memory worded puts came = absurd (cc)
 
 -- ---- what must come
 
-some_refusal : (a b : KitsRefusal) → ◌≡◌ {A = Option KitsRefusal} (Some a) (Some b) → a ≡ b
-some_refusal a b e = cc
-
-no_refusal : (a : KitsRefusal) → ◌≡◌ {A = Option KitsRefusal} (Some a) None → ⊥
-no_refusal a e = cc
-
-pub answer_follows : (command : Command) (made told : List Read) (before after : Option (List ℕ)) (fb fa n : ℕ) (end : Result (List ℕ) KitsRefusal)
-    → HasOneEnd (Comes command) → Comes command told end → Agree made told → IsAnswer command made before after fb fa n → Follows fb fa end n
+pub answer_follows : (command : Command) (made told : List Ask) (before after : Option (List ℕ)) (fb fa n : ℕ) (end : Result (List ℕ) Refusal)
+    → HasOneEnd (Comes command) → Comes command told end → AgreeOn made told → IsAnswer command made before after fb fa n → Follows fb fa end n
 answer_follows command made told before after fb fa n (Ok text) one comes agree (done t came is put same) = (λ steady. inl is, λ moved. absurd (moved same))
-answer_follows command made told before after fb fa n (Ok text) one comes agree (unput t came is rose front) = (λ steady. absurd (steady rose), λ moved. inl is)
+answer_follows command made told before after fb fa n (Ok text) one comes agree (unput t came at_once is rose front) = (λ steady. absurd (steady rose), λ moved. inl is)
+answer_follows command made told before after fb fa n (Ok text) one comes agree (stopped put last until is rose front) = (λ steady. absurd (steady rose), λ moved. inl is)
 answer_follows command made told before after fb fa n (Ok text) one comes agree (refused refusal came is puts) =
     absurd (no_refusal refusal (one made told (Err refusal) (Ok text) agree came comes))
-answer_follows command made told before after fb fa n (Ok text) one comes agree (wanted is puts) = (λ steady. inr (inl is), λ moved. inr (inl is))
+answer_follows command made told before after fb fa n (Ok text) one comes agree (wanted spared is puts) = (λ steady. inr (inl is), λ moved. inr (inl is))
 answer_follows command made told before after fb fa n (Err why) one comes agree (done t came is put same) =
     absurd (no_refusal why (sym (one made told (Ok t) (Err why) agree came comes)))
-answer_follows command made told before after fb fa n (Err why) one comes agree (unput t came is rose front) =
+answer_follows command made told before after fb fa n (Err why) one comes agree (unput t came at_once is rose front) =
     absurd (no_refusal why (sym (one made told (Ok t) (Err why) agree came comes)))
+answer_follows command made told before after fb fa n (Err why) one comes agree (stopped put last until is rose front) =
+    let start = until_comes command made put last until in
+    absurd (no_refusal why (sym (one start.more told (Ok start.text) (Err why) (start.agrees told agree) start.comes comes)))
 answer_follows command made told before after fb fa n (Err why) one comes agree (refused refusal came is puts) =
-    inl (is ∙ ap (λ (r : KitsRefusal). number_of (status_of r)) (some_refusal refusal why (one made told (Err refusal) (Err why) agree came comes)))
-answer_follows command made told before after fb fa n (Err why) one comes agree (wanted is puts) = inr (inl is)
+    inl (is ∙ ap (λ (r : Refusal). number_of (status_of r)) (some_refusal refusal why (one made told (Err refusal) (Err why) agree came comes)))
+answer_follows command made told before after fb fa n (Err why) one comes agree (wanted spared is puts) = inr (inl is)
+
+-- want of memory may come in the place of each
+pub seven_follows : (fb fa n : ℕ) (end : Result (List ℕ) Refusal) → n ≡ 7 → Follows fb fa end n
+seven_follows fb fa n (Ok text) seven = (λ steady. inr (inl seven), λ moved. inr (inl seven))
+seven_follows fb fa n (Err why) seven = inr (inl seven)
+
+-- ---- the count of a file that moved
+
+-- No count moves where the end of a command tells no call that failed.
+pub record Stays (command : Command) (made : List Ask) (old now : List ℕ → ℕ) : Type 0 where
+  pub comes : (end : Result (List ℕ) Refusal) → Comes command made end → failed_by end ≡ [] → (name : List ℕ) → now name ≡ old name
+  pub until : (put last : List ℕ) → ComesUntil command made put last → (name : List ℕ) → now name ≡ old name
+
+-- the reads that failed tell it
+pub reads_stay : (command : Command) (made : List Ask) (old now : List ℕ → ℕ) → TellsCalls command → (failed_names (reads_in made) ≡ [] → (name : List ℕ) → now name ≡ old name) → Stays command made old now
+reads_stay command made old now tells steady = record {
+  comes = λ end came none. steady (no_reads_failed (output_of command) made (tells made end came ∙ none));
+  until = λ put last until.
+      let start = until_comes command made put last until in
+      steady (ap failed_names (sym start.reads) ∙ no_reads_failed (output_of command) start.more (tells start.more (Ok start.text) start.comes));
+}
+  where
+    no_reads_failed : (out : Option (List ℕ)) (asks : List Ask) → failed_calls out asks ≡ [] → failed_names (reads_in asks) ≡ []
+    no_reads_failed None asks none = none
+    no_reads_failed (Some name) asks none = (both_empty (failed_names (reads_in asks)) (unwritten_in asks) none).0
+
+-- so do the writes, where a command has an output file
+pub writes_stay : (command : Command) (made : List Ask) (old now : List ℕ → ℕ) → TellsCalls command → (output_of command ≡ None → (name : List ℕ) → now name ≡ old name)
+    → ((put last : List ℕ) → ComesUntil command made put last → output_of command ≡ None) → (unwritten_in made ≡ [] → (name : List ℕ) → now name ≡ old name) → Stays command made old now
+writes_stay command made old now tells none never steady = record {
+  comes = λ end came told. by (output_of command) none (tells made end came ∙ told);
+  until = λ put last until. none (never put last until);
+}
+  where
+    by : (out : Option (List ℕ)) → (out ≡ None → (name : List ℕ) → now name ≡ old name) → failed_calls out made ≡ [] → (name : List ℕ) → now name ≡ old name
+    by None kept told = kept refl
+    by (Some name) kept told = steady (both_empty (failed_names (reads_in made)) (unwritten_in made) told).1
+
+pub file_fault : (command : Command) (made : List Ask) (before after : Option (List ℕ)) (fb fa n : ℕ) (old now : List ℕ → ℕ) (name : List ℕ) → Stays command made old now
+    → IsAnswer command made before after fb fa n → (now name ≡ old name → ⊥) → (n ≡ 3) ⊎ (n ≡ 7)
+file_fault command made before after fb fa n old now name stays (done text came is put same) moved = absurd (moved (stays.comes (Ok text) came refl name))
+file_fault command made before after fb fa n old now name stays (unput text came at_once is rose front) moved = absurd (moved (stays.comes (Ok text) came refl name))
+file_fault command made before after fb fa n old now name stays (stopped put last until is rose front) moved =
+    absurd (moved (stays.until put last until name))
+file_fault command made before after fb fa n old now name stays (wanted left is puts) moved = inr is
+file_fault command made before after fb fa n old now name stays (refused (FileFault file) came is puts) moved = inl is
+file_fault command made before after fb fa n old now name stays (refused (Refused file why) came is puts) moved = absurd (moved (stays.comes (Err (Refused file why)) came refl name))
+file_fault command made before after fb fa n old now name stays (refused (Rule file at rule) came is puts) moved = absurd (moved (stays.comes (Err (Rule file at rule)) came refl name))
+file_fault command made before after fb fa n old now name stays (refused (SlotTooSmall needs has) came is puts) moved =
+    absurd (moved (stays.comes (Err (SlotTooSmall needs has)) came refl name))
+file_fault command made before after fb fa n old now name stays (refused DeviceFault came is puts) moved = absurd (moved (stays.comes (Err DeviceFault) came refl name))
+file_fault command made before after fb fa n old now name stays (refused LinkFault came is puts) moved = absurd (moved (stays.comes (Err LinkFault) came refl name))
+file_fault command made before after fb fa n old now name stays (refused StoreExists came is puts) moved = absurd (moved (stays.comes (Err StoreExists) came refl name))
+file_fault command made before after fb fa n old now name stays (refused NoStore came is puts) moved = absurd (moved (stays.comes (Err NoStore) came refl name))
+file_fault command made before after fb fa n old now name stays (refused NoApplication came is puts) moved = absurd (moved (stays.comes (Err NoApplication) came refl name))
+file_fault command made before after fb fa n old now name stays (refused (WrongKits kit in_file in_kits) came is puts) moved = absurd (moved (stays.comes (Err (WrongKits kit in_file in_kits)) came refl name))
+file_fault command made before after fb fa n old now name stays (refused (OverLimit which) came is puts) moved = absurd (moved (stays.comes (Err (OverLimit which)) came refl name))
+file_fault command made before after fb fa n old now name stays (refused BadUsers came is puts) moved = absurd (moved (stays.comes (Err BadUsers) came refl name))
+file_fault command made before after fb fa n old now name stays (refused ShortSecret came is puts) moved = absurd (moved (stays.comes (Err ShortSecret) came refl name))
+file_fault command made before after fb fa n old now name stays (refused (BadRecord at) came is puts) moved = absurd (moved (stays.comes (Err (BadRecord at)) came refl name))
+file_fault command made before after fb fa n old now name stays (refused Memory came is puts) moved = absurd (moved (stays.comes (Err Memory) came refl name))
 
 -- ---- what is told agrees with what was made
 

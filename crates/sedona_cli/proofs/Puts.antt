@@ -4,7 +4,7 @@ use Rattle.std.proofs.Math.Seq.{take-length}
 use Rattle.sed_outside.specs.declared.sink.SinkFault.{SinkFault}
 use Rattle.sed_outside.specs.Cause.{HasCause, Rose}
 use Rattle.sed_outside.specs.Sink.{with_text, PutsFront}
-use Rattle.sedona_cli.specs.Program.{Puts}
+use Rattle.sedona_cli.specs.Puts.{Puts}
 
 -- a whole text is a front of itself
 pub whole_front : (before after : Option (List ℕ)) (text : List ℕ) → after ≡ with_text before text → PutsFront before after text

@@ -1,71 +1,154 @@
 -- What the program answers.
-use Rattle.std.specs.Prelude.{◌≡◌, ◌⊎◌, ℕ, List, [], ◌∷◌, ◌++◌, Contains, Option, Some, None, Result, Ok, Err, codes}
+use Rattle.std.specs.Prelude.{◌≡◌, ◌≢◌, ◌⊎◌, ℕ, true, IsTrue, List, [], ◌∷◌, length, Contains, MatchBool, Option, Some, None, Result, Ok, Err}
 use Rattle.std.specs.List.{flat_map}
 use Rattle.std.specs.Option.{option_map_or}
 use Rattle.sed_typed.specs.declared.program.Program.{Program as TheProgram}
 use Rattle.sed_outside.specs.Cause.{Rose}
 use Rattle.sed_outside.specs.Sink.{with_text, PutsFront}
-use Rattle.file_steps.specs.Steps.{Read, AndThen, Decides}
-use Rattle.sed_kits.specs.declared.refusal.KitsRefusal.{KitsRefusal}
-use Rattle.sed_kits.specs.Refusals.{failed_of}
-use Rattle.sed_kits.specs.Loading.{KitsLoaded, TextLoaded}
+use Rattle.sed_outside.specs.declared.files.Files.{Ghosts as FileGhosts}
+use Rattle.live_outside.specs.declared.clock.Clock.{Ghosts as ClockGhosts}
+use Rattle.live_outside.specs.declared.link.Link.{Ghosts as LinkGhosts}
+use Rattle.disk_model.specs.Disk.{Image, Meaning, Attaches as IsAttach, Keeps, MarksUp}
+use Rattle.disk_model.specs.declared.disk.Disk.{Ghosts as DiskGhosts}
+use Rattle.app_save.specs.Store.{Opens as IsOpen}
+use Rattle.file_steps.specs.Steps.{Read, AndThen}
 use Rattle.sed_cycles.specs.Cycles.{text_after}
-use Rattle.sedona_cli.specs.Command.{Command, Cycles, Check, command_of}
-use Rattle.sedona_cli.specs.Lines.{line_end, line_of, memory_line}
+use Rattle.sedona_cli.specs.declared.refusal.Refusal.{Refusal}
+use Rattle.sedona_words.specs.Command.{Command, Cycles, Check, Gen, New, Replay, Run, Show, store_of}
+use Rattle.sedona_cli.specs.Gen.{GenComes, LeavesRecord}
+use Rattle.sedona_cli.specs.Lines.{line_of, memory_line}
+use Rattle.sedona_cli.specs.New.{LeavesNew, NewComes}
+use Rattle.sedona_cli.specs.Puts.{IsOneOf, Puts}
+use Rattle.sedona_cli.specs.Replay.{ReplayComes, ReplayStops}
+use Rattle.sedona_cli.specs.Run.{AsksLive, RanBy, RunComes}
+use Rattle.sedona_cli.specs.Show.{ShowComes}
+use Rattle.sedona_cli.specs.Outside.{Ask, Reads, Writes, Written, Attaches, Makes, Opens, Binds, Runs, Made, Whole, NotEmpty, Failed, Opened, Found, NotAStore, Unread, Unheld, IsNoStore, Spares}
+use Rattle.sedona_cli.specs.Refusals.{is_want}
 use Rattle.sedona_cli.specs.Status.{number_of, status_of}
+use Rattle.sedona_cli.specs.Words.{command_asked}
+use Rattle.sedona_cli.specs.Steps.{AfterKits, AfterText, Prints, done_text}
 
 -- ---- what a command comes to
 
--- nothing more is read, and this is printed
-abbrev pub Prints : List ℕ → List Read → Result (List ℕ) KitsRefusal → Type 0
-Prints text = Decides (λ end. end ≡ Ok text)
+-- The outside is asked, step by step, and it ends with the text that is printed, or with the first refusal.
+abbrev pub Comes : Command → List Ask → Result (List ℕ) Refusal → Type 0
+Comes (Cycles file count) = AndThen (AfterText file) (λ (program : TheProgram). Prints (text_after program count))
+Comes (Check names) = AndThen (AfterKits names) (λ (program : TheProgram). Prints done_text)
+Comes (New names store slot) = NewComes names store slot
+Comes (Show names store limit) = ShowComes names store limit
+Comes (Replay asked file) = ReplayComes asked file
+Comes (Run asked) = RunComes asked
+Comes (Gen asked) = GenComes asked
 
--- Files are read, step by step, and it ends with the text that is printed, or with the first refusal.
-abbrev pub Comes : Command → List Read → Result (List ℕ) KitsRefusal → Type 0
-Comes (Cycles file count) = AndThen (TextLoaded file) (λ (program : TheProgram). Prints (text_after program count))
-Comes (Check names) = AndThen (KitsLoaded names) (λ (program : TheProgram). Prints (codes "ok" ++ line_end))
+-- These put their text when all else is done.
+abbrev pub PutsAtOnce : Command → Type 0
+PutsAtOnce (Cycles file count) = Unit {0}
+PutsAtOnce (Check names) = Unit {0}
+PutsAtOnce (New names store slot) = Unit {0}
+PutsAtOnce (Show names store limit) = Unit {0}
+PutsAtOnce (Replay asked file) = ⊥
+PutsAtOnce (Run asked) = Unit {0}
+PutsAtOnce (Gen asked) = Unit {0}
+
+-- The others put it piece by piece as they go on, and stop where the sink fails: this was put before, and a front of
+-- that.
+abbrev pub ComesUntil : Command → List Ask → List ℕ → List ℕ → Type 0
+ComesUntil (Cycles file count) asks put last = ⊥
+ComesUntil (Check names) asks put last = ⊥
+ComesUntil (New names store slot) asks put last = ⊥
+ComesUntil (Show names store limit) asks put last = ⊥
+ComesUntil (Replay asked file) asks put last = ReplayStops asked file asks put last
+ComesUntil (Run asked) asks put last = ⊥
+ComesUntil (Gen asked) asks put last = ⊥
+
+-- So it comes, or memory was wanted, at any point: then nothing of a store was written, no file was, and no other name
+-- attached.
+abbrev pub OrWants : {X : Type 0} → Option (List ℕ) → (List Ask → Result X Refusal → Type 0)
+    → List Ask → Result X Refusal → Type 0
+OrWants store step asks (Ok value) = step asks (Ok value)
+OrWants store step asks (Err refusal) = MatchBool (is_want refusal) (Spares store asks) (step asks (Err refusal))
+
+abbrev pub ComesOrWants : Command → List Ask → Result (List ℕ) Refusal → Type 0
+ComesOrWants command = OrWants (store_of command) (Comes command)
 
 -- the refusal that it ends with, if it ends so
-abbrev pub refusal_by : Result (List ℕ) KitsRefusal → Option KitsRefusal
+abbrev pub refusal_by : Result (List ℕ) Refusal → Option Refusal
 refusal_by (Ok text) = None
 refusal_by (Err refusal) = Some refusal
 
--- the names of the reads that failed, by how it ends
-abbrev pub failed_by : Result (List ℕ) KitsRefusal → List (List ℕ)
-failed_by (Ok text) = []
-failed_by (Err refusal) = failed_of refusal
-
 -- where the words ask for a command, this holds of it
 abbrev pub OnCommand : List (List ℕ) → (Command → Type 0) → Type 0
-OnCommand words P = (command : Command) → command_of words ≡ Some command → P command
-
--- ---- what is put
-
--- What was put is a front of this text, and all of it where the sink's count did not rise.
-pub record Puts (before after : Option (List ℕ)) (faults_before faults_after : ℕ) (text : List ℕ) : Type 0 where
-  pub front : PutsFront before after text
-  pub whole : (Rose faults_before faults_after → ⊥) → after ≡ with_text before text
+OnCommand words P = (command : Command) → command_asked words ≡ Some command → P command
 
 -- ---- how it is answered
 
 -- The status that a command is answered with, and what is put: its text, with status 0; a front of that text, with
--- status 8, where the sink failed; the line of a refusal, with the refusal's status; and, free, want of memory.
-pub data IsAnswer (command : Command) (reads : List Read) (before after : Option (List ℕ)) (faults_before faults_after : ℕ)
+-- status 8, where the sink failed, which has stopped what was yet to come where the text is put piece by piece; the line
+-- of a refusal, with the refusal's status; and, free, want of memory.
+pub data IsAnswer (command : Command) (asks : List Ask) (before after : Option (List ℕ)) (faults_before faults_after : ℕ)
     (status : ℕ) : Type 0 where
-  done : (text : List ℕ) → Comes command reads (Ok text) → status ≡ 0 → after ≡ with_text before text
-      → faults_after ≡ faults_before → IsAnswer command reads before after faults_before faults_after status
-  unput : (text : List ℕ) → Comes command reads (Ok text) → status ≡ 8 → Rose faults_before faults_after
-      → PutsFront before after text → IsAnswer command reads before after faults_before faults_after status
-  refused : (refusal : KitsRefusal) → Comes command reads (Err refusal) → status ≡ number_of (status_of refusal)
+  done : (text : List ℕ) → Comes command asks (Ok text) → status ≡ 0 → after ≡ with_text before text
+      → faults_after ≡ faults_before → IsAnswer command asks before after faults_before faults_after status
+  unput : (text : List ℕ) → Comes command asks (Ok text) → PutsAtOnce command → status ≡ 8
+      → Rose faults_before faults_after → PutsFront before after text
+      → IsAnswer command asks before after faults_before faults_after status
+  stopped : (put last : List ℕ) → ComesUntil command asks put last → status ≡ 8 → Rose faults_before faults_after
+      → PutsFront (with_text before put) after last
+      → IsAnswer command asks before after faults_before faults_after status
+  refused : (refusal : Refusal) → Comes command asks (Err refusal) → status ≡ number_of (status_of refusal)
       → Puts before after faults_before faults_after (line_of refusal)
-      → IsAnswer command reads before after faults_before faults_after status
-  wanted : status ≡ 7 → Puts before after faults_before faults_after memory_line
-      → IsAnswer command reads before after faults_before faults_after status
+      → IsAnswer command asks before after faults_before faults_after status
+  wanted : Spares (store_of command) asks → status ≡ 7 → Puts before after faults_before faults_after memory_line
+      → IsAnswer command asks before after faults_before faults_after status
 
--- the status is one of these
-abbrev pub IsOneOf : List ℕ → ℕ → Type 0
-IsOneOf [] status = ⊥
-IsOneOf (s ∷ ss) status = (status ≡ s) ⊎ IsOneOf ss status
+-- ---- what a command leaves
+
+-- What a command leaves of a disk that it must not change: what a read gives, what a crash may leave, and no mark more.
+pub record SparesDisk (old new : Meaning) : Type 0 where
+  pub keeps : IsTrue old.tells → Keeps old new
+  pub marks : MarksUp old new 0
+
+-- What a command leaves once all was done, with status 0, or 8 where only its text could not be put. What `replay` and
+-- `run` leave stands with what they show.
+abbrev pub Leaves : {S T : Type 0} → FileGhosts S → DiskGhosts T → Command → S → S → T → T → Type 0
+Leaves F D (Cycles file count) files files_now disk disk_now = disk_now ≡ disk
+Leaves F D (Check names) files files_now disk disk_now = disk_now ≡ disk
+Leaves F D (New names store slot) files files_now disk disk_now =
+    LeavesNew F names slot files files_now (D.meaning disk) (D.meaning disk_now)
+Leaves F D (Show names store limit) files files_now disk disk_now = SparesDisk (D.meaning disk) (D.meaning disk_now)
+Leaves F D (Replay asked file) files files_now disk disk_now = Unit {0}
+Leaves F D (Run asked) files files_now disk disk_now = Unit {0}
+Leaves F D (Gen asked) files files_now disk disk_now = LeavesRecord F asked files files_now
+
+-- The statuses before whose refusals no step comes to the store, and those behind which it was come to.
+abbrev pub before_store : List ℕ
+before_store = 2 ∷ 3 ∷ 9 ∷ 11 ∷ 12 ∷ []
+
+abbrev pub at_store : List ℕ
+at_store = 0 ∷ 4 ∷ 5 ∷ 8 ∷ 10 ∷ []
+
+-- A command with a store attaches its name, once, exactly where the order comes to it; with want of memory once or
+-- never.
+pub record AttachesBy {T : Type 0} (D : DiskGhosts T) (name : List ℕ) (status : ℕ) (disk disk_now : T) : Type 0 where
+  pub never : IsOneOf before_store status → disk_now ≡ disk
+  pub once : IsOneOf at_store status → IsAttach (D.meaning disk).attached (D.meaning disk_now).attached name
+  pub at_most_once : status ≡ 7
+      → (disk_now ≡ disk) ⊎ IsAttach (D.meaning disk).attached (D.meaning disk_now).attached name
+
+-- without a store it leaves the disk
+abbrev pub AsksStore : {T : Type 0} → DiskGhosts T → Option (List ℕ) → ℕ → T → T → Type 0
+AsksStore D None status disk disk_now = disk_now ≡ disk
+AsksStore D (Some name) status disk disk_now = AttachesBy D name status disk disk_now
+
+-- What was asked of the link and the clock, by command: without a port nothing, and with one what `run` asks of them, and
+-- where it was done, what it leaves.
+abbrev pub AsksLiveOf : {S U V : Type 0} → FileGhosts S → LinkGhosts U → ClockGhosts V → Command → S → S → U → U → V → V
+    → Meaning → Meaning → Option (List ℕ) → Option (List ℕ) → ℕ → Type 0
+AsksLiveOf F L C (Run asked) files files_now link link_now clock clock_now disk disk_now before after status =
+    AsksLive L C asked.port status link link_now clock clock_now
+    (RanBy F L C asked files files_now link link_now clock clock_now disk disk_now before after status)
+AsksLiveOf F L C command files files_now link link_now clock clock_now disk disk_now before after status =
+    (link_now ≡ link) × (clock_now ≡ clock)
 
 -- ---- what must come
 
@@ -75,11 +158,36 @@ given_name read = option_map_or (λ text. read.name ∷ []) read.gave []
 
 -- no count of failed reads of a file rose that these reads gave
 abbrev pub DidNotFail : (List ℕ → ℕ) → (List ℕ → ℕ) → List Read → Type 0
-DidNotFail before now reads = (name : List ℕ) → Contains (flat_map given_name reads) name → Rose (before name) (now name) → ⊥
+DidNotFail before now reads =
+    (name : List ℕ) → Contains (flat_map given_name reads) name → Rose (before name) (now name) → ⊥
 
--- How what a command comes to is answered: a text with status 0, or with 8 where the sink's count moved; a refusal with its
--- status. Want of memory may come in the place of each.
-abbrev pub Follows : ℕ → ℕ → Result (List ℕ) KitsRefusal → ℕ → Type 0
+-- A disk that holds this answers so, where it does not fail: a name is attached, a store is made in an empty file
+-- alone, and one is opened where there is a whole one, to the payload of its newest slot.
+abbrev pub HowMade : Image → Made → Type 0
+HowMade content Whole = length content ≡ 0
+HowMade content NotEmpty = length content ≢ 0
+HowMade content Failed = ⊥
+
+abbrev pub HowOpened : Image → Opened → Type 0
+HowOpened content (Found payload) = (S : ℕ) × IsOpen S content payload
+HowOpened content NotAStore = IsNoStore content
+HowOpened content Unread = ⊥
+HowOpened content Unheld = ⊥
+
+-- A write is told to be done, and a port to be taken. Behind the making of a store nothing is told, nor behind a run.
+abbrev pub AreToldOf : Meaning → List Ask → Type 0
+AreToldOf disk [] = Unit {0}
+AreToldOf disk (Reads read ∷ asks) = AreToldOf disk asks
+AreToldOf disk (Writes name bytes how ∷ asks) = (how ≡ Written) × AreToldOf disk asks
+AreToldOf disk (Attaches name was_done ∷ asks) = (was_done ≡ true) × AreToldOf disk asks
+AreToldOf disk (Makes slot payload how ∷ asks) = IsTrue disk.tells × HowMade disk.content how × (asks ≡ [])
+AreToldOf disk (Opens how ∷ asks) = IsTrue disk.tells × HowOpened disk.content how × AreToldOf disk asks
+AreToldOf disk (Binds port was_done ∷ asks) = (was_done ≡ true) × AreToldOf disk asks
+AreToldOf disk (Runs ran ∷ asks) = asks ≡ []
+
+-- How what a command comes to is answered: a text with status 0, or with 8 where the sink's count moved; a refusal with
+-- its status. Want of memory may come in the place of each.
+abbrev pub Follows : ℕ → ℕ → Result (List ℕ) Refusal → ℕ → Type 0
 Follows faults_before faults_after (Ok text) status =
     ((Rose faults_before faults_after → ⊥) → IsOneOf (0 ∷ 7 ∷ []) status)
     × ((faults_after ≡ faults_before → ⊥) → IsOneOf (8 ∷ 7 ∷ []) status)

@@ -1,25 +1,32 @@
 //! What a command comes to is one, and tells which reads failed. Each is the contract of a function that does nothing.
 ghost use Rattle.std.specs.Prelude.{◌≡◌, ℕ, List, Result};
-ghost use Rattle.file_steps.specs.Steps.{Read, Agree};
-ghost use Rattle.file_steps.specs.Reads.{failed_names};
-ghost use Rattle.sed_kits.specs.declared.refusal.KitsRefusal.{KitsRefusal as Refusal};
-ghost use Rattle.sedona_cli.specs.Command.{Command};
-ghost use Rattle.sedona_cli.specs.Program.{Comes, failed_by, refusal_by};
+ghost use Rattle.sedona_cli.specs.declared.refusal.Refusal.{Refusal};
+ghost use Rattle.sedona_cli.specs.Agree.{AgreeOn, failed_by, failed_calls};
+ghost use Rattle.sedona_words.specs.Command.{Command, output_of};
+ghost use Rattle.sedona_cli.specs.Outside.{Ask};
+ghost use Rattle.sedona_cli.specs.Program.{Comes, refusal_by};
 
+use app_file::bytes_are_read_as_one;
+use input_files::{failed_inputs_are_told, inputs_agree};
+use new_store::texts_alone_are_alike;
 use sed_kits::{failed_loads_are_told, loads_agree};
 
-/// Of reads that agree a command comes to one end: to texts, or to one refusal.
+/// Of answers that agree a command comes to one end: to texts, or to one refusal.
 pub fn one_end()
-    ensures { (command : Command) (reads others : List Read) (end other : Result (List ℕ) Refusal) → Agree reads others
-        → Comes command reads end → Comes command others other → refusal_by end ≡ refusal_by other }
+    ensures { (command : Command) (asks others : List Ask) (end other : Result (List ℕ) Refusal) → AgreeOn asks others
+        → Comes command asks end → Comes command others other → refusal_by end ≡ refusal_by other }
 {
     loads_agree();
+    inputs_agree();
+    texts_alone_are_alike();
+    bytes_are_read_as_one();
 }
 
-/// The reads that failed are those that the end tells: none with a text, and the file of a file fault.
+/// The reads and writes that failed are those that the end tells: none with a text, and the file of a file fault.
 pub fn failed_reads_end_it()
-    ensures { (command : Command) (reads : List Read) (end : Result (List ℕ) Refusal)
-        → Comes command reads end → failed_names reads ≡ failed_by end }
+    ensures { (command : Command) (asks : List Ask) (end : Result (List ℕ) Refusal)
+        → Comes command asks end → failed_calls (output_of command) asks ≡ failed_by end }
 {
     failed_loads_are_told();
+    failed_inputs_are_told();
 }

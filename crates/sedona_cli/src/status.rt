@@ -2,7 +2,7 @@
 ghost use Rattle.std.specs.Prelude.{◌≡◌};
 ghost use Rattle.sedona_cli.specs.Status.{number_of, status_of};
 
-use sed_kits::KitsRefusal;
+use crate::refusal::Refusal;
 
 /// How a command ended.
 #[derive(Clone, Copy, Debug, PartialEq, Eq)]
@@ -13,12 +13,24 @@ pub enum Status {
     Usage,
     /// A manifest or a source is refused, or the kits break a rule.
     Refused,
-    /// A file could not be read.
+    /// A file could not be read, or the output file not be written.
     FileFault,
+    /// The disk failed while a store was attached, made or opened.
+    DeviceFault,
+    /// What the store's file holds is refused.
+    StoreRefused,
     /// Want of memory.
     NoMemory,
-    /// All was done, but its text could not be put.
+    /// All was done, but its text could not be put; or the sink failed what was put as it was done.
     SinkFault,
+    /// The bytes of a record's file are no record.
+    RecordRefused,
+    /// The link failed as its port was asked for.
+    LinkFault,
+    /// A users file or a secret file is refused.
+    InputRefused,
+    /// The slot of a new store is smaller than the application.
+    SlotTooSmall,
 }
 
 impl Status {
@@ -31,20 +43,37 @@ impl Status {
             Status::Usage => 1,
             Status::Refused => 2,
             Status::FileFault => 3,
+            Status::DeviceFault => 4,
+            Status::StoreRefused => 5,
             Status::NoMemory => 7,
             Status::SinkFault => 8,
+            Status::RecordRefused => 9,
+            Status::LinkFault => 10,
+            Status::InputRefused => 11,
+            Status::SlotTooSmall => 12,
         }
     }
 
     /// That of a refusal.
-    pub fn of(refusal: &KitsRefusal) -> Status
+    pub fn of(refusal: &Refusal) -> Status
         ensures { result ≡ status_of refusal.now }
     {
         match refusal {
-            KitsRefusal::FileFault { .. } => Status::FileFault,
-            KitsRefusal::Refused { .. } => Status::Refused,
-            KitsRefusal::Rule { .. } => Status::Refused,
-            KitsRefusal::Memory => Status::NoMemory,
+            Refusal::FileFault { .. } => Status::FileFault,
+            Refusal::Refused { .. } => Status::Refused,
+            Refusal::Rule { .. } => Status::Refused,
+            Refusal::SlotTooSmall { .. } => Status::SlotTooSmall,
+            Refusal::DeviceFault => Status::DeviceFault,
+            Refusal::StoreExists => Status::StoreRefused,
+            Refusal::NoStore => Status::StoreRefused,
+            Refusal::NoApplication => Status::StoreRefused,
+            Refusal::WrongKits { .. } => Status::StoreRefused,
+            Refusal::OverLimit { .. } => Status::StoreRefused,
+            Refusal::BadUsers => Status::InputRefused,
+            Refusal::ShortSecret => Status::InputRefused,
+            Refusal::BadRecord { .. } => Status::RecordRefused,
+            Refusal::LinkFault => Status::LinkFault,
+            Refusal::Memory => Status::NoMemory,
         }
     }
 }

@@ -42,6 +42,14 @@ pub fn moment(digits: &str) -> io::Result<i64> {
     }
 }
 
+/// A number in decimal of 64 bits.
+pub fn long(digits: &str) -> io::Result<u64> {
+    match digits.parse() {
+        Ok(number) => Ok(number),
+        Err(_) => Err(bad_input()),
+    }
+}
+
 /// A number in decimal of 8 bits.
 pub fn small(digits: &str) -> io::Result<u8> {
     match digits.parse() {

@@ -7,14 +7,17 @@
 //! - `marks 1 0` gives the mask of the parts of component 1 that are marked for session place 0, `settle 1 0 15` settles those of
 //!   the mask 15 there: 1 is t, 2 is c, 4 is r, 8 is l; `none` where the component is not live;
 //! - `file 52` writes the application file into 52 bytes, and gives its bytes, or `needs 60` where it has so many;
+//! - `print` gives the application as it is printed;
 //! - `turns 100` and `moment 5000` set what each root call gets from then on.
 ghost use Rattle.std.specs.Prelude.{◌≤◌};
 
-use crate::inputs::{id, moment, number, place, small, split};
+use crate::inputs::{id, moment, number, out_of_memory, place, small, split};
 use crate::payloads::payload;
 use crate::stage::Stage;
 use app_cycle::{begin, cycle};
 use app_writer::write_app;
+use printed_app::put_application;
+use printed_text::Collected;
 use sox_commands::Served;
 use sox_msg::read_request;
 use sox_serve::{ReplyBuf, serve};
@@ -41,6 +44,7 @@ pub fn do_step(alloc: Global, stage: &mut Stage, step: &str, out: &mut Vec<u8>) 
         "marks" => write_marks(stage, rest, out),
         "settle" => settle(stage, rest, out),
         "file" => write_file(alloc, stage, number(rest)?, out),
+        "print" => print(alloc, stage, out),
         _ => do_other(alloc, stage, step, out),
     }
 }
@@ -51,6 +55,15 @@ fn write_file(alloc: Global, stage: &Stage, most: u32, out: &mut Vec<u8>) -> io:
     match write_app(&stage.app, &mut bytes) {
         Ok(count) => write_bytes(&bytes[..count], out),
         Err(full) => write!(out, "needs {}", full.needs),
+    }
+}
+
+// Writes the application as it is printed.
+fn print(alloc: Global, stage: &Stage, out: &mut Vec<u8>) -> io::Result<()> {
+    let mut text = Collected::new(alloc);
+    match put_application(&stage.app, &mut text) {
+        Ok(()) => Ok(out.extend_from_slice(text.into_bytes().as_slice())?),
+        Err(_) => Err(out_of_memory()),
     }
 }
 
@@ -161,7 +174,8 @@ fn ask(stage: &mut Stage, payload: &[u8], out: &mut Vec<u8>) -> io::Result<bool>
     Ok(!reply.bytes().starts_with(b"!"))
 }
 
-fn write_bytes(bytes: &[u8], out: &mut Vec<u8>) -> io::Result<()> {
+/// Writes bytes in hexadecimal.
+pub fn write_bytes(bytes: &[u8], out: &mut Vec<u8>) -> io::Result<()> {
     for byte in bytes {
         write!(out, "{byte:02x}")?;
     }

@@ -6,3 +6,4 @@ pub mod FourParts
 pub mod OnePart
 pub mod PartBytes
 pub mod Passing
+pub mod Rooms

@@ -1,13 +1,15 @@
 -- What is due to a session place: by the marks of an application, and by what differs.
-use Rattle.std.specs.Prelude.{ℕ, ◌≡◌, ◌==◌, ◌&&◌, ◌||◌, not, nat_eq, nat_lt, Bool, true, false, if◌then◌else◌, List, ◌∷◌, ◌++◌, Option, Some, None, is_some, unwrap_or}
+use Rattle.std.specs.Prelude.{ℕ, ◌≡◌, ◌≤◌, ◌==◌, ◌&&◌, ◌||◌, not, nat_eq, nat_lt, Bool, true, false, if◌then◌else◌, List, ◌∷◌, ◌++◌, Option, Some, None, is_some, unwrap_or}
 use Rattle.std.specs.Option.{option_map_or}
 use Rattle.std.specs.Cmp.Lexicographic.{pointwise}
+use Rattle.sed_typed.specs.declared.schema.Schema.{Schema}
 use Rattle.sed_engine.specs.declared.engine.Engine.{Ghosts}
 use Rattle.comp_tree.specs.Application.{is_live}
 use Rattle.comp_tree.specs.Held.{components_of}
 use Rattle.comp_tree.specs.Marks.{Part as TreePart}
 use Rattle.link_prop.specs.Linked.{Linked, application_of}
 use Rattle.link_prop.specs.Marks.{AppPart, bytes_at, is_marked}
+use Rattle.app_parts.specs.Longest.{longest_part}
 use Rattle.sub_table.specs.declared.part.Part.{Part}
 use Rattle.sub_table.specs.declared.part.Part.TheVariants.{Tree, Config, Runtime, Links}
 use Rattle.sub_table.specs.Parts.{is_part}
@@ -25,9 +27,16 @@ app_part Config = AppPart.OfTree TreePart.Config
 app_part Runtime = AppPart.OfTree TreePart.Runtime
 app_part Links = AppPart.OfLinks
 
--- how many bytes a part has at most
-abbrev pub longest : Part → ℕ
-longest part = 438
+-- the letters t, c, r and l
+abbrev pub letter_of : Part → ℕ
+letter_of Tree = 116
+letter_of Config = 99
+letter_of Runtime = 114
+letter_of Links = 108
+
+-- how many bytes a part has at most, of a component of any class of a schema
+abbrev pub longest : Schema → Part → ℕ
+longest schema part = longest_part schema (letter_of part)
 
 abbrev pub lives : {E : Type 0} → Ghosts E → Linked E → ℕ → Bool
 lives g a id = is_live (components_of g a.tree).by_id id
@@ -91,18 +100,15 @@ comparisons s = s.compared
 abbrev pub room_for : Subs → Part → ℕ
 room_for s part = most_bytes s.table part
 
+-- an event of every part of every component of an application over the schema has room
+abbrev pub HasRoom : Schema → Subs → Type 0
+HasRoom schema s = (part : Part) → longest schema part ≤ room_for s part
+
 -- what is of live components stays subscribed
 abbrev pub of_the_live : {E : Type 0} → Ghosts E → Linked E → Subscriptions → Subscriptions
 of_the_live g a subs place id part = if lives g a id then subs place id part else None
 
 -- ---- the next event
-
--- the letters t, c, r and l
-abbrev pub letter_of : Part → ℕ
-letter_of Tree = 116
-letter_of Config = 99
-letter_of Runtime = 114
-letter_of Links = 108
 
 abbrev pub bit_of : Part → ℕ
 bit_of Tree = 1

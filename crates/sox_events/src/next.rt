@@ -7,7 +7,7 @@ ghost use Rattle.sub_table.specs.declared.part.Part.{Part as PartOf};
 ghost use Rattle.sub_table.specs.Table.{at, most_bytes, with_event};
 ghost use Rattle.link_prop.specs.Linked.{one_if};
 ghost use Rattle.sox_events.specs.Compared.{Counts, has_event, how_many, risen, was_compared};
-ghost use Rattle.sox_events.specs.Due.{comparisons, Gives, Passes, before_it, all_of_them, bit_of, bytes_of, is_last, letter_of, longest, marked, may_be_due, none_of_them, only, rank, room_for, subscriptions};
+ghost use Rattle.sox_events.specs.Due.{comparisons, Gives, HasRoom, Passes, before_it, all_of_them, bit_of, bytes_of, is_last, letter_of, longest, marked, may_be_due, none_of_them, only, rank, room_for, subscriptions};
 ghost use Rattle.sox_msg.specs.Command.{u2};
 ghost use Rattle.std.specs.Prelude.{◌∷◌, ◌++◌};
 
@@ -34,7 +34,7 @@ impl Subs {
         into: &mut [u8; 498],
     ) -> Option<usize>
         requires place { place < 16 }
-        requires room { (part : PartOf) → longest part ≤ room_for self.old part }
+        requires room { HasRoom (E.meaning app.old.tree.engine).schema self.old }
         ensures event { MatchOption result
             (Passes E.Engine app.old app.new (subscriptions self.old) place all_of_them × (subscriptions self.new ≡ subscriptions self.old) × (into.new ≡ into.old))
             (λ count. (id : ℕ) × (part : PartOf) × Gives E.Engine app.old app.new (subscriptions self.old) (subscriptions self.new) place (before_it id part) id part count into.old into.new) }
@@ -54,7 +54,7 @@ fn next_of<E: Engine>(
     compared: &mut u64,
 ) -> Option<usize>
     requires place { place < 16 }
-    requires room { (part : PartOf) → longest part ≤ most_bytes table.old part }
+    requires room { (part : PartOf) → longest (E.meaning app.old.tree.engine).schema part ≤ most_bytes table.old part }
     ensures event { MatchOption result
         (Passes E.Engine app.old app.new (at table.old) place all_of_them × (at table.new ≡ at table.old) × (into.new ≡ into.old))
         (λ count. (id : ℕ) × (part : PartOf) × Gives E.Engine app.old app.new (at table.old) (at table.new) place (before_it id part) id part count into.old into.new) }
@@ -83,12 +83,13 @@ fn event_of<E: Engine>(
 ) -> Option<usize>
     requires place { place < 16 }
     requires bound { id.0 < 4096 }
-    requires room { (part : PartOf) → longest part ≤ most_bytes table.old part }
+    requires room { (part : PartOf) → longest (E.meaning app.old.tree.engine).schema part ≤ most_bytes table.old part }
     ensures event { MatchOption result
         (Passes E.Engine app.old app.new (at table.old) place (λ i q. i == id.0) × (table.new ≡ table.old) × (into.new ≡ into.old))
         (λ count. (part : PartOf) × Gives E.Engine app.old app.new (at table.old) (at table.new) place (λ i q. i == id.0 && nat_lt (rank q) (rank part)) id.0 part count into.old into.new) }
     ensures compared { Counts app.old app.new (at table.old) place compared.old compared.new }
     ensures room { (part : PartOf) → most_bytes table.new part ≡ most_bytes table.old part }
+    ensures meaning { E.meaning app.new.tree.engine ≡ E.meaning app.old.tree.engine }
 {
     if is_dead(app, id) {
         return None;
@@ -108,12 +109,13 @@ fn event_of_parts<E: Engine>(
     requires place { place < 16 }
     requires bound { id.0 < 4096 }
     requires live { IsSome (map.get (components_of E.Engine app.old.tree).by_id id.0) }
-    requires room { (part : PartOf) → longest part ≤ most_bytes table.old part }
+    requires room { (part : PartOf) → longest (E.meaning app.old.tree.engine).schema part ≤ most_bytes table.old part }
     ensures event { MatchOption result
         (Passes E.Engine app.old app.new (at table.old) place (λ i q. i == id.0) × (table.new ≡ table.old) × (into.new ≡ into.old))
         (λ count. (part : PartOf) × Gives E.Engine app.old app.new (at table.old) (at table.new) place (λ i q. i == id.0 && nat_lt (rank q) (rank part)) id.0 part count into.old into.new) }
     ensures compared { Counts app.old app.new (at table.old) place compared.old compared.new }
     ensures room { (part : PartOf) → most_bytes table.new part ≡ most_bytes table.old part }
+    ensures meaning { E.meaning app.new.tree.engine ≡ E.meaning app.old.tree.engine }
 {
     let tree = event_of_part(table, place, id, Part::Tree, app, into, compared);
     if tree.is_some() {
@@ -143,12 +145,13 @@ fn event_of_part<E: Engine>(
     requires place { place < 16 }
     requires bound { id.0 < 4096 }
     requires live { IsSome (map.get (components_of E.Engine app.old.tree).by_id id.0) }
-    requires room { longest part ≤ most_bytes table.old part }
+    requires room { longest (E.meaning app.old.tree.engine).schema part ≤ most_bytes table.old part }
     ensures event { MatchOption result
         (Passes E.Engine app.old app.new (at table.old) place (only id.0 part) × (table.new ≡ table.old) × (into.new ≡ into.old))
         (λ count. Gives E.Engine app.old app.new (at table.old) (at table.new) place none_of_them id.0 part count into.old into.new) }
     ensures compared { Counts app.old app.new (at table.old) place compared.old compared.new }
     ensures room { (other : PartOf) → most_bytes table.new other ≡ most_bytes table.old other }
+    ensures meaning { E.meaning app.new.tree.engine ≡ E.meaning app.old.tree.engine }
 {
     if !may_be_due(table, app, place, id, part) {
         return None;
@@ -177,6 +180,7 @@ fn put_part<E: Engine>(app: &App<E>, id: Id, part: Part, bytes: &mut [u8; 438]) 
     requires { IsSome (map.get (components_of E.Engine app.now.tree).by_id id.0) }
     ensures front { take result bytes.new ≡ bytes_of E.Engine app.now id.0 part }
     ensures few { result ≤ 438 }
+    ensures fits { result ≤ longest (E.meaning app.now.tree.engine).schema part }
 {
     write_part(app, id, letter_of(part), bytes)
 }
@@ -195,7 +199,7 @@ fn event_of_bytes(
     requires bound { id.0 < 4096 }
     requires subscribed { IsSome (at table.old place id.0 part) }
     requires short { length bytes.now ≤ 438 }
-    requires room { longest part ≤ most_bytes table.old part }
+    requires room { length bytes.now ≤ most_bytes table.old part }
     ensures event { MatchOption result
         ((is_last bytes.now (at table.old place id.0 part) ≡ true) × (table.new ≡ table.old) × (into.new ≡ into.old))
         (λ count. (is_last bytes.now (at table.old place id.0 part) ≡ false)
@@ -247,8 +251,8 @@ fn is_last(
     }
 }
 
-// The letter of a part.
-fn letter_of(part: Part) -> u8
+/// The letter of a part.
+pub(crate) fn letter_of(part: Part) -> u8
     ensures same { result ≡ letter_of part }
     ensures told { IsTrue (is_told result) }
 {

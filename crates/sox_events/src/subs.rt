@@ -1,28 +1,25 @@
 //! Who is told what.
-ghost use Rattle.std.specs.Prelude.{◌≡◌, ◌&&◌, ◌==◌, ◌<◌, ℕ, None, IfOk, not, if◌then◌else◌};
+ghost use Rattle.std.specs.Prelude.{◌≡◌, ◌&&◌, ◌==◌, ◌<◌, ◌↔◌, ℕ, None, IfOk, true, nat_le, not, if◌then◌else◌};
 ghost use Rattle.sub_table.specs.declared.part.Part.{Part as PartOf};
+ghost use Rattle.sub_table.specs.Parts.{width_of};
 ghost use Rattle.sub_table.specs.Table.{at, most_bytes, nothing_subscribed, with_subscribed, without_subscribed, without_place};
-ghost use Rattle.sox_events.specs.Due.{comparisons, lives, longest, of_the_live, room_for, subscriptions};
+ghost use Rattle.sox_events.specs.Due.{HasRoom, comparisons, lives, longest, of_the_live, room_for, subscriptions};
 
+use crate::next::letter_of;
+use app_parts::longest_part;
 use link_prop::App;
 use sed_engine::Engine;
+use sed_typed::Schema;
 use sed_value::{Id, Memory};
 use std::alloc::Global;
-use sub_table::{IDS, SubTable, Widths};
-
-// How many bytes an event of each part has at most.
-const LONGEST: Widths = Widths {
-    tree: 438,
-    config: 438,
-    runtime: 438,
-    links: 438,
-};
+use sub_table::{IDS, Part, SubTable, Widths};
 
 /// Who has subscribed which part of which component at which session place, 0 to 15, and the bytes of the last event
 /// that was posted of each. Contracts see it by `subscriptions`: of a place, an id and a part none where it is not
 /// subscribed, and else the last event, if there is one.
 ///
-/// All memory is taken by `new`, about 116 MB. No other call takes any.
+/// All memory is taken by `new`, as much as the components of a schema may need: about 106 MB at the limits, some
+/// 54 MB where classes are small. No other call takes any.
 #[derive(Drop)]
 pub struct Subs {
     pub(crate) table: SubTable,
@@ -31,15 +28,27 @@ pub struct Subs {
 }
 
 impl Subs {
-    /// Nothing is subscribed, and nothing was compared. There is room for an event of every part of every component
-    /// at every place.
-    pub fn new(alloc: Global) -> Result<Subs, Memory>
+    /// Nothing is subscribed, and nothing was compared. There is room for an event of every part of every component of
+    /// an application over the schema, at every place.
+    pub fn new(alloc: Global, schema: &Schema) -> Result<Subs, Memory>
         ensures none { IfOk result (λ subs. (p i : ℕ) (part : PartOf) → subscriptions subs p i part ≡ nothing_subscribed p i part) }
         ensures compared { IfOk result (λ subs. comparisons subs ≡ 0) }
-        ensures room { IfOk result (λ subs. (part : PartOf) → room_for subs part ≡ longest part) }
+        ensures room { IfOk result (λ subs. (part : PartOf) → room_for subs part ≡ longest schema.now part) }
     {
-        let table = SubTable::new(alloc, LONGEST)?;
+        let table = SubTable::new(alloc, widths_of(schema))?;
         Ok(Subs { table, compared: 0 })
+    }
+
+    /// Whether there is room for an event of every part of every component of an application over a schema, as there is
+    /// for that of `new`.
+    pub fn has_room(&self, schema: &Schema) -> bool
+        ensures { (result ≡ true) ↔ HasRoom schema.now self.now }
+    {
+        let tree = fits(&self.table, Part::Tree, schema);
+        let config = fits(&self.table, Part::Config, schema);
+        let runtime = fits(&self.table, Part::Runtime, schema);
+        let links = fits(&self.table, Part::Links, schema);
+        are_all(tree, config, runtime, links)
     }
 
     /// The parts of a mask are subscribed at a place: a bit each for `t`, `c`, `r` and `l`, 1, 2, 4 and 8. One that
@@ -92,6 +101,31 @@ impl Subs {
     {
         self.compared
     }
+}
+
+// How many bytes an event of each part has at most.
+fn widths_of(schema: &Schema) -> Widths
+    ensures { (part : PartOf) → width_of result part ≡ longest schema.now part }
+{
+    Widths {
+        tree: longest_part(schema, b't'),
+        config: longest_part(schema, b'c'),
+        runtime: longest_part(schema, b'r'),
+        links: longest_part(schema, b'l'),
+    }
+}
+
+fn are_all(tree: bool, config: bool, runtime: bool, links: bool) -> bool
+    ensures { result ≡ (((tree && config) && runtime) && links) }
+{
+    tree && config && runtime && links
+}
+
+// Whether there is room for an event of a part.
+fn fits(table: &SubTable, part: Part, schema: &Schema) -> bool
+    ensures { result ≡ nat_le (longest schema.now part) (most_bytes table.now part) }
+{
+    longest_part(schema, letter_of(part)) <= table.most_bytes(part)
 }
 
 // Nothing of an id that is not live is subscribed any more.

@@ -4,7 +4,7 @@
 //! the answer that the definitions give to its command, whatever the engine. A refusal leaves the application as it was,
 //! and is the first of the command's row; want of memory comes only to an add over an engine that is not fixed. It marks
 //! at most what its command has in the table of marks, and nothing where it is refused. Nothing here takes memory: the
-//! reply is put in place. The node is to stand on it, and never sees a command's letter.
+//! reply is put in place. The node (sed_node) stands on it, and never sees a command's letter.
 #![tactic(auto)]
 
 mod answering;

@@ -50,6 +50,13 @@ impl Events {
         })
     }
 
+    /// How many bytes an event may have.
+    pub fn width(&self) -> u16
+        ensures { result ≡ self.now.width }
+    {
+        self.width
+    }
+
     /// Whether a number has subscribed.
     pub fn contains(&self, number: usize) -> bool
         requires { number < 65536 }

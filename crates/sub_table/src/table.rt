@@ -52,6 +52,19 @@ impl SubTable {
             links,
         })
     }
+
+    /// How many bytes an event of a part may have.
+    pub fn most_bytes(&self, part: Part) -> u16
+        ensures { result ≡ most_bytes self.now part }
+    {
+        match part {
+            Part::Tree => self.tree.width(),
+            Part::Config => self.config.width(),
+            Part::Runtime => self.runtime.width(),
+            Part::Links => self.links.width(),
+        }
+    }
+
     /// The parts of a mask are subscribed at a place. One that was already stays as it is.
     pub fn subscribe(&mut self, place: u8, id: Id, mask: u8)
         requires place { place < 16 }

@@ -21,12 +21,13 @@ use Rattle.sed_value.specs.Value.{is_signed}
 use Rattle.sed_engine.specs.declared.call.CallEnd.TheVariants.{Done}
 use Rattle.sed_engine.specs.declared.call.Root.{Root}
 use Rattle.sed_engine.specs.Asked.{MayAsk}
-use Rattle.sed_engine.specs.Code.{Object, Places, Question, asked_of, called, data_of, is_creatable, is_property, may_call, may_store, root_of, slot_value, slot_type, slot_path, with_slot}
+use Rattle.sed_engine.specs.Code.{Object, Places, Question, asked_of, called, data_of, is_creatable, is_property, is_same_field, may_call, may_store, root_of, slot_value, slot_type, slot_path, with_slot}
 use Rattle.sed_engine.specs.Root.{RootEnd}
-use Rattle.sed_engine.specs.Whole.{IsObject}
+use Rattle.sed_engine.specs.Fits.{form_at}
+use Rattle.sed_engine.specs.Whole.{IsObject, field_form}
 use Rattle.tiny_engine.specs.Sys.{sys_classes}
-use Rattle.tiny_engine.specs.Tiny.{Held, One, code_of, meta_is, meaning_of, object_of, live_of, int_or, has_meta, IsCreated, IsSys, KeepsInt}
-use Rattle.tiny_engine.proofs.WholeSys.{created_has, created_may, one_fits}
+use Rattle.tiny_engine.specs.Tiny.{Held, One, code_of, meta_is, meaning_of, object_of, live_of, int_or, has_meta, sys_fields, sys_slot_field, IsCreated, IsSys, KeepsInt}
+use Rattle.tiny_engine.proofs.WholeSys.{created_has, created_may, one_fits, sys_tables}
 
 no_entry : {A : Type 0} (es : List A) → length es ≡ 0 → es ≡ []
 no_entry [] e = refl
@@ -183,6 +184,28 @@ meta_stored schema sys o created slot e v n is =
     ap (λ (k : ℕ). with_slot (meaning_of schema) (object_of o) k v) e
     ∙ ap (λ (t : Option SlotType). O (with_value (meta_is o.meta) (slot_path (meaning_of schema) o.class 0) (option_map_or (λ t. stored t v) t v))) (type_is schema sys o.class created)
     ∙ ap O (set_at schema o v n (has_meta o.class) (created_has o.class created) is)
+
+some_zero : (b : Bool) (P : ℕ → Type 0) → IsSomeAnd (if b then Some 0 else None) P → ◌≡◌ {A = Option ℕ} (if b then Some 0 else None) (Some 0)
+some_zero true P h = refl
+some_zero false P h = absurd h
+
+abbrev HasForm : ℕ → SlotType → ℕ → Type 0
+HasForm class t i = form_at (sys_fields class) i ≡ Some (field_form t)
+
+-- a property has the field of `meta`
+field_is : (schema : Schema) → IsSys schema → (class slot : ℕ) → is_property (meaning_of schema) class slot ≡ true → sys_slot_field class slot ≡ Some 0
+field_is schema sys class slot h = go (slot_type (meaning_of schema) class slot) ((sys_tables schema sys).slot_fields class slot) h
+  where
+    go : (o : Option SlotType) → IfSome o (λ t. IsSomeAnd (sys_slot_field class slot) (HasForm class t)) → option_map_or (λ (t : SlotType). true) o false ≡ true → sys_slot_field class slot ≡ Some 0
+    go None f h = let never : ⊥ = cc in absurd never
+    go (Some t) f h = some_zero (has_meta class && (slot == 0)) (HasForm class t) f
+
+-- so any two have one field
+pub same_field_is : (schema : Schema) → IsSys schema → (class a b : ℕ) → is_property (meaning_of schema) class a ≡ true → is_property (meaning_of schema) class b ≡ true →
+    true ≡ is_same_field (meaning_of schema) class a b
+same_field_is schema sys class a b first other = sym
+    (ap (λ (o : Option ℕ). option_map_or (λ i. option_map_or (λ j. i == j) (sys_slot_field class b) false) o false) (field_is schema sys class a first)
+    ∙ ap (λ (o : Option ℕ). option_map_or (λ j. 0 == j) o false) (field_is schema sys class b other))
 
 -- the data of what is live and of a new component
 pub data_is : (schema : Schema) → IsSys schema → (one : Option One) → IsCreated one → (n : ℕ) → is_creatable (meaning_of schema) n ≡ true →

@@ -127,6 +127,12 @@ impl Engine for Tiny {
         &self.schema
     }
 
+    // `meta` is the only property.
+    fn same_field(&self, _t: TypeNo, _a: SlotNo, _b: SlotNo) -> bool {
+        let _limit = self.limit;
+        true
+    }
+
     fn add(&mut self, t: TypeNo) -> Result<Place, AddRefusal> {
         if self.is_full(t) {
             return Err(AddRefusal::DataFull);

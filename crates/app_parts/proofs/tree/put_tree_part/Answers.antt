@@ -7,6 +7,9 @@ use Rattle.sed_wire.specs.Writing.{Appends}
 use Rattle.sed_wire.proofs.WritingLemmas.{appends-then}
 use Rattle.sox_msg.proofs.WritingLemmas.{room-after}
 use Rattle.comp_tree.specs.Parts.{class_bytes, no_id, text, u1, u2}
+use Rattle.comp_tree.specs.Application.{children_of}
+use Rattle.comp_tree.specs.Held.{components_of}
+use Rattle.app_parts.proofs.Lengths.{tree-short}
 use Rattle.app_parts.proofs.ValueLemmas.{class_short, name_short}
 use Rattle.app_parts.proofs.tree.put_tree_part.Goals as goal
 
@@ -80,9 +83,19 @@ put_children-requires-clause-room g c =
     let few = c.requires.few in
     omega (arith, r1, k1, short, start, r2, k2, r3, r4, r5, few)
 
-pub returns : goal.returns
-returns g c =
+pub returns-clause-bytes : goal.returns-clause-bytes
+returns-clause-bytes g c =
     let m = g.E.Engine.meaning c.args.tree.now.engine in
     let class = c.put_class.ensures m (sym c.schema.ensures.same) in
     let name = subst (λ (n : List ℕ). Appends c.put_class.new.writer c.put_text.new.writer (text n)) c.as_bytes.ensures.same c.put_text.ensures in
     appends-then _ _ _ _ _ (appends-then _ _ _ _ _ (appends-then _ _ _ _ _ (appends-then _ _ _ _ _ (appends-then _ _ _ _ _ class name) c.put_id.ensures) c.put_u1.ensures) c.put_u1-2.ensures) c.put_children.ensures
+
+pub returns-clause-short : goal.returns-clause-short
+returns-clause-short g c =
+    let m = g.E.Engine.meaning c.args.tree.now.engine in
+    let form = subst (λ (n : List ℕ). IsTrue (is_name n)) c.as_bytes.ensures.same
+    (subst (λ (n : List ℕ). IsTrue (is_name n)) (sym c.as_bytes.ensures.same) c.as_bytes.ensures.form) in
+    let few = c.requires.few in
+    let count = c.requires.children in
+    tree-short m c.args.entry.now.kind.0 c.args.entry.now.name (option_map_or (λ (i : Id). i.0) c.args.entry.now.parent no_id) c.args.entry.now.children
+    (children_of (components_of g.E.Engine c.args.tree.now).by_id c.args.id.0) form (omega (arith, few, count))

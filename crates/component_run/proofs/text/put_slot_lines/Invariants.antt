@@ -1,11 +1,13 @@
-use Rattle.std.proofs.Common.{◌≡◌, ◌++◌, Some, take}
+use Rattle.std.proofs.Common.{◌≡◌, Ok, Some, take}
 use Rattle.std.specs.FinMap as map
 use Rattle.std.specs.List.{enumerate_from, flat_map}
 use Rattle.sed_engine.specs.Code.{Object}
+use Rattle.printed_text.specs.Puts.{Puts}
 use Rattle.component_run.specs.Alone as alone
 use Rattle.component_run.proofs.text.put_slot_lines.Given as goal
 
 -- the lines of the slots so far
 abbrev pub invariant-loop-number : goal.invariant-loop-number
 invariant-loop-number g l = (o : Object) → map.get (g.E.Engine.live l.engine) l.component.place.0 ≡ Some o →
-    l.into.items ≡ l.initial.into.items ++ flat_map (alone.slot_line (g.E.Engine.meaning l.engine) o) (take l.number (enumerate_from 0 l.slots))
+    Puts g.O.Sink l.initial.out l.out
+    (flat_map (alone.slot_line (g.E.Engine.meaning l.engine) o) (take l.number (enumerate_from 0 l.slots))) (Ok tt)

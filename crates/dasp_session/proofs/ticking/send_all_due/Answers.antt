@@ -14,7 +14,8 @@ due-init c = (
   λ session like none. goes-none _ session c.args.place.now c.args.out.now like none,
   c.requires.live,
   refl,
-  omega (arith, count_by-le-length {X = Posted}, c.requires.few),
+  omega (arith, count_by-le-length {X = Posted}),
+  refl,
 )
 
 pub due-preserved : goal.due-preserved
@@ -29,6 +30,7 @@ due-preserved c =
       c.send_due.ensures.live ∙ c.due.invariant.1,
       c.send_due.ensures.user ∙ c.due.invariant.2,
       omega (arith, c.due.invariant.3, out, fewer),
+      c.send_due.ensures.as_many ∙ c.due.invariant.4,
     )
 
 pub returns : goal.returns
@@ -45,5 +47,6 @@ returns c =
           (c.send_due.ensures.live ∙ c.due.invariant.1));
       live = c.send_due.ensures.live ∙ c.due.invariant.1;
       user = c.send_due.ensures.user ∙ c.due.invariant.2;
+      as_many = c.send_due.ensures.as_many ∙ c.due.invariant.4;
       few = omega (arith, c.due.invariant.3, out);
     }

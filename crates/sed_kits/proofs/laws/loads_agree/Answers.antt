@@ -3,6 +3,7 @@ use Rattle.sed_units.specs.declared.classes.Unit.{Unit as TheUnit}
 use Rattle.kit_sources.specs.declared.sources.Sources.{Sources}
 use Rattle.kit_sources.specs.Sources.{KitsRead, SourceRead}
 use Rattle.sed_kits.specs.Loading.{KitsLoaded, TextLoaded, local}
+use Rattle.sed_kits.proofs.Alike.{load_alike}
 use Rattle.sed_kits.proofs.Loads.{load_one}
 use Rattle.sed_kits.proofs.laws.loads_agree.Goals as goal
 
@@ -10,6 +11,11 @@ pub returns-clause-kits : goal.returns-clause-kits
 unfolding KitsLoaded
 returns-clause-kits c = λ names reads others end other h k agree.
     load_one (KitsRead names) (λ (s : Sources). s) false (λ rs os e o p q a. c.what_is_read_is_one.ensures.kits names rs os e o p q a) reads others end other h k agree
+
+pub returns-clause-alike : goal.returns-clause-alike
+unfolding KitsLoaded
+returns-clause-alike c = λ names reads others p q h k agree.
+    load_alike (KitsRead names) (λ (s : Sources). s) false (λ rs os e o m n a. c.what_is_read_is_one.ensures.kits names rs os e o m n a) reads others p q h k agree
 
 pub returns-clause-text : goal.returns-clause-text
 unfolding TextLoaded

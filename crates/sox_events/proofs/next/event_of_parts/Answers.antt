@@ -1,12 +1,29 @@
-use Rattle.std.proofs.Common.{rules, ◌≡◌, ◌≤◌, ℕ, true, false, is_some, sym, ◌∙◌, subst}
+use Rattle.std.proofs.Common.{rules, ◌≡◌, true, false, is_some, ◌∙◌}
 use Rattle.sub_table.specs.declared.part.Part.TheVariants.{Tree, Config, Runtime, Links}
 use Rattle.sox_events.proofs.FourParts.{first_stage, given_here, last_here, passed_here, stage_more}
 use Rattle.sox_events.proofs.Counting.{counts_next}
+use Rattle.sox_events.proofs.Rooms.{room_kept}
 use Rattle.sox_events.proofs.next.event_of_parts.Goals as goal
+
+pub event_of_part-tree-requires-clause-room : goal.event_of_part-tree-requires-clause-room
+event_of_part-tree-requires-clause-room g c = c.requires.room Tree
+
+pub event_of_part-config-requires-clause-room : goal.event_of_part-config-requires-clause-room
+event_of_part-config-requires-clause-room g c =
+    room_kept g.E.Engine c.args.app.now c.event_of_part-tree.new.app c.args.table.now c.event_of_part-tree.new.table Config
+    c.event_of_part-tree.ensures.meaning (c.event_of_part-tree.ensures.room Config) (c.requires.room Config)
+
+pub event_of_part-runtime-requires-clause-room : goal.event_of_part-runtime-requires-clause-room
+event_of_part-runtime-requires-clause-room g c =
+    room_kept g.E.Engine c.args.app.now c.event_of_part-config.new.app c.args.table.now c.event_of_part-config.new.table Runtime
+    (c.event_of_part-config.ensures.meaning ∙ c.event_of_part-tree.ensures.meaning)
+    (c.event_of_part-config.ensures.room Runtime ∙ c.event_of_part-tree.ensures.room Runtime) (c.requires.room Runtime)
 
 pub event_of_part-requires-clause-room : goal.event_of_part-requires-clause-room
 event_of_part-requires-clause-room g c =
-    subst (λ (n : ℕ). 438 ≤ n) (sym (c.event_of_part-runtime.ensures.room Links ∙ c.event_of_part-config.ensures.room Links ∙ c.event_of_part-tree.ensures.room Links)) (c.requires.room Links)
+    room_kept g.E.Engine c.args.app.now c.event_of_part-runtime.new.app c.args.table.now c.event_of_part-runtime.new.table Links
+    (c.event_of_part-runtime.ensures.meaning ∙ c.event_of_part-config.ensures.meaning ∙ c.event_of_part-tree.ensures.meaning)
+    (c.event_of_part-runtime.ensures.room Links ∙ c.event_of_part-config.ensures.room Links ∙ c.event_of_part-tree.ensures.room Links) (c.requires.room Links)
 
 pub returns-then-is_some-clause-event : goal.returns-then-is_some-clause-event
 returns-then-is_some-clause-event g c =

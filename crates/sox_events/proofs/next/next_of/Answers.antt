@@ -1,8 +1,9 @@
-use Rattle.std.proofs.Common.{rules, ◌≡◌, ◌≤◌, true, false, is_some, refl, sym, ap, subst}
+use Rattle.std.proofs.Common.{rules, ◌≡◌, true, false, is_some, refl, ap}
 use Rattle.sub_table.specs.declared.table.SubTable.{SubTable}
 use Rattle.sub_table.specs.Table.{at, most_bytes}
 use Rattle.sox_events.proofs.AllIds.{first_turn, last_turn, turn_gives, turn_passes}
 use Rattle.sox_events.proofs.Counting.{counts_next, counts_none}
+use Rattle.sox_events.proofs.Rooms.{room_kept}
 use Rattle.sox_events.proofs.next.next_of.Goals as goal
 
 pub ids-init : goal.ids-init
@@ -29,7 +30,8 @@ ids-preserved g c =
 
 pub event_of-given-requires-clause-room : goal.event_of-given-requires-clause-room
 event_of-given-requires-clause-room g c = λ part.
-    subst (λ (t : SubTable). 438 ≤ most_bytes t part) (sym c.ids.invariant.table) (c.requires.room part)
+    room_kept g.E.Engine c.args.app.now c.ids.app c.args.table.now c.ids.table part c.ids.invariant.passes.meaning
+    (ap (λ (t : SubTable). most_bytes t part) c.ids.invariant.table) (c.requires.room part)
 
 pub returns-then-is_some-clause-event : goal.returns-then-is_some-clause-event
 returns-then-is_some-clause-event g c =

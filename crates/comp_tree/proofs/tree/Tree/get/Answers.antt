@@ -1,9 +1,7 @@
-use Rattle.std.proofs.Common.{◌≡◌, sym, subst}
-use Rattle.std.specs.Prelude.{Some, IfSome, IsSomeAnd, IsTrue}
-use Rattle.std.specs.FinMap as map
-use Rattle.std.specs.Option.{option_map}
+use Rattle.std.proofs.Common.{sym, subst}
+use Rattle.std.specs.Prelude.{IfSome, IsTrue}
 use Rattle.sed_value.specs.Value.{is_of_type}
-use Rattle.comp_tree.specs.Application.{object_of, type_at}
+use Rattle.comp_tree.specs.Application.{type_at}
 use Rattle.comp_tree.specs.Held.{Held, IsPropertyOf, by_id_of}
 use Rattle.comp_tree.proofs.FitLemmas.{read_is_of_type}
 use Rattle.comp_tree.proofs.tree.Tree.get.Goals as goal

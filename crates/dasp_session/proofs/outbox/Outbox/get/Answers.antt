@@ -12,11 +12,11 @@ index-requires c =
     (subst (λ (out : List Datagram). c.args.place < length out) (sym c.self.view_is) c.requires) in
     omega (arith, less.1)
 
-pub returns : goal.returns
-returns c = λ other.
+pub returns-clause-is : goal.returns-clause-is
+returns-clause-is c = λ other.
     let less = within c.self.inside.datagrams.items c.self.inside.len c.args.place
     (subst (λ (out : List Datagram). c.args.place < length out) (sym c.self.view_is) c.requires) in
     ap (λ (out : List Datagram). get_or out c.args.place other) (sym c.self.view_is)
     ∙ get_or-take c.self.inside.len c.self.inside.datagrams.items c.args.place other less.0
     ∙ get_or_default c.self.inside.datagrams.items c.args.place other c.index.result.now less.1
-    ∙ sym c.index.ensures ∙ c.parts.ensures
+    ∙ sym c.index.ensures ∙ c.parts.ensures.is

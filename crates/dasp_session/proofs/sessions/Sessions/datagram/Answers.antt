@@ -1,4 +1,4 @@
-use Rattle.std.proofs.Common.{◌≡◌, refl, sym, ap, subst, rules}
+use Rattle.std.proofs.Common.{◌≡◌, ◌≤◌, ℕ, drop, length, refl, sym, ◌∙◌, ap, subst, rules}
 use Rattle.std.specs.Prelude.{Option, Some, None}
 use Rattle.dasp_msg.specs.Message.{IsMalformed}
 use Rattle.dasp_msg.specs.Shown.{Message}
@@ -33,3 +33,13 @@ returns-in-Err-clause-hands c = λ state read stands is.
     let bad : IsMalformed c.args.bytes.now = c.in-Err.ensures.malformed.0 (search rules) in
     let same : read ≡ None = read_none c.args.bytes.now read bad is in
     subst (λ (read : Option Message). Hands c.args.bytes.now (received state c.args.from read).handing Nothing) (sym same) refl
+
+pub returns-in-Ok-clause-own : goal.returns-in-Ok-clause-own
+returns-in-Ok-clause-own c = λ message place at is gives.
+    let same : message_of c.in-Ok.msg ≡ message = c.in-Ok.ensures.only message is in
+    ap (λ (n : ℕ). drop n c.args.bytes.now) (c.receive.ensures.at_is place at gives) ∙ c.start_of.ensures.behind
+    ∙ ap (λ (m : Message). m.payload) same
+
+pub returns-in-Ok-clause-within : goal.returns-in-Ok-clause-within
+returns-in-Ok-clause-within c = λ place at gives.
+    subst (λ (n : ℕ). n ≤ length c.args.bytes.now) (sym (c.receive.ensures.at_is place at gives)) c.start_of.ensures.within

@@ -1,4 +1,4 @@
-use Rattle.std.proofs.Common.{◌≡◌, ℕ, ℤ, Bool, false, List, length, get_or, set, refl, sym, ◌∙◌, ap, subst, to_z, of_z, w64, rules}
+use Rattle.std.proofs.Common.{◌≡◌, ◌+◌, ℕ, ℤ, Bool, false, List, length, get_or, set, refl, sym, ◌∙◌, ap, subst, to_z, of_z, w64, rules}
 use Rattle.std.specs.Prelude.{is_some, ◌&&◌, nat_lt, slice_get}
 use Rattle.std.specs.Option.{option_map_or}
 use Rattle.dasp_session.specs.declared.place.Place.{Place}
@@ -6,7 +6,7 @@ use Rattle.dasp_session.specs.Looking.{session_at}
 use Rattle.dasp_session.specs.Receive.{at_place}
 use Rattle.dasp_session.specs.Doing.{Does}
 use Rattle.dasp_session.specs.Ticking.{posted_in}
-use Rattle.dasp_session.proofs.StandLemmas.{Kept, kept_at, asked_set, leaves-eq, leaves_at, MayPost, may-parts, at_handed}
+use Rattle.dasp_session.proofs.StandLemmas.{Kept, kept_at, asked_set, leaves-eq, leaves_at, MayPost, may-parts, at_handed, messages_of, of_place, of_set}
 use Rattle.dasp_session.proofs.sessions.Sessions.post.Goals as goal
 
 pub returns-clause-leaves : goal.returns-clause-leaves
@@ -33,3 +33,12 @@ returns-clause-live c =
     let kept : Kept (λ (place : Place). place.live && is_some place.user && nat_lt (length place.sender.messages) 31) c.args.self.now.places.items c.args.place = kept_at _ _ _ c.requires.may in
     ap (λ (n : ℕ). option_map_or (λ (place : Place). place.live) (slice_get (set c.args.self.now.places.items n c.post.new.place) c.args.place) false) c.from.ensures
     ∙ asked_set (λ (place : Place). place.live) c.args.self.now.places.items c.args.place c.post.new.place kept.within ∙ c.post.ensures.live
+
+pub returns-clause-waits : goal.returns-clause-waits
+returns-clause-waits c =
+    let kept : Kept (λ (place : Place). place.live && is_some place.user && nat_lt (length place.sender.messages) 31) c.args.self.now.places.items c.args.place = kept_at _ _ _ c.requires.may in
+    ap (λ (n : ℕ). option_map_or messages_of (slice_get (set c.args.self.now.places.items n c.post.new.place) c.args.place) 0) c.from.ensures
+    ∙ of_set messages_of 0 c.args.self.now.places.items c.args.place c.post.new.place kept.within
+    ∙ c.post.ensures.waits
+    ∙ ap (λ (place : Place). messages_of place + 1) (c.index_mut.ensures.value ∙ ap (λ (n : ℕ). get_or c.args.self.now.places.items n c.index_mut.result.now) c.from.ensures)
+    ∙ ap (λ (n : ℕ). n + 1) (sym (of_place messages_of 0 c.args.self.now.places.items c.args.place c.index_mut.result.now kept.within))

@@ -17,7 +17,7 @@ use Rattle.dasp_session.specs.Session.{Session}
 use Rattle.dasp_session.specs.Standing.{Leaves, IsHanded}
 use Rattle.dasp_session.proofs.OutboxLemmas.{Sends-none}
 use Rattle.dasp_session.proofs.PlaceLemmas.{HoldsId, found_here, found_nowhere}
-use Rattle.dasp_session.proofs.StandLemmas.{leaves-eq, steps_at, keeps-in_session, handed-effect, ToldAt, told_at, asked_set}
+use Rattle.dasp_session.proofs.StandLemmas.{leaves-eq, steps_at, keeps-in_session, handed-effect, ToldAt, told_at, ended_in, asked_set}
 use Rattle.dasp_session.proofs.sessions.Sessions.tell.Goals as goal
 
 pub returns-then-not-is_here-clause-leaves : goal.returns-then-not-is_here-clause-leaves
@@ -98,7 +98,24 @@ pub returns-clause-payload : goal.returns-clause-payload
 returns-clause-payload c = λ other begins is.
     let place : ℕ = c.place_of-place.result in
     let within : place < length c.args.self.now.places.items = omega (arith, c.place_of-place.ensures, c.args.self.now.sixteen) in
-    let it : ToldAt c.hear-effect.result place other = told_at c.hear-effect.result place c.args.at other begins (sym c.handed.ensures ∙ is) in
+    let it : ToldAt c.hear-effect.result place c.args.at other begins = told_at c.hear-effect.result place c.args.at other begins (sym c.handed.ensures ∙ is) in
     let test : Place → Bool = λ kept. kept.live && is_some kept.user && nat_lt (length kept.sender.messages) 31 in
     subst (λ (n : ℕ). option_map_or test (slice_get (set c.args.self.now.places.items place c.hear-effect.new.place) n) false ≡ true) it.place
     (asked_set test c.args.self.now.places.items place c.hear-effect.new.place within ∙ c.hear-effect.ensures.room it.payload)
+
+pub returns-clause-at_is : goal.returns-clause-at_is
+returns-clause-at_is c = λ other begins is.
+    let place : ℕ = c.place_of-place.result in
+    sym (told_at c.hear-effect.result place c.args.at other begins (sym c.handed.ensures ∙ is)).start
+
+pub returns-clause-payload_place : goal.returns-clause-payload_place
+returns-clause-payload_place c = λ other begins is.
+    let place : ℕ = c.place_of-place.result in
+    let same : place ≡ other = (told_at c.hear-effect.result place c.args.at other begins (sym c.handed.ensures ∙ is)).place in
+    omega (arith, same, c.place_of-place.ensures)
+
+pub returns-clause-ended_place : goal.returns-clause-ended_place
+returns-clause-ended_place c = λ other is.
+    let place : ℕ = c.place_of-place.result in
+    let same : place ≡ other = ended_in c.hear-effect.result place c.args.at other (sym c.handed.ensures ∙ is) in
+    omega (arith, same, c.place_of-place.ensures)

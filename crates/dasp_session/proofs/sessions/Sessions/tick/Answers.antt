@@ -1,4 +1,4 @@
-use Rattle.std.proofs.Common.{◌≡◌, ℕ, ℤ, Bool, true, false, not, List, get_or, set, refl, sym, ◌∙◌, ap, subst, to_z, of_z, w64, rules}
+use Rattle.std.proofs.Common.{◌≡◌, ◌≤◌, ◌+◌, ℕ, ℤ, Bool, true, false, not, List, length, get_or, set, refl, sym, ◌∙◌, ap, subst, to_z, of_z, w64, rules}
 use Rattle.std.specs.Prelude.{Option, is_some, ◌&&◌, slice_get}
 use Rattle.std.specs.Option.{option_map_or}
 use Rattle.dasp_session.specs.declared.place.Place.{Place}
@@ -10,8 +10,15 @@ use Rattle.dasp_session.specs.Keeping.{Holds}
 use Rattle.dasp_session.specs.Standing.{is_ended}
 use Rattle.dasp_session.specs.Ticking.{ticked, is_over}
 use Rattle.dasp_session.proofs.PlaceLemmas.{holds_at}
-use Rattle.dasp_session.proofs.StandLemmas.{Kept, kept_at, asked_at, asked_set, leaves-eq, leaves_at, at_handed, keeps-ticked, ended-ticked, Lives, lives}
+use Rattle.dasp_session.proofs.StandLemmas.{Kept, kept_at, asked_at, asked_set, leaves-eq, leaves_at, at_handed, keeps-ticked, ended-ticked, Lives, lives, messages_of, of_set}
 use Rattle.dasp_session.proofs.sessions.Sessions.tick.Goals as goal
+
+-- how many messages wait in a place that was changed
+waiting : (places : List Place) (k given : ℕ) (place : Place) → Kept (λ (place : Place). place.live) places k → given ≡ k
+    → option_map_or messages_of (slice_get (set places given place) k) 0 ≡ messages_of place
+waiting places k given place kept same =
+    ap (λ (n : ℕ). option_map_or messages_of (slice_get (set places n place) k) 0) same
+    ∙ of_set messages_of 0 places k place kept.within
 
 pub returns-clause-leaves : goal.returns-clause-leaves
 returns-clause-leaves c = λ state stands.
@@ -54,3 +61,14 @@ returns-clause-open c =
     ∙ ap (λ (b : Bool). c.tick.result && (b && is_some c.index_mut.result.now.user)) (sym was)
     ∙ ap (λ (place : Place). c.tick.result && (place.live && is_some place.user)) (c.index_mut.ensures.value ∙ ap (λ (n : ℕ). get_or c.args.self.now.places.items n c.index_mut.result.now) c.from.ensures)
     ∙ ap (λ (b : Bool). c.tick.result && b) (sym (asked_at (λ (place : Place). place.live && is_some place.user) c.args.self.now.places.items c.args.place c.index_mut.result.now kept.within))
+
+pub returns-clause-waits : goal.returns-clause-waits
+returns-clause-waits c = λ on.
+    let kept : Kept (λ (place : Place). place.live) c.args.self.now.places.items c.args.place = kept_at _ _ _ c.requires.live in
+    subst (λ (n : ℕ). length c.tick.new.out ≤ length c.args.out.now + n)
+    (sym (waiting c.args.self.now.places.items c.args.place _ c.tick.new.place kept c.from.ensures)) (c.tick.ensures.waits on)
+
+pub returns-clause-most : goal.returns-clause-most
+returns-clause-most c =
+    let kept : Kept (λ (place : Place). place.live) c.args.self.now.places.items c.args.place = kept_at _ _ _ c.requires.live in
+    subst (λ (n : ℕ). n ≤ 31) (sym (waiting c.args.self.now.places.items c.args.place _ c.tick.new.place kept c.from.ensures)) c.tick.ensures.most

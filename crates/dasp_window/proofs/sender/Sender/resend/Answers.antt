@@ -1,5 +1,6 @@
-use Rattle.std.proofs.Common.{◌≡◌, ◌<◌, List, set, sym, ◌∙◌, ap, subst, arith, ℤ, to_z-of_z}
+use Rattle.std.proofs.Common.{◌≡◌, ◌<◌, List, length, set, sym, ◌∙◌, ap, subst, arith, ℤ, to_z-of_z}
 use Rattle.std.specs.Prelude.{is_some, count_by}
+use Rattle.std.proofs.lemmas.List.{length-set}
 use Rattle.std.proofs.lemmas.Option.{get_or_from_slice_get}
 use Rattle.dasp_window.specs.declared.message.Message.{Message}
 use Rattle.dasp_window.specs.declared.due.Due.TheVariants.{Resend}
@@ -55,4 +56,7 @@ returns c =
           subst (λ (messages : List Message). count_by (is_due c.args.now) messages < count_by (is_due c.args.now) window.messages) changed
           (fewer-resend window c.args.now c.args.number c.from-place.result here) in
           subst (λ (w : Window). count_by (is_due c.args.now) (set window.messages c.from-place.result c.send_again.new.message) < count_by (is_due c.args.now) w.messages) c.self.view_is less;
+      as_many =
+          length-set window.messages c.from-place.result c.send_again.new.message
+          ∙ ap (λ (w : Window). length w.messages) c.self.view_is;
     }

@@ -1,0 +1,3 @@
+pub mod EachRow
+pub mod Apart
+pub mod Linking

@@ -1,0 +1,95 @@
+//! The classes of rows.
+ghost use Rattle.std.specs.Prelude.{◌≡◌, ◌↔◌, not, IsTrue, codes, slice_get, Some};
+ghost use Rattle.sed_typed.specs.Schemas.{type_at as class_numbered};
+ghost use Rattle.sed_engine.specs.Code.{Meaning};
+ghost use Rattle.comp_tree.specs.Refusals.{is_abstract_class, is_for_components as for_components, is_sys_type as sys_type};
+ghost use Rattle.app_checks.specs.Checks.{AreKinds, IsKind};
+ghost use Rattle.app_told.specs.FormedFile.{IsAppRow, IsOtherRow};
+
+use app_front::FileRow;
+use sed_typed::{Schema, TypeNo};
+
+/// Whether the first row is the App's, with its class and its name, and each other is of a class of which components are
+/// made.
+pub fn are_kinds(schema: &Schema, rows: &[FileRow]) -> bool
+    ensures { (m : Meaning) → m.schema ≡ schema.now → (IsTrue result ↔ AreKinds m rows.now) }
+{
+    for place in 0..rows.len() {
+        if !is_kind(schema, &rows[place], place) {
+            return false;
+        }
+    }
+    true
+}
+
+// Whether the row at a place is of a class that it may have there.
+fn is_kind(schema: &Schema, row: &FileRow, place: usize) -> bool
+    ensures { (m : Meaning) → m.schema ≡ schema.now → (IsTrue result ↔ IsKind m place row.now) }
+{
+    if place == 0 {
+        is_app(schema, row)
+    } else {
+        is_other(schema, row)
+    }
+}
+
+// Whether a row is the App's.
+fn is_app(schema: &Schema, row: &FileRow) -> bool
+    ensures { (m : Meaning) → m.schema ≡ schema.now → (IsTrue result ↔ IsAppRow m row.now) }
+{
+    is_named_app(row) && is_app_class(schema, row.kind)
+}
+
+fn is_named_app(row: &FileRow) -> bool
+    ensures { IsTrue result ↔ (row.now.name ≡ codes "app") }
+{
+    row.name.as_bytes() == b"app".as_slice()
+}
+
+fn is_app_class(schema: &Schema, kind: TypeNo) -> bool
+    ensures { IsTrue result ↔ (class_numbered schema.now.classes 0 3 ≡ Some kind.0) }
+{
+    match schema.type_of(0, 3) {
+        Some(app) => app.0 == kind.0,
+        None => false,
+    }
+}
+
+// Whether a row is another component's.
+fn is_other(schema: &Schema, row: &FileRow) -> bool
+    ensures { (m : Meaning) → m.schema ≡ schema.now → (IsTrue result ↔ IsOtherRow m row.now) }
+{
+    is_for_components(schema, row.kind) && !is_abstract(schema, row.kind)
+}
+
+// Whether components may be made of a class, were it not abstract.
+fn is_for_components(schema: &Schema, kind: TypeNo) -> bool
+    ensures { (m : Meaning) → m.schema ≡ schema.now → result ≡ for_components m kind.0 }
+{
+    match schema.classes.as_slice().get(usize::from(kind.0)) {
+        Some(class) => {
+            class.is_component && !is_sys_type(schema, 2, kind) && !is_sys_type(schema, 3, kind)
+        }
+        None => false,
+    }
+}
+
+// Whether a class is the type of kit `sys` with this number.
+fn is_sys_type(schema: &Schema, number: u8, kind: TypeNo) -> bool
+    ensures { (m : Meaning) → m.schema ≡ schema.now → result ≡ sys_type m number kind.0 }
+{
+    match schema.type_of(0, number) {
+        Some(sys) => sys.0 == kind.0,
+        None => false,
+    }
+}
+
+// Whether a class is abstract.
+fn is_abstract(schema: &Schema, kind: TypeNo) -> bool
+    ensures { (m : Meaning) → m.schema ≡ schema.now → result ≡ is_abstract_class m kind.0 }
+{
+    match schema.classes.as_slice().get(usize::from(kind.0)) {
+        Some(class) => class.is_abstract,
+        None => false,
+    }
+}

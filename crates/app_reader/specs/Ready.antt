@@ -1,0 +1,42 @@
+-- Rows and links of a file that are ready to be made an application.
+use Rattle.std.specs.Prelude.{ℕ, ◌≡◌, List, length, None}
+use Rattle.std.specs.List.{All}
+use Rattle.sed_typed.specs.Contents.{Contents}
+use Rattle.sed_engine.specs.Code.{Meaning}
+use Rattle.comp_tree.specs.Application.{Application, ById, Components}
+use Rattle.row_tree.specs.Reached.{StayWithin}
+use Rattle.row_tree.specs.Tree.{children_in}
+use Rattle.app_file.specs.Formed.{IsFormed}
+use Rattle.app_file.specs.Limits.{first_passed}
+use Rattle.app_file.specs.Telling.{told_application, told_by}
+use Rattle.app_front.specs.Rows.{IsToldRow}
+use Rattle.app_told.specs.FormedFile.{IsFormedFile, tree_rows}
+use Rattle.app_told.specs.Tells.{rows_told}
+use Rattle.app_limits.specs.Passed.{passed_by}
+use Rattle.app_reader.specs.declared.ready.FormedRows.{FormedRows}
+
+-- the children of each id
+abbrev pub children_told : FormedRows → ℕ → List ℕ
+children_told rows = children_in (tree_rows rows.file.rows) rows.lists
+
+-- the components that the rows tell
+abbrev pub components_told : Meaning → FormedRows → ById
+components_told m rows = told_by m (children_told rows) (rows_told rows.file)
+
+-- components with statics, under a data limit
+abbrev pub tree_with : Contents → ℕ → ById → Components
+tree_with statics limit all = record { by_id = all; statics = statics; limit = limit }
+
+-- the application that the rows and links tell, under a data limit
+abbrev pub application_told : Meaning → ℕ → FormedRows → Application
+application_told m limit rows = told_application m (children_told rows) (rows_told rows.file) rows.file.links limit
+
+-- rows and links hold together, and pass no limit but that of the data, which shows where components are made; so they tell an
+-- application that is formed
+pub record AreReady (m : Meaning) (rows : FormedRows) : Type 0 where
+  pub told : All (IsToldRow m) rows.file.rows
+  pub formed : IsFormedFile m rows.file (children_told rows)
+  pub size : length rows.lists ≡ length rows.file.rows
+  pub within : StayWithin rows.lists
+  pub few : first_passed (passed_by (tree_rows rows.file.rows) rows.lists rows.file.links) ≡ None
+  pub application : (limit : ℕ) → IsFormed m (application_told m limit rows)

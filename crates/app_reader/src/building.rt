@@ -1,0 +1,41 @@
+//! The tree of the components that rows tell.
+ghost use Rattle.std.specs.Prelude.{◌≡◌, ◌<◌, ◌≤◌, ℕ, IfOk, OnOk, Err};
+ghost use Rattle.std.specs.FinMap as map;
+ghost use Rattle.comp_tree.specs.Application.{data_size_of};
+ghost use Rattle.comp_tree.specs.Held.{components_of};
+ghost use Rattle.comp_tree.specs.Marks.{all_parts, marks_at};
+ghost use Rattle.app_reader.specs.Ready.{AreReady, components_told, tree_with};
+
+use crate::entries::entries;
+use crate::ready::FormedRows;
+use app_file::what_passes_no_limit_is_whole;
+use app_limits::limits_of_rows_are_those_told;
+use comp_tree::Tree;
+use sed_engine::{AddRefusal, Engine};
+use std::alloc::Global;
+
+// The tree of the components that rows tell, over an engine without live places; it is full only where their data
+// passes the engine's limit.
+pub(crate) fn tree_built<E: Engine>(
+    alloc: Global,
+    engine: E,
+    rows: &FormedRows,
+) -> Result<Tree<E>, AddRefusal>
+    requires no_objects { E.live engine ≡ map.empty }
+    requires ready { AreReady (E.meaning engine) rows.now }
+    ensures built { IfOk result (λ t. components_of E.Engine t ≡ tree_with (E.statics engine) (E.limit engine) (components_told (E.meaning engine) rows.now)) }
+    ensures meaning { IfOk result (λ t. E.meaning t.engine ≡ E.meaning engine) }
+    ensures steady { IfOk result (λ t. E.fixed t.engine ≡ E.fixed engine) }
+    ensures marks { IfOk result (λ t. (id at : ℕ) → marks_at t id at ≡ all_parts) }
+    ensures full { result ≡ Err AddRefusal.DataFull → E.limit engine < data_size_of (E.meaning engine) (components_told (E.meaning engine) rows.now) }
+    ensures fits { OnOk result (data_size_of (E.meaning engine) (components_told (E.meaning engine) rows.now) ≤ E.limit engine) }
+{
+    let _whole = engine.schema();
+    what_passes_no_limit_is_whole();
+    limits_of_rows_are_those_told();
+    let entries = match entries(alloc, rows.file.rows.as_slice(), rows.lists.as_slice()) {
+        Ok(entries) => entries,
+        Err(_) => return Err(AddRefusal::Memory),
+    };
+    Tree::build(alloc, engine, entries.as_slice())
+}

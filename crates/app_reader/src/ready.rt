@@ -1,0 +1,74 @@
+//! The rows of a file that are ready to be made an application.
+ghost use Rattle.std.specs.Prelude.{◌≡◌, ℕ, IfOk, IfErr};
+ghost use Rattle.sed_engine.specs.Code.{Meaning};
+ghost use Rattle.comp_tree.specs.Application.{Application};
+ghost use Rattle.app_file.specs.Reading.{IsRefusedFor, StandsFor};
+ghost use Rattle.app_front.specs.Rows.{AreRows};
+ghost use Rattle.app_told.specs.Tells.{Tells};
+ghost use Rattle.app_reader.specs.Ready.{AreReady, application_told};
+
+use app_file::AppRefusal;
+use app_formed::{formed, schema_can_be_told, tree_of};
+use app_front::{FileRows, read_rows};
+use app_limits::{limit_passed, limits_of_rows_are_those_told};
+use app_told::{
+    bytes_that_stand_are_rows, files_that_tell_are_formed, formed_files_tell, rows_that_tell_stand,
+};
+use row_tree::TreeRefusal;
+use sed_engine::Engine;
+use sed_value::Items;
+use std::alloc::Global;
+
+// Rows and links of a file that hold together, and the places of the children of each row.
+#[derive(Drop)]
+pub(crate) struct FormedRows {
+    pub(crate) file: FileRows,
+    pub(crate) lists: Items<Items<usize>>,
+}
+
+// The rows and links of a file which hold together and pass no limit but that of the data, or why bytes are read as no
+// application, whatever the data limit is.
+pub(crate) fn ready_rows<E: Engine>(
+    alloc: Global,
+    engine: &E,
+    bytes: &[u8],
+) -> Result<FormedRows, AppRefusal>
+    ensures ready { IfOk result (AreReady (E.meaning engine.now)) }
+    ensures stands { IfOk result (λ rows. (limit : ℕ) → StandsFor (E.meaning engine.now) limit bytes.now (application_told (E.meaning engine.now) limit rows)) }
+    ensures refused { IfErr result (λ refusal. (limit : ℕ) → IsRefusedFor (E.meaning engine.now) limit bytes.now refusal) }
+{
+    let _whole = engine.schema();
+    files_that_tell_are_formed();
+    formed_files_tell();
+    rows_that_tell_stand();
+    limits_of_rows_are_those_told();
+    let file = match file_rows(alloc, engine, bytes) {
+        Ok(file) => file,
+        Err(refusal) => return Err(refusal),
+    };
+    let tree = match tree_of(alloc, file.rows.as_slice()) {
+        Ok(tree) => tree,
+        Err(_) => return Err(AppRefusal::Memory),
+    };
+    let lists = match formed(alloc, engine, &file, tree.as_slice()) {
+        Ok(lists) => lists,
+        Err(TreeRefusal::NoTree) => return Err(AppRefusal::NotAnApp { at: bytes.len() }),
+        Err(TreeRefusal::Memory) => return Err(AppRefusal::Memory),
+    };
+    if let Some(which) = limit_passed(tree.as_slice(), lists.as_slice(), file.links.as_slice()) {
+        return Err(AppRefusal::OverLimit { which });
+    }
+    Ok(FormedRows { file, lists })
+}
+
+// The rows and links that bytes are; they tell each application that the bytes stand for.
+fn file_rows<E: Engine>(alloc: Global, engine: &E, bytes: &[u8]) -> Result<FileRows, AppRefusal>
+    ensures rows { IfOk result (λ file. AreRows (E.meaning engine.now) bytes.now file) }
+    ensures only { IfOk result (λ file. (limit : ℕ) (a : Application) → StandsFor (E.meaning engine.now) limit bytes.now a → Tells (E.meaning engine.now) limit file a) }
+    ensures refused { IfErr result (λ refusal. (limit : ℕ) → IsRefusedFor (E.meaning engine.now) limit bytes.now refusal) }
+{
+    let schema = engine.schema();
+    schema_can_be_told(schema);
+    bytes_that_stand_are_rows();
+    read_rows(alloc, schema, bytes)
+}

@@ -1,0 +1,52 @@
+-- Input files are read: the users file, the secret file and the record.
+use Rattle.std.specs.Prelude.{◌≡◌, ◌≤◌, ◌<◌, ℕ, List, length, take, Result, Ok, Err}
+use Rattle.file_steps.specs.Steps.{Read, Decides, AndThen}
+use Rattle.file_steps.specs.Reads.{TextOf}
+use Rattle.dasp_users.specs.declared.user.User.{User}
+use Rattle.dasp_users.specs.UsersFile.{IsUsersFile}
+use Rattle.replay_log.specs.Entry.{Entry}
+use Rattle.replay_log.specs.Record.{IsRecord, IsRefusedAt}
+use Rattle.input_files.specs.declared.refusal.InputRefusal.{InputRefusal}
+use Rattle.input_files.specs.declared.refusal.InputRefusal.TheVariants.{FileFault, BadUsers, ShortSecret, BadRecord}
+
+-- The file of a name is read. Where the read fails it ends with that file's fault; else its text decides.
+abbrev pub InputRead : {X : Type 0} → (List ℕ → Result X InputRefusal → Type 0) → List ℕ
+    → List Read → Result X InputRefusal → Type 0
+InputRead Holds name = AndThen (TextOf name (FileFault name)) (λ text. Decides (Holds text))
+
+-- ---- the users file
+
+-- The text is the users file of these users, or it is none.
+abbrev pub AreUsersOf : List ℕ → Result (List User) InputRefusal → Type 0
+AreUsersOf text (Ok users) = IsUsersFile users text
+AreUsersOf text (Err refusal) = (refusal ≡ BadUsers) × ((users : List User) → IsUsersFile users text → ⊥)
+
+-- The users file of this name is read.
+unfoldable pub UsersRead : List ℕ → List Read → Result (List User) InputRefusal → Type 0
+UsersRead = InputRead AreUsersOf
+
+-- ---- the secret file
+
+-- The secret is the first 20 bytes of the text, or there are fewer.
+abbrev pub IsSecretOf : List ℕ → Result (List ℕ) InputRefusal → Type 0
+IsSecretOf text (Ok secret) = (20 ≤ length text) × (secret ≡ take 20 text)
+IsSecretOf text (Err refusal) = (refusal ≡ ShortSecret) × (length text < 20)
+
+-- The secret file of this name is read.
+unfoldable pub SecretRead : List ℕ → List Read → Result (List ℕ) InputRefusal → Type 0
+SecretRead = InputRead IsSecretOf
+
+-- ---- the record
+
+-- The bytes are the record of some entries.
+abbrev pub HasEntries : List ℕ → Type 0
+HasEntries bytes = (entries : List Entry) × IsRecord bytes entries
+
+-- The text is a record, and is given as it stands; or it is none, for a cause at a place.
+abbrev pub IsRecordOf : List ℕ → Result (List ℕ) InputRefusal → Type 0
+IsRecordOf text (Ok bytes) = (bytes ≡ text) × HasEntries text
+IsRecordOf text (Err refusal) = (at : ℕ) × (refusal ≡ BadRecord at) × IsRefusedAt text at
+
+-- The record of this name is read.
+unfoldable pub RecordRead : List ℕ → List Read → Result (List ℕ) InputRefusal → Type 0
+RecordRead = InputRead IsRecordOf

@@ -1,0 +1,20 @@
+//! The files that a command reads beside its kits.
+//!
+//! `read_users` reads the users file, `read_secret` the node's secret, and `read_record` the record of what reached a
+//! node. Each reads one file and ends with its value, or with the refusal of that file; `UsersRead`, `SecretRead` and
+//! `RecordRead` say which, as steps that a command puts together. What the same reads give is one. The commands that
+//! run a node, replay a record or write one stand on this crate.
+#![tactic(auto)]
+
+mod laws;
+mod records;
+mod refusal;
+mod secrets;
+mod texts;
+mod users;
+
+pub use laws::{failed_inputs_are_told, inputs_agree};
+pub use records::read_record;
+pub use refusal::InputRefusal;
+pub use secrets::read_secret;
+pub use users::read_users;

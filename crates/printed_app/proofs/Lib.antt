@@ -1,0 +1,5 @@
+mod Dotted
+mod Entries
+mod Missing
+mod Paths
+mod Steps

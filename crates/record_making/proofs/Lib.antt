@@ -1,0 +1,5 @@
+mod SlotLemmas
+mod ValueLemmas
+mod EngineLemmas
+mod TypeLemmas
+mod SpecLemmas

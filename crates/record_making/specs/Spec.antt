@@ -1,0 +1,51 @@
+-- What a record is generated of, for a program.
+use Rattle.std.specs.Prelude.{ℕ, ◌≤◌, List, [], ◌∷◌, Option, IsSomeAnd}
+use Rattle.std.specs.Option.{option_map}
+use Rattle.sed_typed.specs.declared.program.Program.{Program}
+use Rattle.sed_engine.specs.Program.{meaning_of}
+use Rattle.dasp_users.specs.declared.user.User.{User}
+use Rattle.dasp_users.specs.Digest.{nonce_of, digest_of}
+use Rattle.dasp_users.specs.UsersFile.{credential_of}
+use Rattle.replay_log.specs.declared.gen_spec.GenSpec.{GenSpec}
+use Rattle.replay_log.specs.declared.gen_spec.GenType.{GenType}
+use Rattle.replay_log.specs.Generated.{IsGenerated}
+use Rattle.record_making.specs.declared.asked.GenAsked.{GenAsked}
+use Rattle.record_making.specs.Types.{drawn_types}
+
+-- the numbers that may be asked for
+pub record IsAllowed (asked : GenAsked) : Type 0 where
+  pub seed : asked.seed ≤ 2147483647
+  pub some : 1 ≤ asked.components
+  pub components : asked.components ≤ 4000
+  pub links : asked.links ≤ 8192
+  pub ticks : asked.ticks ≤ 100000
+
+-- the digest that a node with a secret wants of the user with a credential, in the session before which so many were made
+abbrev pub wanted_digest : List ℕ → List ℕ → ℕ → List ℕ
+wanted_digest secret credential made = digest_of credential (nonce_of secret made)
+
+-- those of the first and of the second session that the node makes
+abbrev pub wanted_digests : List ℕ → List ℕ → List (List ℕ)
+wanted_digests secret credential = wanted_digest secret credential 0 ∷ wanted_digest secret credential 1 ∷ []
+
+-- what is asked, with a user, digests and types
+abbrev pub spec_with : GenAsked → List ℕ → List (List ℕ) → List GenType → GenSpec
+spec_with asked user digests types = record {
+  seed = asked.seed;
+  components = asked.components;
+  links = asked.links;
+  ticks = asked.ticks;
+  user = user;
+  digests = digests;
+  types = types;
+}
+
+-- what the record is generated of: the types are the program's, and there is none for a user who is not among the users
+abbrev pub spec_of : Program → List User → List ℕ → List ℕ → GenAsked → Option GenSpec
+spec_of program users user secret asked =
+    option_map (λ credential. spec_with asked user (wanted_digests secret credential) (drawn_types (meaning_of program))) (credential_of users user)
+
+-- the bytes are the record that is generated for a program, as a user
+abbrev pub IsRecordOf : Program → List User → List ℕ → List ℕ → GenAsked → List ℕ → Type 0
+IsRecordOf program users user secret asked bytes =
+    IsSomeAnd (spec_of program users user secret asked) (λ spec. IsGenerated spec bytes)

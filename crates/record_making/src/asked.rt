@@ -1,0 +1,32 @@
+//! What is asked of a record.
+ghost use Rattle.std.specs.Prelude.{◌≤◌, ◌↔◌, IsTrue};
+ghost use Rattle.record_making.specs.Spec.{IsAllowed};
+
+/// What is asked of a record.
+#[derive(Clone, Copy, Debug, PartialEq, Eq)]
+pub struct GenAsked {
+    /// What the first number is drawn from, 0 to 2,147,483,647.
+    pub seed: u32,
+    /// How many components are added, 1 to 4,000.
+    pub components: u32,
+    /// How many links are added at most, 0 to 8,192.
+    pub links: u32,
+    /// How many ticks come, 0 to 100,000.
+    pub ticks: u32,
+}
+
+impl GenAsked {
+    /// Whether a record can be generated: the numbers are in their ranges.
+    pub fn is_allowed(&self) -> bool
+        ensures { IsTrue result ↔ IsAllowed self.now }
+    {
+        self.seed <= 2_147_483_647 && are_within(self.components, self.links, self.ticks)
+    }
+}
+
+// Whether the numbers of components, links and ticks are in their ranges.
+fn are_within(components: u32, links: u32, ticks: u32) -> bool
+    ensures { IsTrue result ↔ ((1 ≤ components) × (components ≤ 4000) × (links ≤ 8192) × (ticks ≤ 100000)) }
+{
+    1 <= components && components <= 4_000 && links <= 8_192 && ticks <= 100_000
+}

@@ -1,0 +1,31 @@
+//! Laws of the records that are generated for programs. Each is the contract of a function that does nothing.
+ghost use Rattle.std.specs.Prelude.{◌≡◌, ℕ, List, Some, IsTrue};
+ghost use Rattle.sed_typed.specs.declared.program.Program.{Program};
+ghost use Rattle.dasp_users.specs.declared.user.User.{User};
+ghost use Rattle.dasp_users.specs.Digest.{nonce_of};
+ghost use Rattle.dasp_users.specs.UsersFile.{credential_of};
+ghost use Rattle.dasp_session.specs.Hearing.{is_proof};
+ghost use Rattle.dasp_session.specs.Receive.{id_of};
+ghost use Rattle.record_making.specs.declared.asked.GenAsked.{GenAsked};
+ghost use Rattle.record_making.specs.Spec.{IsRecordOf, wanted_digest};
+
+use replay_log::generated_records_are_one;
+
+/// One record at most is generated for a program, its users, a user, a secret and what is asked.
+pub fn generated_records_of_programs_are_one()
+    ensures { (program : Program) (users : List User) (user secret : List ℕ) (asked : GenAsked) (bytes others : List ℕ)
+        → IsRecordOf program users user secret asked bytes → IsRecordOf program users user secret asked others
+        → bytes ≡ others }
+{
+    generated_records_are_one();
+}
+
+/// The digests are what a node asks for: in the session before which so many were made, the digest proves the user to
+/// it. The record is for the first two sessions that a node makes, in its first two places: their ids are 0 and 17.
+pub fn digests_are_proofs()
+    ensures proofs { (users : List User) (user secret credential : List ℕ) (made : ℕ)
+        → credential_of users user ≡ Some credential
+        → IsTrue (is_proof users (nonce_of secret made) (Some user) (Some (wanted_digest secret credential made))) }
+    ensures first { id_of 0 0 ≡ 0 }
+    ensures second { id_of 1 1 ≡ 17 }
+{}

@@ -1,0 +1,46 @@
+-- What running over a link and a clock does: the run over the events that they give, and each sent datagram offered.
+use Rattle.std.specs.Prelude.{◌≡◌, ◌≤◌, ℕ, ℤ, Bool, map, List, Option, Some, None, IfSome, ⊤}
+use Rattle.disk_model.specs.Disk.{Meaning as DiskMeaning}
+use Rattle.sed_engine.specs.declared.engine.Engine.{Ghosts}
+use Rattle.sed_engine.specs.Code.{Meaning}
+use Rattle.live_outside.specs.declared.datagram.Datagram.{Datagram as Offered}
+use Rattle.live_outside.specs.declared.polling.Polling.{Polling}
+use Rattle.live_outside.specs.Clock.{Moments, next_moment}
+use Rattle.live_outside.specs.Rounds.{wake_moments}
+use Rattle.live_outside.specs.Told.{AddsWhereTold, Told}
+use Rattle.replay_log.specs.Entry.{Entry}
+use Rattle.dasp_session.specs.Outbox.{Datagram}
+use Rattle.node_events.specs.LiveEvents.{live_events}
+use Rattle.node_events.specs.Node.{Node, Setup}
+use Rattle.node_events.specs.Running.{Event, run}
+use Rattle.sed_node.specs.Running.{IsEnd, Runs}
+use Rattle.sed_node.specs.declared.node.Node.{Node as Kept}
+use Rattle.sed_node.specs.declared.running.RunEnd.{RunEnd}
+
+-- as the link is offered it
+abbrev pub offered_as : Datagram → Offered
+offered_as sent = record { peer = sent.to; bytes = sent.bytes }
+
+-- the entries of so many cycles, where it is told which polls and which moments will come
+abbrev pub AreLive : Option (List Polling) → Option Moments → ℕ → List Entry → Type 0
+AreLive None moments cycles entries = ⊤
+AreLive (Some polls) None cycles entries = ⊤
+AreLive (Some polls) (Some moments) cycles entries = entries ≡ live_events polls moments cycles
+
+-- so many cycles were done, and each datagram that was sent was offered, in their order
+pub record Lives {E D : Type 0} (g : Ghosts E) (meaning : D → DiskMeaning) (fixed : Bool) (m : Meaning) (s : Setup)
+    (new : Kept E) (n : Node) (polls : Option (List Polling)) (moments : Option Moments) (cycles : ℕ) (ended : RunEnd)
+    (offered offered_now : Option (Told Offered)) (before after : D) : Type 0 where
+  pub entries : List Entry
+  pub entries_are : AreLive polls moments cycles entries
+  pub events : List Event
+  pub sent : List Datagram
+  pub runs : Runs g meaning fixed m s new n entries events sent before after
+  pub offered_are : AddsWhereTold offered offered_now (map offered_as sent)
+  pub ends : IsEnd ended (run m s n events)
+
+-- behind each cycle it slept until as many periods were over as cycles were done, from the moment of the first tick on
+pub record Sleeps (moments : Option Moments) (cycles period : ℕ) (asked asked_now : Option (Told ℤ)) : Type 0 where
+  pub first : ℤ
+  pub first_is : 1 ≤ cycles → IfSome moments (λ to_come. first ≡ next_moment to_come)
+  pub asked_are : AddsWhereTold asked asked_now (wake_moments first period cycles)

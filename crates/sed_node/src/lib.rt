@@ -1,0 +1,26 @@
+//! A node over any engine.
+//!
+//! A `Node` is an application, the sessions of its clients, what they have subscribed and a store in one. It stands
+//! for nodes of the definitions (`StandsFor` in specs/Standing; node_events says what a node is and what each event
+//! makes of it). `datagram` and `tick` make of each of these what is defined of the event, and put the texts of
+//! exactly the messages that are sent into an outbox, in their order (specs/Doing). A save that is acknowledged has its
+//! mark when the call returns, and so before its reply is sent; a crash at any moment of it leaves an image that opens
+//! as before or to what is kept; no other event asks anything of the disk (specs/OnDisk). `run` handles the entries of
+//! a record: what it makes of all this, and what it prints, is what is defined of the run over their events, and a
+//! crash at any moment leaves an image that opens to what was opened or saved, and to none before the last save
+//! acknowledged (specs/Running). `live` does the same over a link and a clock (specs/Living). Memory is taken by
+//! `Node::open`, and else by adds alone. The command that replays a record stands on this crate, and the one that runs a
+//! node over a network is to.
+#![tactic(auto)]
+
+mod handling;
+mod living;
+mod node;
+mod replying;
+mod running;
+mod saving;
+mod subscribing;
+
+pub use handling::saves_go_on;
+pub use node::Node;
+pub use running::RunEnd;

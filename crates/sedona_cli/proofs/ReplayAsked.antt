@@ -1,0 +1,215 @@
+-- What `replay` has asked when it ends.
+use Rattle.std.proofs.Common.{◌≡◌, ℕ, true, false, List, [], ◌∷◌, ◌++◌, Some, Result, Ok, Err, refl, sym, ap, subst, ◌∙◌, inl, inr, append_assoc}
+use Rattle.std.proofs.lemmas.List.{append-nil}
+use Rattle.sed_typed.specs.declared.program.Program.{Program}
+use Rattle.sed_engine.specs.Program.{meaning_of}
+use Rattle.comp_tree.specs.Application.{Application}
+use Rattle.app_file.specs.Reading.{IsFile}
+use Rattle.disk_model.specs.Disk.{Attaches as IsAttach}
+use Rattle.disk_model.specs.declared.disk.Disk.{Ghosts as DiskGhosts}
+use Rattle.dasp_users.specs.declared.user.User.{User}
+use Rattle.replay_log.specs.Entry.{Entry}
+use Rattle.replay_log.specs.Record.{IsRecord}
+use Rattle.file_steps.specs.Steps.{Read, AndThen, Decides, stops, goes_on}
+use Rattle.input_files.specs.Inputs.{RecordRead, SecretRead, UsersRead}
+use Rattle.input_files.specs.declared.refusal.InputRefusal.{InputRefusal}
+use Rattle.input_files.specs.declared.refusal.InputRefusal.TheVariants as inputs
+use Rattle.sed_kits.specs.Loading.{KitsLoaded}
+use Rattle.sedona_cli.specs.declared.inputs.Inputs.{Inputs}
+use Rattle.sedona_cli.specs.declared.refusal.Refusal.{Refusal}
+use Rattle.sedona_words.specs.Command.{NodeAsked}
+use Rattle.sedona_cli.specs.Outside.{Ask, Reads, Attaches, Opens, Runs, Ran, Found, NotAStore, Unread, of_reads, AreAsked, IsRan}
+use Rattle.sedona_cli.specs.Refusals.{is_of_store, of_inputs, of_kits}
+use Rattle.sedona_cli.specs.Nodes.{Opened}
+use Rattle.sedona_cli.specs.Replay.{InputsRead, IsRunOf, ReplayComes, ReplayStops}
+use Rattle.sedona_cli.specs.Steps.{OfFiles}
+use Rattle.sedona_cli.proofs.Asking.{asked_behind}
+use Rattle.sedona_cli.proofs.Ends.{err_ok, ok_err, one_refusal}
+use Rattle.sedona_cli.proofs.StoreAsked.{IsOpening, Last, StoreAsked, behind, early_kits, ends_at, ends_before, ends_unattached, file_of, of_payload, two, two_stop}
+
+-- ---- steps that ask files alone
+
+-- It asks for files alone, and its refusals come before a store is.
+pub record FilesAlone {X : Type 0} (S : List Ask → Result X Refusal → Type 0) : Type 0 where
+  pub reads : (asks : List Ask) (end : Result X Refusal) → S asks end → (reads : List Read) × (asks ≡ of_reads reads)
+  pub early : (asks : List Ask) (r : Refusal) → S asks (Err r) → is_of_store r ≡ false
+
+pub of_both : (front back : List Read) → of_reads (front ++ back) ≡ of_reads front ++ of_reads back
+of_both [] back = refl
+of_both (read ∷ front) back = ap (λ (l : List Ask). Reads read ∷ l) (of_both front back)
+
+then_reads : {X Y : Type 0} (S : List Ask → Result X Refusal → Type 0) (N : X → List Ask → Result Y Refusal → Type 0) → FilesAlone S → ((x : X) → FilesAlone (N x))
+    → (asks : List Ask) (end : Result Y Refusal) → AndThen S N asks end → (reads : List Read) × (asks ≡ of_reads reads)
+then_reads S N one next asks end (stops r h e) = one.reads asks (Err r) h
+then_reads S N one next asks end (goes_on f b x parts h n) =
+    let first = one.reads f (Ok x) h in
+    let second = (next x).reads b end n in
+    (first.0 ++ second.0, parts ∙ ap (λ (l : List Ask). l ++ b) first.1 ∙ ap (λ (l : List Ask). of_reads first.0 ++ l) second.1 ∙ sym (of_both first.0 second.0))
+
+then_early : {X Y : Type 0} (S : List Ask → Result X Refusal → Type 0) (N : X → List Ask → Result Y Refusal → Type 0) → FilesAlone S → ((x : X) → FilesAlone (N x))
+    → (asks : List Ask) (r : Refusal) → AndThen S N asks (Err r) → is_of_store r ≡ false
+then_early {X} {Y} S N one next asks r (stops q h e) = ap is_of_store (one_refusal {X = Y} r q e) ∙ one.early asks q h
+then_early S N one next asks r (goes_on f b x parts h n) = (next x).early b r n
+
+pub then_alone : {X Y : Type 0} (S : List Ask → Result X Refusal → Type 0) (N : X → List Ask → Result Y Refusal → Type 0) → FilesAlone S → ((x : X) → FilesAlone (N x)) → FilesAlone (AndThen S N)
+then_alone S N one next = record { reads = then_reads S N one next; early = then_early S N one next }
+
+pub files_alone : {E X : Type 0} (told : E → Refusal) (step : List Read → Result X E → Type 0) → ((e : E) → is_of_store (told e) ≡ false) → FilesAlone (OfFiles told step)
+files_alone told step early = record { reads = λ asks end h. (h.0, h.1); early = λ asks r h. ap is_of_store h.2.2 ∙ early h.2.0 }
+
+pub gives_alone : {X : Type 0} (x : X) → FilesAlone (Decides (λ (end : Result X Refusal). end ≡ Ok x))
+gives_alone x = record { reads = λ asks end h. ([], h.none); early = λ asks r h. absurd (err_ok r x h.holds) }
+
+pub early_inputs : (r : InputRefusal) → is_of_store (of_inputs r) ≡ false
+early_inputs (inputs.FileFault name) = refl
+early_inputs inputs.BadUsers = refl
+early_inputs inputs.ShortSecret = refl
+early_inputs (inputs.BadRecord at) = refl
+early_inputs inputs.Memory = refl
+
+pub inputs_alone : (node : NodeAsked) (file : List ℕ) → FilesAlone (InputsRead node file)
+inputs_alone node file =
+    then_alone _ _ (files_alone of_kits (KitsLoaded node.kits) early_kits)
+    (λ (p : Program). then_alone _ _ (files_alone of_inputs (UsersRead node.users) early_inputs)
+    (λ (u : List User). then_alone _ _ (files_alone of_inputs (SecretRead node.secret) early_inputs)
+    (λ (s : List ℕ). then_alone _ _ (files_alone of_inputs (RecordRead file) early_inputs) (λ (t : List ℕ). gives_alone _))))
+
+-- ---- opening
+
+-- a store that is refused, or whose payload is
+pub of_open : (store : List ℕ) (limit : ℕ) (program : Program) (asks front back : List Ask) (reads : List Read) (r : Refusal) → asks ≡ front ++ back → front ≡ of_reads reads
+    → Opened store limit program back (Err r) → StoreAsked IsOpening store asks (Some r)
+unfolding Opened
+of_open store limit program asks front back reads r parts is (stops s attached e) =
+    ends_unattached reads (behind asks front back reads (Attaches store false ∷ []) parts is attached.0) (ap (λ (x : Refusal). Some x) (one_refusal {X = Application} r s e ∙ attached.1))
+of_open store limit program asks front back reads r parts is (goes_on g d v second attached (stops s (inl opened) e)) =
+    ends_at reads (Opens NotAStore)
+    (behind asks front back reads (Attaches store true ∷ Opens NotAStore ∷ []) parts is
+    (two_stop back g d (Attaches store true) (Opens NotAStore) second attached opened.0)) tt (ap (λ (x : Refusal). Some x) (one_refusal {X = Application} r s e ∙ opened.1))
+of_open store limit program asks front back reads r parts is (goes_on g d v second attached (stops s (inr opened) e)) =
+    ends_at reads (Opens Unread)
+    (behind asks front back reads (Attaches store true ∷ Opens Unread ∷ []) parts is
+    (two_stop back g d (Attaches store true) (Opens Unread) second attached opened.0)) tt (ap (λ (x : Refusal). Some x) (one_refusal {X = Application} r s e ∙ opened.1))
+of_open store limit program asks front back reads r parts is (goes_on g d v second attached (goes_on h k payload third opened told)) =
+    ends_at reads (Opens (Found payload))
+    (behind asks front back reads (Attaches store true ∷ Opens (Found payload) ∷ []) parts is
+    (two back g d h k (Attaches store true) (Opens (Found payload)) second attached third opened told.none)) tt
+    (inr (r, refl, (of_payload told.holds.reading r told.holds.end_is).five))
+
+-- one that opens to an application
+pub record OpenedTo (store : List ℕ) (limit : ℕ) (program : Program) (asks : List Ask) (a : Application) : Type 0 where
+  pub payload : List ℕ
+  pub asks_are : asks ≡ Attaches store true ∷ Opens (Found payload) ∷ []
+  pub is_file : IsFile (meaning_of program) limit payload a
+
+pub opened_to : (store : List ℕ) (limit : ℕ) (program : Program) (asks : List Ask) (a : Application) → Opened store limit program asks (Ok a) → OpenedTo store limit program asks a
+unfolding Opened
+opened_to store limit program asks a (stops s attached e) = absurd (ok_err a s e)
+opened_to store limit program asks a (goes_on g d v second attached (stops s opened e)) = absurd (ok_err a s e)
+opened_to store limit program asks a (goes_on g d v second attached (goes_on h k payload third opened told)) = record {
+  payload = payload;
+  asks_are = two asks g d h k (Attaches store true) (Opens (Found payload)) second attached third opened told.none;
+  is_file = file_of program limit payload a told.holds.reading told.holds.end_is told.holds.is_read;
+}
+
+-- ---- all of it
+
+pub replay_asked : (node : NodeAsked) (file : List ℕ) (asks : List Ask) (r : Refusal) → ReplayComes node file asks (Err r) → StoreAsked IsOpening node.store asks (Some r)
+replay_asked node file asks r (stops s read e) =
+    let all = (inputs_alone node file).reads asks (Err s) read in
+    ends_before all.0 s all.1 (ap (λ (x : Refusal). Some x) (one_refusal {X = List ℕ} r s e)) ((inputs_alone node file).early asks s read)
+replay_asked node file asks r (goes_on front back i parts read (stops s opened e)) =
+    let all = (inputs_alone node file).reads front (Ok i) read in
+    of_open node.store node.limit i.program asks front back all.0 r parts all.1 (subst (λ (x : Refusal). Opened node.store node.limit i.program back (Err x)) (sym (one_refusal {X = List ℕ} r s e)) opened)
+replay_asked node file asks r (goes_on front back i parts read (goes_on g d a more opened replays)) = absurd (err_ok r _ replays.end_is)
+
+-- a run, with what was read and opened before it
+pub record RanBy (node : NodeAsked) (file : List ℕ) (asks : List Ask) : Type 0 where
+  pub inputs : Inputs
+  pub reads : List Read
+  pub read : InputsRead node file (of_reads reads) (Ok inputs)
+  pub application : Application
+  pub payload : List ℕ
+  pub is_file : IsFile (meaning_of inputs.program) node.limit payload application
+  pub ran : Ran
+  pub is_run : IsRunOf node inputs application ran
+  pub asks_are : asks ≡ of_reads reads ++ Attaches node.store true ∷ Opens (Found payload) ∷ Runs ran ∷ []
+  pub left : List Entry
+  pub entries : IsRecord inputs.text (ran.entries ++ left)
+
+pub three : (asks front back : List Ask) (reads : List Read) (store payload : List ℕ) (ran : Ran) (of_store of_run : List Ask) → asks ≡ front ++ back → front ≡ of_reads reads → back ≡ of_store ++ of_run
+    → of_store ≡ Attaches store true ∷ Opens (Found payload) ∷ [] → of_run ≡ Runs ran ∷ [] → asks ≡ of_reads reads ++ Attaches store true ∷ Opens (Found payload) ∷ Runs ran ∷ []
+three asks front back reads store payload ran of_store of_run parts is more are last =
+    behind asks front back reads (Attaches store true ∷ Opens (Found payload) ∷ Runs ran ∷ []) parts is
+    (more ∙ ap (λ (l : List Ask). l ++ of_run) are ∙ ap (λ (l : List Ask). Attaches store true ∷ Opens (Found payload) ∷ l) last)
+
+unfoldable pub ran_by : (node : NodeAsked) (file : List ℕ) (asks : List Ask) (text : List ℕ) → ReplayComes node file asks (Ok text) → RanBy node file asks
+ran_by node file asks text (stops s read e) = absurd (ok_err text s e)
+ran_by node file asks text (goes_on front back i parts read (stops s opened e)) = absurd (ok_err text s e)
+ran_by node file asks text (goes_on front back i parts read (goes_on g d a more opened replays)) =
+    let all = (inputs_alone node file).reads front (Ok i) read in
+    let to = opened_to node.store node.limit i.program g a opened in
+    record {
+      inputs = i;
+      reads = all.0;
+      read = subst (λ (l : List Ask). InputsRead node file l (Ok i)) all.1 read;
+      application = a;
+      payload = to.payload;
+      is_file = to.is_file;
+      ran = replays.ran;
+      is_run = replays.is_run;
+      asks_are = three asks front back all.0 node.store to.payload replays.ran g d parts all.1 more to.asks_are replays.asks_are;
+      left = [];
+      entries = subst (λ (l : List Entry). IsRecord i.text l) (sym (append-nil replays.ran.entries)) replays.entries;
+    }
+
+unfoldable pub ran_until : (node : NodeAsked) (file : List ℕ) (asks : List Ask) (put last : List ℕ) → ReplayStops node file asks put last → RanBy node file asks
+ran_until node file asks put last s =
+    let all = (inputs_alone node file).reads s.of_inputs (Ok s.inputs) s.reads in
+    let to = opened_to node.store node.limit s.inputs.program s.of_store s.application s.opens in
+    record {
+      inputs = s.inputs;
+      reads = all.0;
+      read = subst (λ (l : List Ask). InputsRead node file l (Ok s.inputs)) all.1 s.reads;
+      application = s.application;
+      payload = to.payload;
+      is_file = to.is_file;
+      ran = s.stops.ran;
+      is_run = s.stops.is_run;
+      asks_are = three asks s.of_inputs (s.of_store ++ s.of_run) all.0 node.store to.payload s.stops.ran s.of_store s.of_run (s.asks_are ∙ append_assoc s.of_inputs s.of_store s.of_run) all.1 refl to.asks_are s.stops.asks_are;
+      left = s.stops.left;
+      entries = s.stops.entries;
+    }
+
+-- ---- what that did to the disk
+
+-- a name was attached, its store opened, and a node run on it
+pub record RanOn {T : Type 0} (D : DiskGhosts T) (store payload : List ℕ) (ran : Ran) (d e : T) : Type 0 where
+  pub middle : T
+  pub last : Last D store (Opens (Found payload)) d middle
+  pub run : IsRan D.meaning ran middle e
+
+pub record RunBehind (store : List ℕ) (asks : List Ask) : Type 0 where
+  pub reads : List Read
+  pub payload : List ℕ
+  pub ran : Ran
+  pub asks_are : asks ≡ of_reads reads ++ Attaches store true ∷ Opens (Found payload) ∷ Runs ran ∷ []
+
+pub run_behind : (node : NodeAsked) (file : List ℕ) (asks : List Ask) → RanBy node file asks → RunBehind node.store asks
+run_behind node file asks by = record { reads = by.reads; payload = by.payload; ran = by.ran; asks_are = by.asks_are }
+
+pub ran_on : {T : Type 0} (D : DiskGhosts T) (store payload : List ℕ) (ran : Ran) (asks : List Ask) (reads : List Read) (d e : T)
+    → asks ≡ of_reads reads ++ Attaches store true ∷ Opens (Found payload) ∷ Runs ran ∷ [] → AreAsked D asks d e → RanOn D store payload ran d e
+ran_on D store payload ran asks reads d e is asked =
+    let rest = asked_behind D reads (Attaches store true ∷ Opens (Found payload) ∷ Runs ran ∷ []) d e (subst (λ (a : List Ask). AreAsked D a d e) is asked) in
+    record {
+      middle = rest.2.0;
+      last = record { between = rest.0; attached = rest.1; asked = rest.2.1 };
+      run = subst (λ t. IsRan D.meaning ran rest.2.0 t) (sym rest.2.2.2) rest.2.2.1;
+    }
+
+-- the name is attached
+pub run_attaches : {T : Type 0} (D : DiskGhosts T) (store : List ℕ) (asks : List Ask) (d e : T) → RunBehind store asks → AreAsked D asks d e → IsAttach (D.meaning d).attached (D.meaning e).attached store
+run_attaches D store asks d e by asked =
+    let on = ran_on D store by.payload by.ran asks by.reads d e by.asks_are asked in
+    subst (λ now. IsAttach (D.meaning d).attached now store) (sym (on.run.attached ∙ on.last.asked.attached)) on.last.attached.attached

@@ -1,0 +1,156 @@
+-- What `replay` comes to, and what it leaves.
+use Rattle.std.specs.Prelude.{◌≡◌, ◌⊎◌, ℕ, pos, List, [], ◌∷◌, ◌++◌, Option, Result, Ok}
+use Rattle.sed_typed.specs.declared.program.Program.{Program as TheProgram}
+use Rattle.sed_outside.specs.Cause.{Rose}
+use Rattle.sed_outside.specs.Sink.{PutsFront, with_text}
+use Rattle.sed_outside.specs.declared.files.Files.{Ghosts as FileGhosts}
+use Rattle.disk_model.specs.Disk.{Meaning}
+use Rattle.sed_engine.specs.Program.{meaning_of}
+use Rattle.comp_tree.specs.Application.{Application}
+use Rattle.app_file.specs.Opens.{Opens}
+use Rattle.dasp_users.specs.declared.user.User.{User}
+use Rattle.dasp_session.specs.Outbox.{AreTexts, Datagram}
+use Rattle.replay_log.specs.Entry.{Entry}
+use Rattle.replay_log.specs.Record.{IsRecord}
+use Rattle.node_events.specs.Running.{Event, run}
+use Rattle.sed_node.specs.Running.{lines_of}
+use Rattle.node_replay.specs.Replaying.{end_text, replay_text}
+use Rattle.file_steps.specs.Steps.{AndThen, Decides}
+use Rattle.file_steps.specs.Reads.{HasReads}
+use Rattle.sedona_cli.specs.declared.inputs.Inputs.{Inputs}
+use Rattle.sedona_cli.specs.declared.refusal.Refusal.{Refusal}
+use Rattle.sedona_words.specs.Command.{NodeAsked}
+use Rattle.sedona_cli.specs.Outside.{Ask, Ran, Runs, of_reads, reached}
+use Rattle.sedona_cli.specs.Nodes.{IsRunFrom, LeavesStore, Opened}
+use Rattle.sedona_cli.specs.Steps.{AfterKits, AfterRecord, AfterSecret, AfterUsers}
+
+-- ---- what is read
+
+-- The kits are loaded, and then the users, the secret and the record are read.
+abbrev pub InputsRead : NodeAsked → List ℕ → List Ask → Result Inputs Refusal → Type 0
+InputsRead asked file =
+    AndThen (AfterKits asked.kits) (λ (program : TheProgram).
+    AndThen (AfterUsers asked.users) (λ (users : List User).
+    AndThen (AfterSecret asked.secret) (λ (secret : List ℕ).
+    AndThen (AfterRecord file) (λ (text : List ℕ).
+    Decides (λ end. end ≡ Ok (record { program = program; users = users; secret = secret; text = text }))))))
+
+-- The store that the words name is opened, over the program that was loaded.
+abbrev pub OpenedBy : NodeAsked → Inputs → List Ask → Result Application Refusal → Type 0
+OpenedBy asked inputs = Opened asked.store asked.limit inputs.program
+
+-- ---- what is run
+
+-- A run of the node that begins with this application at moment 0.
+abbrev pub IsRunOf : NodeAsked → Inputs → Application → Ran → Type 0
+IsRunOf asked inputs = IsRunFrom (pos 0) asked.turns (meaning_of inputs.program) inputs.users inputs.secret
+
+-- It is run over all entries of the record. What is printed is each datagram that was sent, the application that was
+-- reached, and what the run came to.
+pub record Replays (asked : NodeAsked) (inputs : Inputs) (a : Application) (asks : List Ask)
+    (end : Result (List ℕ) Refusal) : Type 0 where
+  pub ran : Ran
+  pub is_run : IsRunOf asked inputs a ran
+  pub asks_are : asks ≡ Runs ran ∷ []
+  pub entries : IsRecord inputs.text ran.entries
+  pub sent : List Datagram
+  pub sends : AreTexts (reached ran).sent sent
+  pub end_is : end ≡ Ok (replay_text ran.code ran.setup ran.start ran.events sent)
+
+-- The sink failed a line of the last event that was handled. The lines of the earlier ones were put, and those of the
+-- last one in part.
+pub record FailsInEvent (ran : Ran) (put last : List ℕ) : Type 0 where
+  pub earlier : List Event
+  pub event : Event
+  pub parted : ran.events ≡ earlier ++ event ∷ []
+  pub sent : List Datagram
+  pub sent_last : List Datagram
+  pub sends : AreTexts (reached ran).sent (sent ++ sent_last)
+  pub sends_before : AreTexts (run ran.code ran.setup ran.start earlier).sent sent
+  pub put_are : put ≡ lines_of sent
+  pub last_are : last ≡ lines_of sent_last
+
+-- The sink failed what stands at the end: all entries were handled, all lines were put, and of the end a part.
+pub record FailsAtEnd (ran : Ran) (left : List Entry) (put last : List ℕ) : Type 0 where
+  pub all : left ≡ []
+  pub sent : List Datagram
+  pub sends : AreTexts (reached ran).sent sent
+  pub put_are : put ≡ lines_of sent
+  pub last_are : last ≡ end_text ran.code (reached ran)
+
+-- Where the sink failed a run, with these entries left: what was put before, and what was put in part.
+abbrev pub FailsAt : Ran → List Entry → List ℕ → List ℕ → Type 0
+FailsAt ran left put last = FailsInEvent ran put last ⊎ FailsAtEnd ran left put last
+
+-- It is run until the sink fails, over the first entries or over all of them.
+pub record Stops (asked : NodeAsked) (inputs : Inputs) (a : Application) (asks : List Ask) (put last : List ℕ)
+    : Type 0 where
+  pub ran : Ran
+  pub is_run : IsRunOf asked inputs a ran
+  pub asks_are : asks ≡ Runs ran ∷ []
+  pub left : List Entry
+  pub entries : IsRecord inputs.text (ran.entries ++ left)
+  pub fails : FailsAt ran left put last
+
+-- How a run is answered: all was put, with status 0; or the sink failed, with status 8.
+pub data Plays (asked : NodeAsked) (inputs : Inputs) (a : Application) (asks : List Ask) (before after : Option (List ℕ))
+    (faults_before faults_after : ℕ) (status : ℕ) : Type 0 where
+  all_put : (text : List ℕ) → Replays asked inputs a asks (Ok text) → status ≡ 0 → after ≡ with_text before text
+      → faults_after ≡ faults_before → Plays asked inputs a asks before after faults_before faults_after status
+  not_put : (put last : List ℕ) → Stops asked inputs a asks put last → status ≡ 8 → Rose faults_before faults_after
+      → PutsFront (with_text before put) after last
+      → Plays asked inputs a asks before after faults_before faults_after status
+
+-- ---- what it comes to
+
+abbrev pub ReplayComes : NodeAsked → List ℕ → List Ask → Result (List ℕ) Refusal → Type 0
+ReplayComes asked file =
+    AndThen (InputsRead asked file) (λ (inputs : Inputs).
+    AndThen (OpenedBy asked inputs) (Replays asked inputs))
+
+pub record ReplayStops (asked : NodeAsked) (file : List ℕ) (asks : List Ask) (put last : List ℕ) : Type 0 where
+  pub inputs : Inputs
+  pub application : Application
+  pub of_inputs : List Ask
+  pub of_store : List Ask
+  pub of_run : List Ask
+  pub asks_are : asks ≡ of_inputs ++ of_store ++ of_run
+  pub reads : InputsRead asked file of_inputs (Ok inputs)
+  pub opens : OpenedBy asked inputs of_store (Ok application)
+  pub stops : Stops asked inputs application of_run put last
+
+-- ---- what it leaves
+
+-- What is shown of a run with these entries left: with status 0 none is, and all of the text was put; with status 8
+-- the text up to where the sink failed.
+pub data Shows (ran : Ran) (left : List Entry) (before after : Option (List ℕ)) (status : ℕ) : Type 0 where
+  in_full : (sent : List Datagram) → left ≡ [] → AreTexts (reached ran).sent sent → status ≡ 0
+      → after ≡ with_text before (replay_text ran.code ran.setup ran.start ran.events sent)
+      → Shows ran left before after status
+  in_part : (put last : List ℕ) → FailsAt ran left put last → status ≡ 8 → PutsFront (with_text before put) after last
+      → Shows ran left before after status
+
+-- What a replay shows and leaves: it ran a node over the entries of the record that are not left, of which what was put
+-- tells.
+pub record Replayed (asked : NodeAsked) (inputs : Inputs) (before after : Option (List ℕ)) (status : ℕ)
+    (disk disk_now : Meaning) : Type 0 where
+  pub application : Application
+  pub ran : Ran
+  pub is_run : IsRunOf asked inputs application ran
+  pub left : List Entry
+  pub entries : IsRecord inputs.text (ran.entries ++ left)
+  pub shows : Shows ran left before after status
+  pub store : LeavesStore asked.limit application ran disk disk_now
+
+-- So it is with what the files gave.
+abbrev pub ReplayedBy : {S : Type 0} → FileGhosts S → NodeAsked → List ℕ → S → S → Meaning → Meaning
+    → Option (List ℕ) → Option (List ℕ) → ℕ → Type 0
+ReplayedBy F asked file files files_now disk disk_now before after status =
+    HasReads F files files_now (λ reads. (inputs : Inputs) × InputsRead asked file (of_reads reads) (Ok inputs)
+    × Replayed asked inputs before after status disk disk_now)
+
+-- The store's file opens to no application over the program of the kits.
+abbrev pub HoldsNone : {S : Type 0} → FileGhosts S → NodeAsked → List ℕ → S → S → Meaning → Type 0
+HoldsNone F asked file files files_now disk =
+    HasReads F files files_now (λ reads. (inputs : Inputs) × InputsRead asked file (of_reads reads) (Ok inputs)
+    × ((a : Application) → Opens (meaning_of inputs.program) asked.limit disk.content a → ⊥))

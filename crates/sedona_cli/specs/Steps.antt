@@ -1,0 +1,50 @@
+-- The steps that commands share: the loading of programs, and printing.
+use Rattle.std.specs.Prelude.{◌≡◌, ℕ, List, [], ◌∷◌, ◌++◌, Result, Ok, Err, codes}
+use Rattle.sed_typed.specs.declared.program.Program.{Program as TheProgram}
+use Rattle.file_steps.specs.Steps.{Read, Decides}
+use Rattle.dasp_users.specs.declared.user.User.{User}
+use Rattle.input_files.specs.Inputs.{RecordRead, SecretRead, UsersRead}
+use Rattle.sed_kits.specs.Loading.{KitsLoaded, TextLoaded, Told}
+use Rattle.sedona_cli.specs.declared.refusal.Refusal.{Refusal}
+use Rattle.sedona_cli.specs.Lines.{line_end}
+use Rattle.sedona_cli.specs.declared.refusal.Refusal.TheVariants.{FileFault}
+use Rattle.sedona_cli.specs.Outside.{Ask, Writes, Written, Unwritten, of_reads}
+use Rattle.sedona_cli.specs.Refusals.{of_inputs, of_kits}
+
+-- A step that asks for files alone, as one of a command, whose refusals are told so: its reads are what is asked.
+abbrev pub OfFiles : {E X : Type 0} → (E → Refusal) → (List Read → Result X E → Type 0)
+    → List Ask → Result X Refusal → Type 0
+OfFiles told step asks end = (reads : List Read) × (asks ≡ of_reads reads) × Told told step reads end
+
+-- the program of kits, by the names of their manifests
+abbrev pub AfterKits : List (List ℕ) → List Ask → Result TheProgram Refusal → Type 0
+AfterKits names = OfFiles of_kits (KitsLoaded names)
+
+-- the program of one source
+abbrev pub AfterText : List ℕ → List Ask → Result TheProgram Refusal → Type 0
+AfterText file = OfFiles of_kits (TextLoaded file)
+
+-- the users of a users file, by its name
+abbrev pub AfterUsers : List ℕ → List Ask → Result (List User) Refusal → Type 0
+AfterUsers file = OfFiles of_inputs (UsersRead file)
+
+-- the secret in a file: its first 20 bytes
+abbrev pub AfterSecret : List ℕ → List Ask → Result (List ℕ) Refusal → Type 0
+AfterSecret file = OfFiles of_inputs (SecretRead file)
+
+-- the bytes of a file, which are a record
+abbrev pub AfterRecord : List ℕ → List Ask → Result (List ℕ) Refusal → Type 0
+AfterRecord file = OfFiles of_inputs (RecordRead file)
+
+-- nothing more is asked, and this is printed
+abbrev pub Prints : List ℕ → List Ask → Result (List ℕ) Refusal → Type 0
+Prints text = Decides (λ end. end ≡ Ok text)
+
+abbrev pub done_text : List ℕ
+done_text = codes "ok" ++ line_end
+
+-- These bytes are written into the file of a name, and `ok` is printed; or the write fails, and it ends with that file's
+-- fault. Nothing more is asked.
+abbrev pub FileWritten : List ℕ → List ℕ → List Ask → Result (List ℕ) Refusal → Type 0
+FileWritten name bytes asks (Ok text) = (asks ≡ Writes name bytes Written ∷ []) × (text ≡ done_text)
+FileWritten name bytes asks (Err refusal) = (asks ≡ Writes name bytes Unwritten ∷ []) × (refusal ≡ FileFault name)

@@ -1,0 +1,176 @@
+//! `run`: the node that a store opens to, on a link and a clock.
+ghost use Rattle.std.specs.Prelude.{◌≡◌, ◌++◌, ℕ, ℤ, IsTrue, List, Ok};
+ghost use Rattle.app_save.specs.Saving.{AllStores};
+ghost use Rattle.comp_tree.specs.Application.{Application};
+ghost use Rattle.comp_tree.specs.Whole.{Whole};
+ghost use Rattle.dasp_users.specs.declared.user.User.{User};
+ghost use Rattle.file_steps.specs.Steps.{Read};
+ghost use Rattle.link_prop.specs.Linked.{application_of};
+ghost use Rattle.node_events.specs.Node.{Node as State};
+ghost use Rattle.sed_engine.specs.Code.{Meaning as Code};
+ghost use Rattle.sed_engine.specs.Program.{meaning_of};
+ghost use Rattle.sed_node.specs.Living.{Sleeps};
+ghost use Rattle.sed_node.specs.Standing.{StandsFor, setup_of};
+ghost use Rattle.sed_typed.specs.Typed.{Typed};
+ghost use Rattle.sedona_cli.specs.declared.inputs.NodeInputs.{NodeInputs as TheInputs};
+ghost use Rattle.sedona_words.specs.Asked.{asked_node, asked_run, IsMeantNode, IsMeantRun};
+ghost use Rattle.sedona_words.specs.Command as words_of;
+ghost use Rattle.sedona_cli.specs.Nodes.{IsReady};
+ghost use Rattle.sedona_cli.specs.Outside.{AsksDisk, HasAsks, of_reads};
+ghost use Rattle.sedona_cli.specs.Program.{IsAnswer};
+ghost use Rattle.sedona_cli.specs.Run.{AnswersLive, AsksLive, RanBy, RunInputsRead, RunsKept, RunsOn, RunsReady};
+ghost use Rattle.sedona_cli.specs.Status.{number_of};
+
+use crate::inputs::{NodeInputs, node_inputs};
+use crate::nodes::{node_of, open_app};
+use crate::putting::refuse;
+use crate::refusal::Refusal;
+use crate::status::Status;
+use app_save::{Store, stores_open_to_one};
+use dasp_session::Outbox;
+use dasp_users::Users;
+use disk_model::Disk;
+use link_prop::App;
+use live_outside::{Clock, Link};
+use node_replay::live;
+use sed_engine::Engine;
+use sed_node::Node;
+use sed_outside::{Files, Sink};
+use sed_walker::Walker;
+use sedona_words::RunWords;
+use std::alloc::Global;
+
+// Runs a node so many cycles, with a period in milliseconds, and puts what stands at the end of its run. It takes no
+// memory but by adds.
+fn run_ready<E: Engine, L: Link, C: Clock, D: Disk, O: Sink>(
+    ready: (Node<E>, Outbox),
+    cycles: u32,
+    period: u32,
+    link: &mut L,
+    clock: &mut C,
+    disk: &mut D,
+    out: &mut O,
+) -> Status
+    requires stands { (n : State) × StandsFor E.Engine ready.0 n }
+    requires stores { IsTrue (D.meaning disk.old).tells → AllStores (setup_of ready.0).slot (D.meaning disk.old) }
+    ensures ran { (moment : ℤ) (turns : ℕ) (code : Code) (users : List User) (secret : List ℕ) (a : Application)
+        → IsReady E.Engine moment turns code users secret a ready.0
+        → RunsReady D.Disk L.Link C.Clock moment turns code users secret a cycles (O.text out.old) (O.text out.new)
+        (O.faults out.old) (O.faults out.new) (number_of result) link.old link.new clock.old disk.old disk.new }
+    ensures sleeps { Sleeps (C.moments clock.old) cycles period (C.asked clock.old) (C.asked clock.new) }
+    ensures bound { L.bound link.new ≡ L.bound link.old }
+{
+    let (mut node, mut outbox) = ready;
+    match live(
+        &mut node,
+        &mut outbox,
+        disk,
+        link,
+        clock,
+        cycles,
+        period,
+        out,
+    ) {
+        Ok(()) => Status::Done,
+        Err(_) => Status::SinkFault,
+    }
+}
+
+// Takes the port, and runs the node of an application in a store that is open, from the moment that it is then. All
+// memory is taken before the first event.
+fn run_app<L: Link, C: Clock, D: Disk, O: Sink>(
+    alloc: Global,
+    words: RunWords<'_>,
+    held: (Store, App<Walker>),
+    users: Users,
+    secret: [u8; 20],
+    link: &mut L,
+    clock: &mut C,
+    disk: &mut D,
+    out: &mut O,
+) -> Status
+    requires meant { IsMeantNode words.node }
+    requires whole { Whole (⟦<Walker as Engine>⟧.meaning held.1.tree.engine)
+        (application_of ⟦<Walker as Engine>⟧ held.1) }
+    requires stores { IsTrue (D.meaning disk.old).tells → AllStores held.0 (D.meaning disk.old) }
+    ensures answered { (inputs : TheInputs)
+        → ⟦<Walker as Engine>⟧.meaning held.1.tree.engine ≡ meaning_of inputs.program
+        → users ≡ inputs.users → secret ≡ inputs.secret
+        → AsksDisk D.Disk disk.old disk.new (λ asks. AnswersLive (asked_run words.entry) inputs
+        (application_of ⟦<Walker as Engine>⟧ held.1) asks (O.text out.old) (O.text out.new) (O.faults out.old)
+        (O.faults out.new) (number_of result)) }
+    ensures live { AsksLive L.Link C.Clock words.entry.port (number_of result) link.old link.new clock.old clock.new
+        (RunsOn D.Disk L.Link C.Clock (asked_run words.entry) (⟦<Walker as Engine>⟧.meaning held.1.tree.engine)
+        users secret (application_of ⟦<Walker as Engine>⟧ held.1) (O.text out.old) (O.text out.new)
+        (number_of result) link.old link.new clock.old clock.new disk.old disk.new) }
+{
+    let (store, app) = held;
+    match link.bind(words.port) {
+        Ok(()) => {}
+        Err(_) => return refuse(alloc, &Refusal::LinkFault, out),
+    }
+    let moment = clock.now();
+    match node_of(alloc, words.node, app, store, users, secret, moment) {
+        Ok(ready) => run_ready(ready, words.cycles, words.period, link, clock, disk, out),
+        Err(refusal) => refuse(alloc, &refusal, out),
+    }
+}
+
+// With what is read.
+fn run_from<L: Link, C: Clock, D: Disk, O: Sink>(
+    alloc: Global,
+    words: RunWords<'_>,
+    inputs: NodeInputs,
+    link: &mut L,
+    clock: &mut C,
+    disk: &mut D,
+    out: &mut O,
+) -> Status
+    requires typed { Typed inputs.program }
+    requires meant { IsMeantNode words.node }
+    ensures answered { (reads : List Read)
+        → RunInputsRead (asked_node words.entry.node) (of_reads reads) (Ok inputs)
+        → AsksDisk D.Disk disk.old disk.new (λ asks. IsAnswer (words_of.Run (asked_run words.entry))
+        (of_reads reads ++ asks) (O.text out.old) (O.text out.new) (O.faults out.old) (O.faults out.new)
+        (number_of result)) }
+    ensures live { AsksLive L.Link C.Clock words.entry.port (number_of result) link.old link.new clock.old clock.new
+        (RunsKept L.Link C.Clock (asked_run words.entry) inputs (O.text out.old) (O.text out.new) (number_of result)
+        link.old link.new clock.old clock.new (D.meaning disk.old) (D.meaning disk.new)) }
+{
+    stores_open_to_one();
+    let NodeInputs {
+        program,
+        users,
+        secret,
+    } = inputs;
+    match open_app(alloc, words.node, program, disk) {
+        Ok(held) => run_app(alloc, words, held, users, secret, link, clock, disk, out),
+        Err(refusal) => refuse(alloc, &refusal, out),
+    }
+}
+
+/// Runs the node that a store opens to over a link and a clock, by the words of `run`, and puts the application that is
+/// reached and a summary. The port is asked for once all is read and the store is open; the node begins at the moment
+/// that it is then.
+pub fn lived<F: Files, L: Link, C: Clock, D: Disk, O: Sink>(
+    alloc: Global,
+    words: RunWords<'_>,
+    files: &mut F,
+    link: &mut L,
+    clock: &mut C,
+    disk: &mut D,
+    out: &mut O,
+) -> Status
+    requires { IsMeantRun words }
+    ensures answered { HasAsks F.Files D.Disk files.old files.new disk.old disk.new (λ asks.
+        IsAnswer (words_of.Run (asked_run words.entry)) asks (O.text out.old) (O.text out.new)
+        (O.faults out.old) (O.faults out.new) (number_of result)) }
+    ensures live { AsksLive L.Link C.Clock words.entry.port (number_of result) link.old link.new clock.old clock.new
+        (RanBy F.Files L.Link C.Clock (asked_run words.entry) files.old files.new link.old link.new clock.old clock.new
+        (D.meaning disk.old) (D.meaning disk.new) (O.text out.old) (O.text out.new) (number_of result)) }
+{
+    match node_inputs(alloc, words.node, files) {
+        Ok(inputs) => run_from(alloc, words, inputs, link, clock, disk, out),
+        Err(refusal) => refuse(alloc, &refusal, out),
+    }
+}

@@ -1,0 +1,3 @@
+pub use Rattle.record_making.specs.Spec
+pub mod Command
+pub mod Asked

@@ -1,0 +1,260 @@
+//! The words of the command line, read by hand.
+ghost use Rattle.std.specs.Prelude.{◌≡◌, ◌≤◌, IfSome};
+ghost use Rattle.std.specs.Option.{option_map};
+ghost use Rattle.sedona_words.specs.Asked.{asked_command, asked_node, IsMeant, IsMeantNode};
+ghost use Rattle.sedona_words.specs.Command as words_of;
+
+use crate::gen_words::{GenWords, gen_of};
+use crate::words::{
+    are_manifests, data_limit, is_file_name, is_manifests, number_within, option_first, option_or,
+    slot_size, turn_count,
+};
+
+// The most cycles that can be asked for.
+const MOST_CYCLES: u64 = 1_000_000;
+
+/// The words of a command that runs a node.
+#[derive(Clone, Copy)]
+pub struct NodeWords<'a> {
+    /// The names of the manifests with commas between them.
+    pub kits: &'a str,
+    /// The name of the store.
+    pub store: &'a str,
+    /// The name of the users file.
+    pub users: &'a str,
+    /// The name of the secret file.
+    pub secret: &'a str,
+    /// The turns of each root call, 1 to 1,000,000.
+    pub turns: u32,
+    /// The most bytes of data, 1 to 4,194,304.
+    pub limit: u32,
+}
+
+/// The words of `run`.
+#[derive(Clone, Copy)]
+pub struct RunWords<'a> {
+    /// The words of the node.
+    pub node: NodeWords<'a>,
+    /// The port that is listened on, 1 to 65,535.
+    pub port: u16,
+    /// The number of cycles, 0 to 1,000,000.
+    pub cycles: u32,
+    /// The milliseconds from one cycle to the next, 1 to 60,000.
+    pub period: u32,
+}
+
+/// What the words ask for.
+#[derive(Clone, Copy)]
+pub enum Asked<'a> {
+    /// `cycles FILE N`.
+    Cycles(&'a str, u32),
+    /// `check KIT..`, by the names of the manifests.
+    Check(&'a [String]),
+    /// `new --kits K --store S --slot BYTES`: the names of the manifests with commas between them, the name of the
+    /// store, and the size of its slots.
+    New(&'a str, &'a str, u32),
+    /// `show --kits K --store S [--data BYTES]`: the names of the manifests with commas between them, the name of the
+    /// store, and the most bytes of data.
+    Show(&'a str, &'a str, u32),
+    /// `replay --kits K --store S --users U --secret F --record R [--turns B] [--data BYTES]`: the words of the node,
+    /// and the name of the record.
+    Replay(NodeWords<'a>, &'a str),
+    /// `run --kits K --store S --users U --secret F --port P --cycles N [--period MS] [--turns B] [--data BYTES]`.
+    Run(RunWords<'a>),
+    /// `gen SEED C L N --kits K --users U --user NAME --secret F --out R`.
+    Gen(GenWords<'a>),
+}
+
+/// A number of cycles, without a leading zero.
+pub fn cycle_count(digits: &[u8]) -> Option<u32>
+    ensures count { result ≡ words_of.cycle_count digits.now }
+    ensures most { IfSome result (λ count. count ≤ 1000000) }
+{
+    match number_within(digits, MOST_CYCLES) {
+        Some(count) => Some(count as u32),
+        None => None,
+    }
+}
+
+// Cycles of a file, by its name and their number.
+fn cycles_named<'a>(file: &'a str, digits: &[u8]) -> Option<Asked<'a>>
+    ensures meant { IfSome result IsMeant }
+    ensures command { option_map asked_command result ≡ words_of.cycles_named file.now digits.now }
+{
+    if !is_file_name(file) {
+        return None;
+    }
+    let count = cycle_count(digits)?;
+    Some(Asked::Cycles(file, count))
+}
+
+// `FILE N`.
+fn cycles_of(words: &[String]) -> Option<Asked<'_>>
+    ensures meant { IfSome result IsMeant }
+    ensures command { option_map asked_command result ≡ words_of.cycles_of (words_of.texts words.now) }
+{
+    let [file, count] = words else {
+        return None;
+    };
+    cycles_named(file.as_str(), count.as_bytes())
+}
+
+// `KIT..`.
+fn check_of(names: &[String]) -> Option<Asked<'_>>
+    ensures meant { IfSome result IsMeant }
+    ensures command { option_map asked_command result ≡ words_of.check_of (words_of.texts names.now) }
+{
+    if are_manifests(names) {
+        Some(Asked::Check(names))
+    } else {
+        None
+    }
+}
+
+// A new store over kits, by its name, with slots of so many bytes.
+fn new_named<'a>(kits: &'a str, store: &'a str, slot: &[u8]) -> Option<Asked<'a>>
+    ensures meant { IfSome result IsMeant }
+    ensures command { option_map asked_command result ≡ words_of.new_named kits.now store.now slot.now }
+{
+    if !is_manifests(kits) || !is_file_name(store) {
+        return None;
+    }
+    let size = slot_size(slot)?;
+    Some(Asked::New(kits, store, size))
+}
+
+// `--kits K --store S --slot BYTES`.
+fn new_of(words: &[String]) -> Option<Asked<'_>>
+    ensures meant { IfSome result IsMeant }
+    ensures command { option_map asked_command result ≡ words_of.new_of (words_of.texts words.now) }
+{
+    let (kits, words) = option_first(words, "--kits")?;
+    let (store, words) = option_first(words, "--store")?;
+    let (slot, words) = option_first(words, "--slot")?;
+    if !words.is_empty() {
+        return None;
+    }
+    new_named(kits, store, slot.as_bytes())
+}
+
+// The application of a store over kits, by its name, with at most so many bytes of data.
+fn show_named<'a>(kits: &'a str, store: &'a str, limit: &[u8]) -> Option<Asked<'a>>
+    ensures meant { IfSome result IsMeant }
+    ensures command { option_map asked_command result ≡ words_of.show_named kits.now store.now limit.now }
+{
+    if !is_manifests(kits) || !is_file_name(store) {
+        return None;
+    }
+    let most = data_limit(limit)?;
+    Some(Asked::Show(kits, store, most))
+}
+
+// `--kits K --store S [--data BYTES]`.
+fn show_of(words: &[String]) -> Option<Asked<'_>>
+    ensures meant { IfSome result IsMeant }
+    ensures command { option_map asked_command result ≡ words_of.show_of (words_of.texts words.now) }
+{
+    let (kits, words) = option_first(words, "--kits")?;
+    let (store, words) = option_first(words, "--store")?;
+    let (limit, words) = option_or(words, "--data", "4194304");
+    if !words.is_empty() {
+        return None;
+    }
+    show_named(kits, store, limit.as_bytes())
+}
+
+/// The words of a node, by the names of its files, and its turns and bytes of data in digits. None where one of them is
+/// out of its bounds.
+pub fn node_named<'a>(
+    kits: &'a str,
+    store: &'a str,
+    users: &'a str,
+    secret: &'a str,
+    turns: &[u8],
+    limit: &[u8],
+) -> Option<NodeWords<'a>>
+    ensures meant { IfSome result IsMeantNode }
+    ensures node { option_map asked_node result
+        ≡ words_of.node_named kits.now store.now users.now secret.now turns.now limit.now }
+{
+    if !is_manifests(kits)
+        || !is_file_name(store)
+        || !is_file_name(users)
+        || !is_file_name(secret)
+    {
+        return None;
+    }
+    let turns = turn_count(turns)?;
+    let limit = data_limit(limit)?;
+    Some(NodeWords {
+        kits,
+        store,
+        users,
+        secret,
+        turns,
+        limit,
+    })
+}
+
+// The replay of a record on a node, by its name.
+fn replay_named<'a>(node: Option<NodeWords<'a>>, file: &'a str) -> Option<Asked<'a>>
+    requires { IfSome node IsMeantNode }
+    ensures meant { IfSome result IsMeant }
+    ensures command { option_map asked_command result
+        ≡ words_of.replay_named (option_map asked_node node.entry) file.now }
+{
+    if !is_file_name(file) {
+        return None;
+    }
+    let node = node?;
+    Some(Asked::Replay(node, file))
+}
+
+// `--kits K --store S --users U --secret F --record R [--turns B] [--data BYTES]`.
+fn replay_of(words: &[String]) -> Option<Asked<'_>>
+    ensures meant { IfSome result IsMeant }
+    ensures command { option_map asked_command result ≡ words_of.replay_of (words_of.texts words.now) }
+{
+    let (kits, words) = option_first(words, "--kits")?;
+    let (store, words) = option_first(words, "--store")?;
+    let (users, words) = option_first(words, "--users")?;
+    let (secret, words) = option_first(words, "--secret")?;
+    let (file, words) = option_first(words, "--record")?;
+    let (turns, words) = option_or(words, "--turns", "10000");
+    let (limit, words) = option_or(words, "--data", "4194304");
+    if !words.is_empty() {
+        return None;
+    }
+    let node = node_named(
+        kits,
+        store,
+        users,
+        secret,
+        turns.as_bytes(),
+        limit.as_bytes(),
+    );
+    replay_named(node, file)
+}
+
+/// What the words ask for. None exactly where they are outside the table of words.
+pub fn read_words(words: &[String]) -> Option<Asked<'_>>
+    ensures command { option_map asked_command result ≡ words_of.command_of (words_of.texts words.now) }
+    ensures meant { IfSome result IsMeant }
+{
+    let (name, rest) = words.split_first()?;
+    if name.as_str() == "cycles" {
+        cycles_of(rest)
+    } else if name.as_str() == "check" {
+        check_of(rest)
+    } else if name.as_str() == "new" {
+        new_of(rest)
+    } else if name.as_str() == "show" {
+        show_of(rest)
+    } else if name.as_str() == "replay" {
+        replay_of(rest)
+    } else if name.as_str() == "gen" {
+        Some(Asked::Gen(gen_of(rest)?))
+    } else {
+        None
+    }
+}
