@@ -3,8 +3,7 @@
 //! `put_application` puts the components of an application, depth first, each with its properties, and then its links
 //! into a sink. `datagram_line` gives the line of a datagram. `put_summary` puts the counts of a run into a sink.
 //! None takes memory of its own, so that each may be printed while events are handled and behind what the disk was
-//! told. Each text is exactly what its definition says. The commands that show an application or run one are to stand
-//! on it.
+//! told. Each text is exactly what its definition says. The commands that show an application or run one stand on it.
 #![tactic(auto)]
 
 mod application;

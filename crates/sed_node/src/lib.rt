@@ -9,8 +9,8 @@
 //! a record: what it makes of all this, and what it prints, is what is defined of the run over their events, and a
 //! crash at any moment leaves an image that opens to what was opened or saved, and to none before the last save
 //! acknowledged (specs/Running). `live` does the same over a link and a clock (specs/Living). Memory is taken by
-//! `Node::open`, and else by adds alone. The command that replays a record stands on this crate, and the one that runs a
-//! node over a network is to.
+//! `Node::open`, and else by adds alone. The commands that replay a record and that run a node over a network stand on
+//! this crate, by node_replay.
 #![tactic(auto)]
 
 mod handling;
