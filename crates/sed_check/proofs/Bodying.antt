@@ -23,8 +23,8 @@ use Rattle.sed_program.specs.Methods.{MethodAt, methods_of}
 use Rattle.sed_program.specs.Outlined.{IsHead, IsOutlined}
 use Rattle.sed_statements.specs.declared.enclosing.Enclosing.{Enclosing}
 use Rattle.sed_statements.specs.Methods.{judge_method}
-use Rattle.sed_placed.proofs.Heads.{headed}
-use Rattle.sed_membered.specs.TypedHeads.{IsTypedHead}
+use Rattle.sed_member_laws.proofs.Heads.{headed}
+use Rattle.sed_member_laws.specs.TypedHeads.{IsTypedHead}
 use Rattle.sed_sound_bodies.specs.Bodies.{IsHeadOf, IsTypedBody, Means}
 use Rattle.sed_judged.specs.Bodies.{HasTree, IsBodyOf, enclosing_of}
 use Rattle.sed_check.proofs.Keeping.{IsKept}

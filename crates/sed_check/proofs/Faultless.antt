@@ -3,7 +3,7 @@ use Rattle.std.proofs.Common.{◌≡◌, ◌≤◌, ◌++◌, Bool, List, [], le
 use Rattle.sed_classes.specs.declared.kit_units.KitUnits.{KitUnits}
 use Rattle.sed_classes.specs.Faults.{faults_of}
 use Rattle.sed_outline.specs.Fits.{Unbroken}
-use Rattle.sed_faultless.proofs.Empty.{none_left}
+use Rattle.sed_member_laws.proofs.Empty.{none_left}
 use Rattle.sed_first_fault.specs.Faults.{cycle_faults, declared_faults, spelled_faults_of}
 use Rattle.sed_judged.specs.Bodies.{body_faults}
 use Rattle.sed_elaborate.specs.Checked.{faults}

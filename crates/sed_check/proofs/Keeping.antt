@@ -27,8 +27,8 @@ use Rattle.sed_classes.specs.Members.{form_params, form_value, members_of}
 use Rattle.sed_classes.specs.SysSource.{component_members, empty_method, meta, slot_param}
 use Rattle.sed_nodes.specs.Integers.{is_above_bound, too_large, too_large_in_class, too_large_in_facets, too_large_in_init, too_large_in_member, too_large_in_params, too_large_in_type, too_large_in_value}
 use Rattle.sed_nodes.specs.Nodes.{spelled_faults}
-use Rattle.sed_constants.specs.Literals.{AreSpelled, HasSpelled, IsSpelled, IsValueSpelled, SpellsOne}
-use Rattle.sed_faultless.proofs.Empty.{none_left, none_listed, none_right, not_broken}
+use Rattle.sed_member_laws.specs.Literals.{AreSpelled, HasSpelled, IsSpelled, IsValueSpelled, SpellsOne}
+use Rattle.sed_member_laws.proofs.Empty.{none_left, none_listed, none_right, not_broken}
 use Rattle.sed_outline.proofs.Infos.{all_at}
 use Rattle.sed_first_fault.specs.Faults.{declared_faults, spelled_faults_of, spelled_in}
 use Rattle.sed_read.specs.Read.{AreRead, IsLexed, IsLexedInit, IsLexedValue, IsReadMember, SpellsCharacter}

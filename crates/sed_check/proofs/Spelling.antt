@@ -7,8 +7,8 @@ use Rattle.sed_classes.specs.declared.kit_units.KitUnits.{KitUnits}
 use Rattle.sed_classes.specs.Bodies.{texts_of}
 use Rattle.sed_classes.specs.Declarations.{all_classes}
 use Rattle.sed_program.specs.Texts.{literals_of}
-use Rattle.sed_constants.proofs.TextBytes.{text_small}
-use Rattle.sed_outlined.specs.Texts.{SpellBytes}
+use Rattle.sed_member_laws.proofs.TextBytes.{text_small}
+use Rattle.sed_class_laws.specs.Texts.{SpellBytes}
 use Rattle.sed_first_fault.specs.Faults.{declared_faults}
 use Rattle.sed_read.specs.Read.{AreRead, IsLexed}
 use Rattle.sed_check.proofs.Keeping.{all_kept}

@@ -2,7 +2,7 @@
 ghost use Rattle.std.specs.Prelude.{◌≡◌, ◌≤◌, ℕ, Err, IfOk, IsSomeAnd, [], length};
 ghost use Rattle.sed_typed.specs.Typed.{Typed};
 ghost use Rattle.sed_elaborate.specs.Checked.{IsFault, IsSpelled, faults, first_fault};
-ghost use Rattle.sed_outlined.specs.Kits.{KitsNamed};
+ghost use Rattle.sed_class_laws.specs.Kits.{KitsNamed};
 ghost use Rattle.sed_read.specs.Read.{AreRead};
 
 use crate::laws::accepted_units_are_typed;

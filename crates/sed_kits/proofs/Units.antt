@@ -12,7 +12,7 @@ use Rattle.sed_parser.specs.Derives.{Derives}
 use Rattle.sed_units.specs.declared.classes.Unit.{Unit as TheUnit}
 use Rattle.file_steps.specs.Steps.{UnlessFree}
 use Rattle.sed_classes.specs.declared.kit_units.KitUnits.{KitUnits}
-use Rattle.sed_outlined.specs.Kits.{KitsNamed}
+use Rattle.sed_class_laws.specs.Kits.{KitsNamed}
 use Rattle.sed_typed.specs.declared.program.Program.{Program}
 use Rattle.kit_sources.specs.declared.sources.Sources.{Sources}
 use Rattle.kit_sources.specs.Text.{IsUnit, IsOfBytes, AreOfBytes}

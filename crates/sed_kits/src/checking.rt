@@ -2,7 +2,7 @@
 ghost use Rattle.std.specs.Prelude.{◌≡◌, ◌⊎◌, ◌≤◌, length, IfOk};
 ghost use Rattle.file_steps.specs.Steps.{UnlessFree};
 ghost use Rattle.kit_sources.specs.Refusals.{name_at};
-ghost use Rattle.sed_outlined.specs.Kits.{KitsNamed};
+ghost use Rattle.sed_class_laws.specs.Kits.{KitsNamed};
 ghost use Rattle.sed_read.specs.Read.{AreRead};
 ghost use Rattle.sed_typed.specs.Typed.{Typed};
 ghost use Rattle.sed_kits.specs.Refusals.{is_want};

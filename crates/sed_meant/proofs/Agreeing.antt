@@ -16,17 +16,17 @@ use Rattle.sed_program.specs.Fields.{all_fields, own_fields, own_statics}
 use Rattle.sed_program.specs.Meaning.{names_of}
 use Rattle.sed_program.specs.Outlined.{IsOutlined}
 use Rattle.sed_program.specs.Texts.{number_among, program_texts, text_number}
-use Rattle.sed_constants.specs.Literals.{AreSpelled}
+use Rattle.sed_member_laws.specs.Literals.{AreSpelled}
 use Rattle.sed_meant.proofs.Defines.{have_defines}
 use Rattle.sed_meant.specs.Means.{HaveDefines, Means}
 use Rattle.sed_order.specs.Ordered.{IsOrdered}
-use Rattle.sed_faultless.specs.Faultless.{AreFree}
-use Rattle.sed_faultless.proofs.Flat.{filtered_in, flat_in}
+use Rattle.sed_member_laws.specs.Faultless.{AreFree}
+use Rattle.sed_member_laws.proofs.Flat.{filtered_in, flat_in}
 use Rattle.sed_meant.proofs.Called.{methods_mean}
 use Rattle.sed_meant.proofs.Standing.{members_mean}
 use Rattle.sed_order.proofs.Lists.{position_within}
-use Rattle.sed_placed.proofs.Behind.{field_from, part_there, results_agree}
-use Rattle.sed_placed.proofs.Placed.{base_agrees, below_agrees}
+use Rattle.sed_member_laws.proofs.Behind.{field_from, part_there, results_agree}
+use Rattle.sed_member_laws.proofs.Placed.{base_agrees, below_agrees}
 
 -- ---- the classes of forms
 

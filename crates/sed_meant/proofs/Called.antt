@@ -14,14 +14,14 @@ use Rattle.sed_program.specs.Methods.{MethodAt, method_number, signature, signat
 use Rattle.sed_program.specs.Outlined.{IsHead, IsOutlined, is_there}
 use Rattle.sed_program.specs.Types.{param_kind, place_of, result_kind}
 use Rattle.sed_order.specs.Ordered.{IsOrdered, number}
-use Rattle.sed_faultless.specs.Faultless.{AreFree}
-use Rattle.sed_faultless.proofs.Fit.{storable_kind}
-use Rattle.sed_faultless.proofs.Flat.{found_in}
-use Rattle.sed_faultless.proofs.Nearest.{nearest_found, owned_kit}
-use Rattle.sed_faultless.proofs.Own.{same_name}
-use Rattle.sed_placed.proofs.Declaring.{body_there, declared_at, no_body, number_there, params_there, some_and}
-use Rattle.sed_placed.proofs.Found.{find_is}
-use Rattle.sed_placed.specs.Found.{method_no}
+use Rattle.sed_member_laws.specs.Faultless.{AreFree}
+use Rattle.sed_member_laws.proofs.Fit.{storable_kind}
+use Rattle.sed_member_laws.proofs.Flat.{found_in}
+use Rattle.sed_member_laws.proofs.Nearest.{nearest_found, owned_kit}
+use Rattle.sed_member_laws.proofs.Own.{same_name}
+use Rattle.sed_member_laws.proofs.Declaring.{body_there, declared_at, no_body, number_there, params_there, some_and}
+use Rattle.sed_member_laws.proofs.Found.{find_is}
+use Rattle.sed_member_laws.specs.Found.{method_no}
 
 -- ---- a method that a name stands for
 

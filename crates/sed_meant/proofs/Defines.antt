@@ -28,12 +28,12 @@ use Rattle.sed_classes.specs.Objects.{is_inline}
 use Rattle.sed_classes.specs.Types.{is_field_type, type_of}
 use Rattle.sed_classes.specs.Values.{character_constant, constant_of, define_leads_back, define_named, define_within, init_constant, kept_constant, kind_constant, literal_constant, member_count, negated, next_define, number_constant, read_constant, takes, value_constant, widened_constant}
 use Rattle.sed_program.specs.Meaning.{define_constant, define_value, plain_constant}
-use Rattle.sed_constants.specs.Literals.{AreSpelled, HasSpelled, IsValueSpelled, SpellsOne}
-use Rattle.sed_faultless.specs.Faultless.{AreFree, Keeps}
-use Rattle.sed_constants.proofs.Chains.{Ends, IsDefine, define_valued, ends, next, next_is}
-use Rattle.sed_constants.proofs.Constants.{IsGood, IsGoodValue, constant_good, read_good}
-use Rattle.sed_faultless.proofs.Fit.{field_type, words_apart}
-use Rattle.sed_faultless.proofs.Own.{member_kept, or_left, or_right}
+use Rattle.sed_member_laws.specs.Literals.{AreSpelled, HasSpelled, IsValueSpelled, SpellsOne}
+use Rattle.sed_member_laws.specs.Faultless.{AreFree, Keeps}
+use Rattle.sed_member_laws.proofs.Chains.{Ends, IsDefine, define_valued, ends, next, next_is}
+use Rattle.sed_member_laws.proofs.Constants.{IsGood, IsGoodValue, constant_good, read_good}
+use Rattle.sed_member_laws.proofs.Fit.{field_type, words_apart}
+use Rattle.sed_member_laws.proofs.Own.{member_kept, or_left, or_right}
 use Rattle.sed_meant.specs.Means.{HaveDefines}
 
 -- ---- the type of a define is a primitive

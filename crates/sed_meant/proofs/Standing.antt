@@ -24,14 +24,14 @@ use Rattle.sed_program.specs.Meaning.{define_constant, member_of}
 use Rattle.sed_program.specs.Outlined.{IsOutlined}
 use Rattle.sed_program.specs.Types.{form_of, form_of_type, number_of, place_of}
 use Rattle.sed_order.specs.Ordered.{IsOrdered}
-use Rattle.sed_faultless.specs.Faultless.{AreFree, Keeps}
-use Rattle.sed_faultless.proofs.Fit.{field_type, form_is}
-use Rattle.sed_faultless.proofs.Flat.{found_filtered, found_in, some_is}
-use Rattle.sed_faultless.proofs.Nearest.{nearest_found, owned_kit}
-use Rattle.sed_faultless.proofs.Own.{member_kept, same_name}
-use Rattle.sed_faultless.proofs.Words.{static_no_property}
-use Rattle.sed_placed.proofs.Declaring.{some_and}
-use Rattle.sed_placed.proofs.FieldsAt.{field_at, instance_no_method, member_form, static_at, static_no_method, there_in}
+use Rattle.sed_member_laws.specs.Faultless.{AreFree, Keeps}
+use Rattle.sed_member_laws.proofs.Fit.{field_type, form_is}
+use Rattle.sed_member_laws.proofs.Flat.{found_filtered, found_in, some_is}
+use Rattle.sed_member_laws.proofs.Nearest.{nearest_found, owned_kit}
+use Rattle.sed_member_laws.proofs.Own.{member_kept, same_name}
+use Rattle.sed_member_laws.proofs.Words.{static_no_property}
+use Rattle.sed_member_laws.proofs.Declaring.{some_and}
+use Rattle.sed_member_laws.proofs.FieldsAt.{field_at, instance_no_method, member_form, static_at, static_no_method, there_in}
 use Rattle.sed_meant.specs.Means.{HaveDefines}
 
 -- ---- a static is no Buf

@@ -1,8 +1,8 @@
 //! What holds of names. Each is the contract of a function that does nothing.
 ghost use Rattle.std.specs.Prelude.{◌≡◌, ◌<◌, Some, IfSome, IsSomeAnd, length, slice_get, List, ℕ};
 ghost use Rattle.sed_classes.specs.declared.kit_units.KitUnits.{KitUnits};
-ghost use Rattle.sed_constants.specs.Literals.{AreSpelled};
-ghost use Rattle.sed_faultless.specs.Faultless.{AreFree};
+ghost use Rattle.sed_member_laws.specs.Literals.{AreSpelled};
+ghost use Rattle.sed_member_laws.specs.Faultless.{AreFree};
 ghost use Rattle.sed_meant.specs.Means.{HaveDefines, Means};
 ghost use Rattle.sed_order.specs.Ordered.{IsOrdered};
 ghost use Rattle.sed_program.specs.Meaning.{names_of};

@@ -11,7 +11,7 @@ use Rattle.sed_first_fault.specs.Faults.{cycle_faults, declared_faults, spelled_
 use Rattle.sed_judged.specs.Bodies.{body_faults}
 use Rattle.sed_elaborate.specs.Checked.{faults}
 use Rattle.sed_read.specs.Read.{AreRead, IsReadClass, IsReadUnit}
-use Rattle.sed_faultless.proofs.Empty.{none_left, none_right}
+use Rattle.sed_member_laws.proofs.Empty.{none_left, none_right}
 
 -- ---- names
 

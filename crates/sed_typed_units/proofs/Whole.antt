@@ -17,29 +17,29 @@ use Rattle.sed_program.specs.Outlined.{IsOutlined}
 use Rattle.sed_program.specs.Texts.{literals_of}
 use Rattle.sed_order.specs.Ordered.{IsOrdered, number, places}
 use Rattle.sed_order.proofs.Ordered.{by_class, ordered}
-use Rattle.sed_depth.specs.Depth.{depth_of}
-use Rattle.sed_depth.proofs.Deeper.{deeper}
-use Rattle.sed_outlined.specs.Kits.{KitsNamed}
-use Rattle.sed_outlined.specs.Texts.{SpellBytes}
-use Rattle.sed_outlined.proofs.Class.{classes}
-use Rattle.sed_outlined.proofs.Kits.{has_kits}
-use Rattle.sed_outlined.proofs.Statics.{statics_most}
-use Rattle.sed_outlined.proofs.Texts.{texts_are, texts_kept}
-use Rattle.sed_actions.specs.Empty.{EmptyStays}
-use Rattle.sed_actions.specs.Heads.{HasHead, HasHeads}
-use Rattle.sed_actions.proofs.HasSlots.{has_slots}
-use Rattle.sed_actions.proofs.SysMembers.{has_sys_members}
-use Rattle.sed_faultless.specs.Faultless.{AreFree}
-use Rattle.sed_faultless.proofs.Flat.{any_counted, count_parts, found_filtered}
-use Rattle.sed_constants.specs.Literals.{AreSpelled}
-use Rattle.sed_placed.proofs.Declaring.{declared_at}
-use Rattle.sed_placed.proofs.Found.{none_declared}
-use Rattle.sed_placed.proofs.Numbers.{declared_is}
-use Rattle.sed_placed.proofs.Whole.{are_free}
-use Rattle.sed_membered.specs.TypedHeads.{IsTypedHead}
-use Rattle.sed_membered.proofs.FieldsTyped.{fields_typed, statics_apart, statics_typed}
-use Rattle.sed_membered.proofs.MembersApart.{first_named, has_members}
-use Rattle.sed_membered.proofs.MethodsTyped.{has_bodies, methods_typed}
+use Rattle.sed_class_laws.specs.Depth.{depth_of}
+use Rattle.sed_class_laws.proofs.Deeper.{deeper}
+use Rattle.sed_class_laws.specs.Kits.{KitsNamed}
+use Rattle.sed_class_laws.specs.Texts.{SpellBytes}
+use Rattle.sed_class_laws.proofs.Class.{classes}
+use Rattle.sed_class_laws.proofs.Kits.{has_kits}
+use Rattle.sed_class_laws.proofs.Statics.{statics_most}
+use Rattle.sed_class_laws.proofs.Texts.{texts_are, texts_kept}
+use Rattle.sed_class_laws.specs.Empty.{EmptyStays}
+use Rattle.sed_class_laws.specs.Heads.{HasHead, HasHeads}
+use Rattle.sed_class_laws.proofs.HasSlots.{has_slots}
+use Rattle.sed_class_laws.proofs.SysMembers.{has_sys_members}
+use Rattle.sed_member_laws.specs.Faultless.{AreFree}
+use Rattle.sed_member_laws.proofs.Flat.{any_counted, count_parts, found_filtered}
+use Rattle.sed_member_laws.specs.Literals.{AreSpelled}
+use Rattle.sed_member_laws.proofs.Declaring.{declared_at}
+use Rattle.sed_member_laws.proofs.Found.{none_declared}
+use Rattle.sed_member_laws.proofs.Numbers.{declared_is}
+use Rattle.sed_member_laws.proofs.Whole.{are_free}
+use Rattle.sed_member_laws.specs.TypedHeads.{IsTypedHead}
+use Rattle.sed_member_laws.proofs.FieldsTyped.{fields_typed, statics_apart, statics_typed}
+use Rattle.sed_member_laws.proofs.MembersApart.{first_named, has_members}
+use Rattle.sed_member_laws.proofs.MethodsTyped.{has_bodies, methods_typed}
 
 -- the methods of the program by their names
 head : (units : List KitUnits) (program : Program) → AreFree units → IsOrdered units program →

@@ -9,10 +9,10 @@ ghost use Rattle.sed_classes.specs.declared.kit_units.KitUnits.{KitUnits};
 ghost use Rattle.sed_outline.specs.Fits.{Unbroken};
 ghost use Rattle.sed_program.specs.Outlined.{IsOutlined};
 ghost use Rattle.sed_program.specs.Texts.{literals_of};
-ghost use Rattle.sed_outlined.specs.Kits.{KitsNamed};
-ghost use Rattle.sed_outlined.specs.Texts.{SpellBytes};
-ghost use Rattle.sed_actions.specs.Empty.{EmptyStays};
-ghost use Rattle.sed_constants.specs.Literals.{AreSpelled};
+ghost use Rattle.sed_class_laws.specs.Kits.{KitsNamed};
+ghost use Rattle.sed_class_laws.specs.Texts.{SpellBytes};
+ghost use Rattle.sed_class_laws.specs.Empty.{EmptyStays};
+ghost use Rattle.sed_member_laws.specs.Literals.{AreSpelled};
 
 /// The program that units spell is typed, where they break no rule on what they declare, and its bodies are typed.
 ///

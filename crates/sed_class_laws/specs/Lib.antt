@@ -1,0 +1,6 @@
+pub mod Depth
+pub mod Kits
+pub mod Texts
+pub mod Free
+pub mod Heads
+pub mod Empty

@@ -1,3 +1,0 @@
-pub mod TextBytes
-pub mod Constants
-pub mod Chains

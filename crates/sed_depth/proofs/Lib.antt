@@ -1,6 +1,0 @@
-pub mod Has
-pub mod Rules
-pub mod Inline
-pub mod Depth
-pub mod Sizes
-pub mod Deeper

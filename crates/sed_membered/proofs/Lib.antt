@@ -1,3 +1,0 @@
-pub mod MembersApart
-pub mod FieldsTyped
-pub mod MethodsTyped

@@ -1,4 +1,0 @@
-pub mod Counts
-pub mod Alike
-pub mod Overriding
-pub mod MembersTyped

@@ -1,5 +1,0 @@
-use Rattle.sed_placed.proofs.Whole.{are_free}
-use Rattle.sed_placed.proofs.laws.no_class_breaks_a_rule.Goals as goal
-
-pub returns : goal.returns
-returns c = are_free

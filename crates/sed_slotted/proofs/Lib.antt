@@ -1,4 +1,0 @@
-pub mod Known
-pub mod Entry
-pub mod Rows
-pub mod Slots
