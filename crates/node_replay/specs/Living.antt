@@ -14,7 +14,7 @@ use Rattle.dasp_session.specs.Outbox.{Datagram}
 use Rattle.printed_text.specs.Puts.{Puts}
 use Rattle.node_events.specs.Node.{Node, Setup}
 use Rattle.node_events.specs.Running.{Event, run}
-use Rattle.sed_node.specs.Living.{AreLive, offered_as}
+use Rattle.sed_node.specs.Living.{AreLive, AreRounds, offered_as}
 use Rattle.sed_node.specs.Running.{Runs}
 use Rattle.sed_node.specs.declared.node.Node.{Node as Kept}
 use Rattle.node_replay.specs.Replaying.{end_text}
@@ -27,6 +27,7 @@ pub record LivedThrough {E D O : Type 0} (g : Ghosts E) (o : Sinks O) (meaning :
     (result : Result (Unit {0}) SinkFault) : Type 0 where
   pub entries : List Entry
   pub entries_are : AreLive polls moments cycles entries
+  pub rounds_are : AreRounds cycles entries
   pub events : List Event
   pub sent : List Datagram
   pub runs : Runs g meaning fixed m s new n entries events sent before after

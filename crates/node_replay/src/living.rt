@@ -4,7 +4,7 @@ ghost use Rattle.sed_outside.specs.Cause.{HasCause};
 ghost use Rattle.disk_model.specs.Disk.{Elapses};
 ghost use Rattle.app_save.specs.Saving.{AllStores};
 ghost use Rattle.node_events.specs.Node.{Node as State};
-ghost use Rattle.sed_node.specs.Living.{Sleeps};
+ghost use Rattle.sed_node.specs.Living.{IsLeft, Sleeps};
 ghost use Rattle.sed_node.specs.Standing.{SameSetup, StandsFor, code_of, is_fixed, setup_of};
 ghost use Rattle.node_replay.specs.Living.{LivedThrough};
 
@@ -21,8 +21,9 @@ use sed_outside::{Sink, SinkFault};
 /// sent is offered to the link. Then it puts the text of the application that is reached, and the five lines of the run:
 /// its ticks, the datagrams that were handled, those that were offered, the root calls of its cycles that trapped, and
 /// the sessions that live at its end. What it makes of the node and the disk, what it offers and what it puts, are those
-/// of the run over the events of these polls and moments. All cycles are done before anything is put; where the sink
-/// fails, which is told by its count of faults, a front of the text was put.
+/// of the run over the events of these polls and moments, and the polls and moments behind them are still to come. All
+/// cycles are done before anything is put; where the sink fails, which is told by its count of faults, a front of the
+/// text was put.
 ///
 /// Of the disk, the file that is attached and the outbox the same is said as by `replay`. No memory is taken but by
 /// adds.
@@ -43,6 +44,7 @@ pub fn live<E: Engine, D: Disk, L: Link, C: Clock, O: Sink>(
         (setup_of node.old) node.new n (L.polls link.old) (C.moments clock.old) cycles (L.offered link.old)
         (L.offered link.new) out.old out.new disk.old disk.new result }
     ensures sleeps { Sleeps (C.moments clock.old) cycles period (C.asked clock.old) (C.asked clock.new) }
+    ensures left { IsLeft cycles (L.polls link.old) (L.polls link.new) (C.moments clock.old) (C.moments clock.new) }
     ensures bound { L.bound link.new ≡ L.bound link.old }
     ensures same { SameSetup E.Engine node.old node.new }
     ensures stores { IsTrue (D.meaning disk.old).tells → AllStores (setup_of node.old).slot (D.meaning disk.new) }

@@ -1,4 +1,6 @@
 pub mod Saved
+pub mod Leaving
+pub mod Rounds
 pub mod Commanded
 pub mod Given
 pub mod Small

@@ -1,5 +1,5 @@
 -- A run over a link and a clock, in its course.
-use Rattle.std.proofs.Common.{◌≡◌, ◌∙◌, ◌≤◌, ◌+◌, ℕ, ℤ, zero, suc, Bool, List, [], ◌∷◌, ◌++◌, length, take, refl, sym, ap}
+use Rattle.std.proofs.Common.{◌≡◌, ◌∙◌, ◌≤◌, ℕ, ℤ, zero, suc, Bool, List, [], ◌∷◌, ◌++◌, take, refl, sym, ap}
 use Rattle.std.proofs.Common.{subst, append_assoc, arith}
 use Rattle.std.specs.Prelude.{map, Option, Some, None, IfSome, ⊤}
 use Rattle.std.specs.Option.{option_map}
@@ -14,17 +14,18 @@ use Rattle.live_outside.specs.declared.polling.Polling.{Polling}
 use Rattle.live_outside.specs.Clock.{Moments, later_moments, next_moment}
 use Rattle.live_outside.specs.Rounds.{HearsWhereTold, LiveCycle, heard, live_cycles, most_polls, unheard, wake_moment}
 use Rattle.live_outside.specs.Rounds.{wake_moments}
-use Rattle.live_outside.specs.Told.{Adds, AddsWhereTold, Tells, Told}
+use Rattle.live_outside.specs.Told.{AddsWhereTold, Tells, Told}
 use Rattle.replay_log.specs.Entry.{Entry, datagram, tick}
 use Rattle.dasp_session.specs.Outbox.{AreTexts, Datagram}
 use Rattle.node_events.specs.LiveEvents.{entries_in, heard_as, live_events}
 use Rattle.node_events.specs.Node.{Node, Setup}
 use Rattle.node_events.specs.Running.{Event, followed_by, nothing_yet, one_event, run}
-use Rattle.sed_node.specs.Living.{AreLive, Lives, offered_as}
+use Rattle.sed_node.specs.Living.{AreLive, offered_as}
 use Rattle.sed_node.specs.Running.{IsEnd, Runs, Steps}
 use Rattle.sed_node.specs.Standing.{StandsFor}
 use Rattle.sed_node.specs.declared.node.Node.{Node as Kept}
 use Rattle.sed_node.specs.declared.running.RunEnd.{RunEnd}
+use Rattle.sed_node.proofs.Rounds.{InRounds, rounds_none}
 use Rattle.sed_node.proofs.Runs.{ends_more, nothing_runs, runs_more}
 
 -- ---- lists that are told
@@ -191,6 +192,7 @@ pub record RanLive {E D : Type 0} (g : Ghosts E) (meaning : D → DiskMeaning) (
     (offered offered_now : Option (Told Offered)) (before after : D) : Type 0 where
   pub entries : List Entry
   pub going : IsToGo polls moments cycles entries left polls_now moments_now to_do
+  pub rounds_are : InRounds cycles left to_do entries
   pub events : List Event
   pub sent : List Datagram
   pub runs : Runs g meaning fixed m s new n entries events sent before after
@@ -205,6 +207,7 @@ pub lives_none : {E D : Type 0} (g : Ghosts E) (meaning : D → DiskMeaning) (fi
 lives_none g meaning fixed m s kept n polls moments cycles ended offered disk stands ends = record {
   entries = [];
   going = goes_none polls moments cycles;
+  rounds_are = rounds_none cycles;
   events = [];
   sent = [];
   runs = nothing_runs g meaning fixed m s kept n disk stands;
@@ -238,17 +241,19 @@ pub lives_on : (follow : (m : Meaning) (s : Setup) (n : Node) (first later : Lis
     → (meaning between).faults ≤ (meaning after).faults
     → AddsWhereTold offered_now offered_then (map offered_as sent)
     → IsToGo polls moments cycles (ran.entries ++ entry ∷ []) left_now polls_then moments_then to_do_now
+    → InRounds cycles left_now to_do_now (ran.entries ++ entry ∷ [])
     → RanLive g meaning fixed m s new n polls moments cycles left_now polls_then moments_then to_do_now ended_now offered
     offered_then before after
 lives_on follow g meaning fixed m s middle new n polls moments cycles left left_now polls_now polls_then moments_now
     moments_then to_do to_do_now ended ended_now offered offered_now offered_then before between after entry sent ran
-    step more adds going =
+    step more adds going rounds =
     let event = step.handles.event in
     let texts = subst (λ (out : List Datagram). AreTexts (one_event m s (run m s n ran.events).node event).sent out)
     (sym step.handles.sends.behind) step.handles.sends.written in
     record {
       entries = ran.entries ++ entry ∷ [];
       going = going;
+      rounds_are = rounds;
       events = ran.events ++ event ∷ [];
       sent = ran.sent ++ sent;
       runs = runs_more follow m s n ran.events event g meaning fixed middle new ran.entries entry ran.sent sent before

@@ -6,7 +6,7 @@ ghost use Rattle.live_outside.specs.Told.{AddsWhereTold};
 ghost use Rattle.replay_log.specs.Entry.{datagram, tick};
 ghost use Rattle.dasp_session.specs.Outbox.{Datagram as Sent};
 ghost use Rattle.node_events.specs.Node.{Node as State};
-ghost use Rattle.sed_node.specs.Living.{Lives, Sleeps, offered_as};
+ghost use Rattle.sed_node.specs.Living.{IsLeft, Lives, Sleeps, offered_as};
 ghost use Rattle.sed_node.specs.Running.{Steps};
 ghost use Rattle.sed_node.specs.Standing.{SameSetup, StandsFor, code_of, is_fixed, setup_of};
 
@@ -26,7 +26,7 @@ impl<E: Engine> Node<E> {
     /// periods are over as cycles are done, from the moment of the first tick on. A period is in milliseconds. Each
     /// datagram that is sent is offered to the link, in their order, and is lost where the link fails. What it makes of
     /// the node and the disk, what is offered and the counts are those of the run over the events of these polls and
-    /// moments. Of the disk the same is said as by `run`.
+    /// moments, and the polls and moments behind them are still to come. Of the disk the same is said as by `run`.
     pub fn live<D: Disk, L: Link, C: Clock>(
         &mut self,
         disk: &mut D,
@@ -43,6 +43,7 @@ impl<E: Engine> Node<E> {
             self.new n (L.polls link.old) (C.moments clock.old) cycles result (L.offered link.old)
             (L.offered link.new) disk.old disk.new }
         ensures sleeps { Sleeps (C.moments clock.old) cycles period (C.asked clock.old) (C.asked clock.new) }
+        ensures left { IsLeft cycles (L.polls link.old) (L.polls link.new) (C.moments clock.old) (C.moments clock.new) }
         ensures bound { L.bound link.new ≡ L.bound link.old }
         ensures same { SameSetup E.Engine self.old self.new }
         ensures stores { IsTrue (D.meaning disk.old).tells → AllStores (setup_of self.old).slot (D.meaning disk.new) }

@@ -68,7 +68,7 @@ module _ {U V : Type 0} (L : LinkGhosts U) (C : ClockGhosts V) (port status : �
     at_most_once = λ seven. inl (same, still);
     taken = λ at. absurd (not (done_at at));
     untaken = λ ten. absurd (not (inr (inr (inl ten))));
-    silent = λ which. record { polls = ap L.polls same; offered = ap L.offered same; asked = ap C.asked still };
+    silent = λ which. record { polls = ap L.polls same; offered = ap L.offered same; asked = ap C.asked still; moments = inl (ap C.moments still) };
     unasked = λ ten. still;
   }
   quiet Done (unbound ten bind untaken rose polls offered still) = record {
@@ -78,7 +78,7 @@ module _ {U V : Type 0} (L : LinkGhosts U) (C : ClockGhosts V) (port status : �
     at_most_once = λ seven. absurd (omega (arith, seven, ten));
     taken = λ at. absurd (done_not status 10 ten (λ e. omega (arith, e)) (λ e. omega (arith, e)) at);
     untaken = λ again. untaken;
-    silent = λ which. record { polls = polls; offered = offered; asked = ap C.asked still };
+    silent = λ which. record { polls = polls; offered = offered; asked = ap C.asked still; moments = inl (ap C.moments still) };
     unasked = λ again. still;
   }
   quiet Done (unready seven bind taken silent) = record {
@@ -120,27 +120,27 @@ module _ {U V : Type 0} (L : LinkGhosts U) (C : ClockGhosts V) (port status : �
   done_live Done (unready seven bind taken silent) at = absurd (done_not status 7 seven (λ e. omega (arith, e)) (λ e. omega (arith, e)) at)
   done_live Done (all_done is bind taken so) at = so
 
-pub asks_link : {S U V : Type 0} (F : FileGhosts S) (L : LinkGhosts U) (C : ClockGhosts V) (command : Command) (x y : S) (link link_now : U) (clock clock_now : V) (disk disk_now : Meaning) (before after : Option (List ℕ)) (status : ℕ)
-    → AsksLiveOf F L C command x y link link_now clock clock_now disk disk_now before after status → AsksLink L C (port_of command) status link link_now clock clock_now
-asks_link F L C (Cycles file count) x y link link_now clock clock_now disk disk_now before after status live = live
-asks_link F L C (Check names) x y link link_now clock clock_now disk disk_now before after status live = live
-asks_link F L C (New names store slot) x y link link_now clock clock_now disk disk_now before after status live = live
-asks_link F L C (Show names store limit) x y link link_now clock clock_now disk disk_now before after status live = live
-asks_link F L C (Replay node file) x y link link_now clock clock_now disk disk_now before after status live = live
-asks_link F L C (Run r) x y link link_now clock clock_now disk disk_now before after status live = quiet L C r.port status link link_now clock clock_now _ live
-asks_link F L C (Gen g) x y link link_now clock clock_now disk disk_now before after status live = live
+pub asks_link : {S T U V : Type 0} (F : FileGhosts S) (D : DiskGhosts T) (L : LinkGhosts U) (C : ClockGhosts V) (command : Command) (x y : S) (link link_now : U) (clock clock_now : V) (disk disk_now : T) (before after : Option (List ℕ)) (status : ℕ)
+    → AsksLiveOf F D L C command x y link link_now clock clock_now disk disk_now before after status → AsksLink L C (port_of command) status link link_now clock clock_now
+asks_link F D L C (Cycles file count) x y link link_now clock clock_now disk disk_now before after status live = live
+asks_link F D L C (Check names) x y link link_now clock clock_now disk disk_now before after status live = live
+asks_link F D L C (New names store slot) x y link link_now clock clock_now disk disk_now before after status live = live
+asks_link F D L C (Show names store limit) x y link link_now clock clock_now disk disk_now before after status live = live
+asks_link F D L C (Replay node file) x y link link_now clock clock_now disk disk_now before after status live = live
+asks_link F D L C (Run r) x y link link_now clock clock_now disk disk_now before after status live = quiet L C r.port status link link_now clock clock_now _ live
+asks_link F D L C (Gen g) x y link link_now clock clock_now disk disk_now before after status live = live
 
 -- 10 only where the link failed
-pub link_fault : {S U V : Type 0} (F : FileGhosts S) (L : LinkGhosts U) (C : ClockGhosts V) (command : Command) (asks : List Ask) (x y : S) (link link_now : U) (clock clock_now : V) (disk disk_now : Meaning)
-    (before after : Option (List ℕ)) (fb fa status : ℕ) → AsksLiveOf F L C command x y link link_now clock clock_now disk disk_now before after status → IsAnswer command asks before after fb fa status → status ≡ 10
+pub link_fault : {S T U V : Type 0} (F : FileGhosts S) (D : DiskGhosts T) (L : LinkGhosts U) (C : ClockGhosts V) (command : Command) (asks : List Ask) (x y : S) (link link_now : U) (clock clock_now : V) (disk disk_now : T)
+    (before after : Option (List ℕ)) (fb fa status : ℕ) → AsksLiveOf F D L C command x y link link_now clock clock_now disk disk_now before after status → IsAnswer command asks before after fb fa status → status ≡ 10
     → Rose (L.faults link) (L.faults link_now)
-link_fault F L C (Run r) asks x y link link_now clock clock_now disk disk_now before after fb fa status live answer ten = rose_live L C r.port status link link_now clock clock_now _ live ten
-link_fault F L C (Cycles file count) asks x y link link_now clock clock_now disk disk_now before after fb fa status live answer ten = absurd (no_link (Cycles file count) asks before after fb fa status refl answer ten)
-link_fault F L C (Check names) asks x y link link_now clock clock_now disk disk_now before after fb fa status live answer ten = absurd (no_link (Check names) asks before after fb fa status refl answer ten)
-link_fault F L C (New names store slot) asks x y link link_now clock clock_now disk disk_now before after fb fa status live answer ten = absurd (no_link (New names store slot) asks before after fb fa status refl answer ten)
-link_fault F L C (Show names store limit) asks x y link link_now clock clock_now disk disk_now before after fb fa status live answer ten = absurd (no_link (Show names store limit) asks before after fb fa status refl answer ten)
-link_fault F L C (Replay node file) asks x y link link_now clock clock_now disk disk_now before after fb fa status live answer ten = absurd (no_link (Replay node file) asks before after fb fa status refl answer ten)
-link_fault F L C (Gen g) asks x y link link_now clock clock_now disk disk_now before after fb fa status live answer ten = absurd (no_link (Gen g) asks before after fb fa status refl answer ten)
+link_fault F D L C (Run r) asks x y link link_now clock clock_now disk disk_now before after fb fa status live answer ten = rose_live L C r.port status link link_now clock clock_now _ live ten
+link_fault F D L C (Cycles file count) asks x y link link_now clock clock_now disk disk_now before after fb fa status live answer ten = absurd (no_link (Cycles file count) asks before after fb fa status refl answer ten)
+link_fault F D L C (Check names) asks x y link link_now clock clock_now disk disk_now before after fb fa status live answer ten = absurd (no_link (Check names) asks before after fb fa status refl answer ten)
+link_fault F D L C (New names store slot) asks x y link link_now clock clock_now disk disk_now before after fb fa status live answer ten = absurd (no_link (New names store slot) asks before after fb fa status refl answer ten)
+link_fault F D L C (Show names store limit) asks x y link link_now clock clock_now disk disk_now before after fb fa status live answer ten = absurd (no_link (Show names store limit) asks before after fb fa status refl answer ten)
+link_fault F D L C (Replay node file) asks x y link link_now clock clock_now disk disk_now before after fb fa status live answer ten = absurd (no_link (Replay node file) asks before after fb fa status refl answer ten)
+link_fault F D L C (Gen g) asks x y link link_now clock clock_now disk disk_now before after fb fa status live answer ten = absurd (no_link (Gen g) asks before after fb fa status refl answer ten)
 
 -- ---- with status 5
 

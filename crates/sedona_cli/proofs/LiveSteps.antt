@@ -28,7 +28,7 @@ use Rattle.printed_text.specs.Puts.{Puts as PutsText}
 use Rattle.sed_engine.specs.declared.engine.Engine.{Ghosts}
 use Rattle.sed_engine.specs.Code.{Meaning as Code}
 use Rattle.sed_engine.specs.Program.{meaning_of}
-use Rattle.sed_node.specs.Living.{AreLive, Sleeps, offered_as}
+use Rattle.sed_node.specs.Living.{AreLive, IsLeft, Sleeps, offered_as}
 use Rattle.sed_node.specs.Standing.{code_of, is_fixed, setup_of}
 use Rattle.sed_node.specs.declared.node.Node.{Node as Kept}
 use Rattle.sed_typed.specs.declared.program.Program.{Program}
@@ -38,7 +38,7 @@ use Rattle.sedona_cli.specs.declared.refusal.Refusal.TheVariants.{FileFault, Ref
 use Rattle.sedona_words.specs.Command.{NodeAsked, Run, RunAsked}
 use Rattle.sedona_cli.specs.Lines.{line_of, memory_line}
 use Rattle.sedona_cli.specs.Nodes.{IsReady, IsRunFrom, Opened}
-use Rattle.sedona_cli.specs.Outside.{Ask, Binds, Opens, Runs, Found, of_reads, reached, reads_in, AreAsked, AsksDisk, HasAsks, Spares}
+use Rattle.sedona_cli.specs.Outside.{Ask, Attaches, Binds, Opens, Runs, Found, of_reads, reached, reads_in, AreAsked, AsksDisk, HasAsks, Spares}
 use Rattle.sedona_cli.specs.Program.{ComesOrWants, IsAnswer, done, unput, refused, wanted, OrWants}
 use Rattle.sedona_cli.specs.Puts.{IsOneOf, Puts}
 use Rattle.sedona_cli.specs.Refusals.{is_want, is_worded}
@@ -140,6 +140,7 @@ module _ {E T U V O : Type 0} (g : Ghosts E) (o : Sinks O) (D : DiskGhosts T) (L
       crashes = l.runs.crashes;
     };
     entries_are = l.entries_are;
+    rounds_are = l.rounds_are;
     puts = put;
     sent = l.sent;
     sends = l.runs.sends;
@@ -222,8 +223,9 @@ module _ {T U V : Type 0} (D : DiskGhosts T) (L : LinkGhosts U) (C : ClockGhosts
   pub asks_run : IsBind (L.bound link) (L.bound bound) asked.port → WasTaken (L.bound bound) true → L.polls bound ≡ L.polls link → L.offered bound ≡ L.offered link → IfSome (C.moments clock) (λ to_come. moment ≡ next_moment to_come)
       → C.moments begun ≡ option_map later_moments (C.moments clock) → C.asked begun ≡ C.asked clock → L.bound link_now ≡ L.bound bound
       → Sleeps (C.moments begun) asked.cycles asked.period (C.asked begun) (C.asked clock_now)
+      → IsLeft asked.cycles (L.polls bound) (L.polls link_now) (C.moments begun) (C.moments clock_now)
       → AsksLive L C asked.port status link link_now clock clock_now (RunsOn D L C asked code users secret a before after status link link_now clock clock_now d e)
-  asks_run bind taken polls offered now later slept kept sleeps =
+  asks_run bind taken polls offered now later slept kept sleeps left =
       all_done (ends_so r.puts) (subst (λ (b : Option Bound). IsBind (L.bound link) b asked.port) (sym kept) bind)
       (subst (λ (b : Option Bound). WasTaken b true) (sym kept) taken)
       (record {
@@ -235,12 +237,15 @@ module _ {T U V : Type 0} (D : DiskGhosts T) (L : LinkGhosts U) (C : ClockGhosts
           is_run = r.is_run;
           entries_are = subst (λ (m : Option Moments). AreLive (L.polls link) m asked.cycles r.ran.entries) later
               (subst (λ (p : Option (List Polling)). AreLive p (C.moments begun) asked.cycles r.ran.entries) polls r.entries_are);
+          rounds_are = r.rounds_are;
           shows = shows_so r.puts;
           sent = r.sent;
           sends = r.sends;
           offered_are = subst (λ (t : Option (Told Offered)). AddsWhereTold t (L.offered link_now) (map offered_as r.sent)) offered r.offered_are;
           sleeps = subst (λ (m : Option Moments). Sleeps m asked.cycles asked.period (C.asked clock) (C.asked clock_now)) later
               (subst (λ (t : Option (Told ℤ)). Sleeps (C.moments begun) asked.cycles asked.period t (C.asked clock_now)) slept sleeps);
+          left = subst (λ (m : Option Moments). IsLeft asked.cycles (L.polls link) (L.polls link_now) m (C.moments clock_now)) later
+              (subst (λ (p : Option (List Polling)). IsLeft asked.cycles p (L.polls link_now) (C.moments begun) (C.moments clock_now)) polls left);
         };
       })
 
@@ -297,13 +302,18 @@ asks_so L C port status link link_now clock clock_now P Q so (all_done at bind t
 pub runs_kept : {T U V : Type 0} → OpensOnce → (D : DiskGhosts T) → IsLawful D → (L : LinkGhosts U) (C : ClockGhosts V) (asked : RunAsked) (i : NodeInputs) (a : Application) (code : Code) (before after : Option (List ℕ)) (status : ℕ)
     (link link_now : U) (clock clock_now : V) (d m e : T) → code ≡ meaning_of i.program → AsksDisk D d m (λ asks. RunOpened asked.node i asks (Ok a))
     → RunsOn D L C asked code i.users i.secret a before after status link link_now clock clock_now m e
-    → RunsKept L C asked i before after status link link_now clock clock_now (D.meaning d) (D.meaning e)
-runs_kept once D law L C asked i a code before after status link link_now clock clock_now d m e is_code first r = record {
-  application = a;
-  ran = r.ran;
-  live = subst (λ (c : Code). RunsLive L C asked c i.users i.secret a r.ran before after status link link_now clock clock_now) is_code r.live;
-  store = leaves_store once D law asked.node.store asked.node.limit a r.ran d e held;
-}
+    → RunsKept D L C asked i before after status link link_now clock clock_now d e
+runs_kept once D law L C asked i a code before after status link link_now clock clock_now d m e is_code first r =
+    let to = opened_to asked.node.store asked.node.limit i.program first.asks a first.holds in
+    record {
+      application = a;
+      ran = r.ran;
+      live = subst (λ (c : Code). RunsLive L C asked c i.users i.secret a r.ran before after status link link_now clock clock_now) is_code r.live;
+      store = leaves_store once D law asked.node.store asked.node.limit a r.ran d e held;
+      payload = to.payload;
+      asks_are = both_asked D (Attaches asked.node.store true ∷ Opens (Found to.payload) ∷ []) (Runs r.ran ∷ []) d m e
+          (subst (λ (asks : List Ask). AreAsked D asks d m) to.asks_are first.asked) (e, r.is_ran, refl);
+    }
   where
     held : HeldRun D asked.node.store asked.node.limit a r.ran d e
     held =
@@ -386,12 +396,12 @@ live_unread F D x y d asked r refusal P is has answers =
     (subst (λ (end : Result NodeInputs Refusal). HasReads F x y (λ reads. UnlessFree is_want (RunInputsRead asked.node (of_reads reads)) end)) is has))
 
 -- with what the files gave
-pub ran_by_files : {S U V : Type 0} (F : FileGhosts S) (L : LinkGhosts U) (C : ClockGhosts V) (asked : RunAsked) (x y : S) (r : Result NodeInputs Refusal) (i : NodeInputs) → r ≡ Ok i
+pub ran_by_files : {S T U V : Type 0} (F : FileGhosts S) (D : DiskGhosts T) (L : LinkGhosts U) (C : ClockGhosts V) (asked : RunAsked) (x y : S) (r : Result NodeInputs Refusal) (i : NodeInputs) → r ≡ Ok i
     → HasReads F x y (λ reads. UnlessFree is_want (RunInputsRead asked.node (of_reads reads)) r)
-    → (link link_now : U) (clock clock_now : V) (disk disk_now : Meaning) (before after : Option (List ℕ)) (status : ℕ) → RunsKept L C asked i before after status link link_now clock clock_now disk disk_now
-    → RanBy F L C asked x y link link_now clock clock_now disk disk_now before after status
-ran_by_files F L C asked x y r i is has link link_now clock clock_now disk disk_now before after status kept =
+    → (link link_now : U) (clock clock_now : V) (disk disk_now : T) (before after : Option (List ℕ)) (status : ℕ) → RunsKept D L C asked i before after status link link_now clock clock_now disk disk_now
+    → RanBy F D L C asked x y link link_now clock clock_now disk disk_now before after status
+ran_by_files F D L C asked x y r i is has link link_now clock clock_now disk disk_now before after status kept =
     same_reads F x y (λ reads. UnlessFree is_want (RunInputsRead asked.node (of_reads reads)) (Ok i))
-    (λ reads. (inputs : NodeInputs) × RunInputsRead asked.node (of_reads reads) (Ok inputs) × RunsKept L C asked inputs before after status link link_now clock clock_now disk disk_now)
+    (λ reads. (inputs : NodeInputs) × RunInputsRead asked.node (of_reads reads) (Ok inputs) × RunsKept D L C asked inputs before after status link link_now clock clock_now disk disk_now)
     (λ reads held. (i, held, kept))
     (subst (λ (end : Result NodeInputs Refusal). HasReads F x y (λ reads. UnlessFree is_want (RunInputsRead asked.node (of_reads reads)) end)) is has)

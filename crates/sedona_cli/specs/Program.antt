@@ -142,12 +142,12 @@ AsksStore D (Some name) status disk disk_now = AttachesBy D name status disk dis
 
 -- What was asked of the link and the clock, by command: without a port nothing, and with one what `run` asks of them, and
 -- where it was done, what it leaves.
-abbrev pub AsksLiveOf : {S U V : Type 0} → FileGhosts S → LinkGhosts U → ClockGhosts V → Command → S → S → U → U → V → V
-    → Meaning → Meaning → Option (List ℕ) → Option (List ℕ) → ℕ → Type 0
-AsksLiveOf F L C (Run asked) files files_now link link_now clock clock_now disk disk_now before after status =
+abbrev pub AsksLiveOf : {S T U V : Type 0} → FileGhosts S → DiskGhosts T → LinkGhosts U → ClockGhosts V → Command → S → S
+    → U → U → V → V → T → T → Option (List ℕ) → Option (List ℕ) → ℕ → Type 0
+AsksLiveOf F D L C (Run asked) files files_now link link_now clock clock_now disk disk_now before after status =
     AsksLive L C asked.port status link link_now clock clock_now
-    (RanBy F L C asked files files_now link link_now clock clock_now disk disk_now before after status)
-AsksLiveOf F L C command files files_now link link_now clock clock_now disk disk_now before after status =
+    (RanBy F D L C asked files files_now link link_now clock clock_now disk disk_now before after status)
+AsksLiveOf F D L C command files files_now link link_now clock clock_now disk disk_now before after status =
     (link_now ≡ link) × (clock_now ≡ clock)
 
 -- ---- what must come

@@ -15,10 +15,10 @@ use Rattle.disk_model.specs.declared.disk.Disk.{Ghosts as DiskGhosts}
 use Rattle.sed_engine.specs.Code.{Meaning as Code}
 use Rattle.sed_engine.specs.Program.{meaning_of}
 use Rattle.comp_tree.specs.Application.{Application}
-use Rattle.app_file.specs.Opens.{Opens}
+use Rattle.app_file.specs.Opens.{Opens as OpensTo}
 use Rattle.dasp_users.specs.declared.user.User.{User}
 use Rattle.dasp_session.specs.Outbox.{AreTexts, Datagram}
-use Rattle.sed_node.specs.Living.{AreLive, Sleeps, offered_as}
+use Rattle.sed_node.specs.Living.{AreLive, AreRounds, IsLeft, Sleeps, offered_as}
 use Rattle.node_replay.specs.Replaying.{end_text}
 use Rattle.file_steps.specs.Steps.{AndThen, Decides}
 use Rattle.file_steps.specs.Reads.{HasReads}
@@ -28,7 +28,7 @@ use Rattle.sedona_cli.specs.declared.refusal.Refusal.TheVariants.{LinkFault}
 use Rattle.sedona_words.specs.Command.{NodeAsked, RunAsked}
 use Rattle.sedona_cli.specs.Lines.{line_of, memory_line}
 use Rattle.sedona_cli.specs.Nodes.{IsRunFrom, LeavesStore, Opened}
-use Rattle.sedona_cli.specs.Outside.{Ask, Binds, Ran, Runs, IsRan, of_reads, reached}
+use Rattle.sedona_cli.specs.Outside.{Ask, Attaches, Binds, Found, Opens, Ran, Runs, AreAsked, IsRan, of_reads, reached}
 use Rattle.sedona_cli.specs.Puts.{IsOneOf, Puts}
 use Rattle.sedona_cli.specs.Steps.{AfterKits, AfterSecret, AfterUsers}
 
@@ -101,12 +101,17 @@ pub data AnswersLive (asked : RunAsked) (inputs : NodeInputs) (a : Application) 
 
 -- ---- what is asked of the link and the clock
 
--- No datagram was polled or offered, and no sleep was asked.
+-- the moments behind the opening one
+abbrev pub behind_opening : Option Moments → Option Moments
+behind_opening moments = option_map later_moments moments
+
+-- No datagram was polled or offered, no sleep was asked, and no moment but at most the opening one.
 pub record KeepsSilent {U V : Type 0} (L : LinkGhosts U) (C : ClockGhosts V) (link link_now : U) (clock clock_now : V)
     : Type 0 where
   pub polls : L.polls link_now ≡ L.polls link
   pub offered : L.offered link_now ≡ L.offered link
   pub asked : C.asked clock_now ≡ C.asked clock
+  pub moments : (C.moments clock_now ≡ C.moments clock) ⊎ (C.moments clock_now ≡ behind_opening (C.moments clock))
 
 -- The statuses of the refusals before the link, and those behind which its port was asked for.
 abbrev pub before_link : List ℕ
@@ -158,19 +163,16 @@ pub data AsksLive {U V : Type 0} (L : LinkGhosts U) (C : ClockGhosts V) (port st
 
 -- ---- what it leaves
 
--- the moments behind the opening one
-abbrev pub behind_opening : Option Moments → Option Moments
-behind_opening moments = option_map later_moments moments
-
 -- What is shown of a run is what stands at its end: all of it with status 0, and a front of it with status 8.
 pub record ShowsEnd (ran : Ran) (before after : Option (List ℕ)) (status : ℕ) : Type 0 where
   pub front : PutsFront before after (end_text ran.code (reached ran))
   pub whole : status ≡ 0 → after ≡ with_text before (end_text ran.code (reached ran))
 
 -- What a run over a link and a clock hears, offers and shows. The node began, at the next moment of the clock, with this
--- application. The entries of its run are those of so many cycles over the polls of the link and the moments behind the
--- opening one. Each datagram that was sent was offered, in their order; behind each cycle it slept until as many periods
--- were over as cycles were done, from the moment of the first tick on.
+-- application. The entries of its run are those of so many cycles, each at most 16 datagrams and then a tick: over the
+-- polls of the link and the moments behind the opening one, where these are told, and the ones behind them are still to
+-- come. Each datagram that was sent was offered, in their order; behind each cycle it slept until as many periods were over
+-- as cycles were done, from the moment of the first tick on.
 pub record RunsLive {U V : Type 0} (L : LinkGhosts U) (C : ClockGhosts V) (asked : RunAsked) (code : Code)
     (users : List User) (secret : List ℕ) (a : Application) (ran : Ran) (before after : Option (List ℕ)) (status : ℕ)
     (link link_now : U) (clock clock_now : V) : Type 0 where
@@ -178,11 +180,13 @@ pub record RunsLive {U V : Type 0} (L : LinkGhosts U) (C : ClockGhosts V) (asked
   pub moment_is : IfSome (C.moments clock) (λ to_come. moment ≡ next_moment to_come)
   pub is_run : IsRunFrom moment asked.node.turns code users secret a ran
   pub entries_are : AreLive (L.polls link) (behind_opening (C.moments clock)) asked.cycles ran.entries
+  pub rounds_are : AreRounds asked.cycles ran.entries
   pub shows : ShowsEnd ran before after status
   pub sent : List Datagram
   pub sends : AreTexts (reached ran).sent sent
   pub offered_are : AddsWhereTold (L.offered link) (L.offered link_now) (map offered_as sent)
   pub sleeps : Sleeps (behind_opening (C.moments clock)) asked.cycles asked.period (C.asked clock) (C.asked clock_now)
+  pub left : IsLeft asked.cycles (L.polls link) (L.polls link_now) (behind_opening (C.moments clock)) (C.moments clock_now)
 
 -- So it runs from a node that is ready, with the clock as it is behind the opening moment.
 pub record RunsReady {T U V : Type 0} (D : DiskGhosts T) (L : LinkGhosts U) (C : ClockGhosts V) (moment : ℤ)
@@ -193,6 +197,7 @@ pub record RunsReady {T U V : Type 0} (D : DiskGhosts T) (L : LinkGhosts U) (C :
   pub is_run : IsRunFrom moment turns code users secret a ran
   pub is_ran : IsRan D.meaning ran disk disk_now
   pub entries_are : AreLive (L.polls link) (C.moments clock) cycles ran.entries
+  pub rounds_are : AreRounds cycles ran.entries
   pub puts : EndsPut (end_text ran.code (reached ran)) before after faults_before faults_after status
   pub sent : List Datagram
   pub sends : AreTexts (reached ran).sent sent
@@ -206,26 +211,29 @@ pub record RunsOn {T U V : Type 0} (D : DiskGhosts T) (L : LinkGhosts U) (C : Cl
   pub is_ran : IsRan D.meaning ran disk disk_now
   pub live : RunsLive L C asked code users secret a ran before after status link link_now clock clock_now
 
--- So it runs on the application that its store opens to.
-pub record RunsKept {U V : Type 0} (L : LinkGhosts U) (C : ClockGhosts V) (asked : RunAsked) (inputs : NodeInputs)
-    (before after : Option (List ℕ)) (status : ℕ) (link link_now : U) (clock clock_now : V) (disk disk_now : Meaning)
-    : Type 0 where
+-- So it runs on the application that its store opens to. Of the disk this run was asked, and nothing but the opening of its
+-- store before it.
+pub record RunsKept {T U V : Type 0} (D : DiskGhosts T) (L : LinkGhosts U) (C : ClockGhosts V) (asked : RunAsked)
+    (inputs : NodeInputs) (before after : Option (List ℕ)) (status : ℕ) (link link_now : U) (clock clock_now : V)
+    (disk disk_now : T) : Type 0 where
   pub application : Application
   pub ran : Ran
   pub live : RunsLive L C asked (meaning_of inputs.program) inputs.users inputs.secret application ran before after
       status link link_now clock clock_now
-  pub store : LeavesStore asked.node.limit application ran disk disk_now
+  pub store : LeavesStore asked.node.limit application ran (D.meaning disk) (D.meaning disk_now)
+  pub payload : List ℕ
+  pub asks_are : AreAsked D (Attaches asked.node.store true ∷ Opens (Found payload) ∷ Runs ran ∷ []) disk disk_now
 
 -- So it is with what the files gave.
-abbrev pub RanBy : {S U V : Type 0} → FileGhosts S → LinkGhosts U → ClockGhosts V → RunAsked → S → S → U → U → V → V
-    → Meaning → Meaning → Option (List ℕ) → Option (List ℕ) → ℕ → Type 0
-RanBy F L C asked files files_now link link_now clock clock_now disk disk_now before after status =
+abbrev pub RanBy : {S T U V : Type 0} → FileGhosts S → DiskGhosts T → LinkGhosts U → ClockGhosts V → RunAsked → S → S
+    → U → U → V → V → T → T → Option (List ℕ) → Option (List ℕ) → ℕ → Type 0
+RanBy F D L C asked files files_now link link_now clock clock_now disk disk_now before after status =
     HasReads F files files_now (λ reads. (inputs : NodeInputs)
     × RunInputsRead asked.node (of_reads reads) (Ok inputs)
-    × RunsKept L C asked inputs before after status link link_now clock clock_now disk disk_now)
+    × RunsKept D L C asked inputs before after status link link_now clock clock_now disk disk_now)
 
 -- The store's file opens to no application over the program of the kits.
 abbrev pub RunsNone : {S : Type 0} → FileGhosts S → NodeAsked → S → S → Meaning → Type 0
 RunsNone F asked files files_now disk =
     HasReads F files files_now (λ reads. (inputs : NodeInputs) × RunInputsRead asked (of_reads reads) (Ok inputs)
-    × ((a : Application) → Opens (meaning_of inputs.program) asked.limit disk.content a → ⊥))
+    × ((a : Application) → OpensTo (meaning_of inputs.program) asked.limit disk.content a → ⊥))

@@ -9,7 +9,7 @@ ghost use Rattle.link_prop.specs.Linked.{application_of};
 ghost use Rattle.node_events.specs.Node.{Node as State};
 ghost use Rattle.sed_engine.specs.Code.{Meaning as Code};
 ghost use Rattle.sed_engine.specs.Program.{meaning_of};
-ghost use Rattle.sed_node.specs.Living.{Sleeps};
+ghost use Rattle.sed_node.specs.Living.{IsLeft, Sleeps};
 ghost use Rattle.sed_node.specs.Standing.{StandsFor, setup_of};
 ghost use Rattle.sed_typed.specs.Typed.{Typed};
 ghost use Rattle.sedona_cli.specs.declared.inputs.NodeInputs.{NodeInputs as TheInputs};
@@ -58,6 +58,7 @@ fn run_ready<E: Engine, L: Link, C: Clock, D: Disk, O: Sink>(
         → RunsReady D.Disk L.Link C.Clock moment turns code users secret a cycles (O.text out.old) (O.text out.new)
         (O.faults out.old) (O.faults out.new) (number_of result) link.old link.new clock.old disk.old disk.new }
     ensures sleeps { Sleeps (C.moments clock.old) cycles period (C.asked clock.old) (C.asked clock.new) }
+    ensures left { IsLeft cycles (L.polls link.old) (L.polls link.new) (C.moments clock.old) (C.moments clock.new) }
     ensures bound { L.bound link.new ≡ L.bound link.old }
 {
     let (mut node, mut outbox) = ready;
@@ -134,8 +135,8 @@ fn run_from<L: Link, C: Clock, D: Disk, O: Sink>(
         (of_reads reads ++ asks) (O.text out.old) (O.text out.new) (O.faults out.old) (O.faults out.new)
         (number_of result)) }
     ensures live { AsksLive L.Link C.Clock words.entry.port (number_of result) link.old link.new clock.old clock.new
-        (RunsKept L.Link C.Clock (asked_run words.entry) inputs (O.text out.old) (O.text out.new) (number_of result)
-        link.old link.new clock.old clock.new (D.meaning disk.old) (D.meaning disk.new)) }
+        (RunsKept D.Disk L.Link C.Clock (asked_run words.entry) inputs (O.text out.old) (O.text out.new)
+        (number_of result) link.old link.new clock.old clock.new disk.old disk.new) }
 {
     stores_open_to_one();
     let NodeInputs {
@@ -166,8 +167,8 @@ pub fn lived<F: Files, L: Link, C: Clock, D: Disk, O: Sink>(
         IsAnswer (words_of.Run (asked_run words.entry)) asks (O.text out.old) (O.text out.new)
         (O.faults out.old) (O.faults out.new) (number_of result)) }
     ensures live { AsksLive L.Link C.Clock words.entry.port (number_of result) link.old link.new clock.old clock.new
-        (RanBy F.Files L.Link C.Clock (asked_run words.entry) files.old files.new link.old link.new clock.old clock.new
-        (D.meaning disk.old) (D.meaning disk.new) (O.text out.old) (O.text out.new) (number_of result)) }
+        (RanBy F.Files D.Disk L.Link C.Clock (asked_run words.entry) files.old files.new link.old link.new clock.old
+        clock.new disk.old disk.new (O.text out.old) (O.text out.new) (number_of result)) }
 {
     match node_inputs(alloc, words.node, files) {
         Ok(inputs) => run_from(alloc, words, inputs, link, clock, disk, out),

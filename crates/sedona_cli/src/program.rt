@@ -1,5 +1,5 @@
 //! The top call.
-ghost use Rattle.std.specs.Prelude.{◌≡◌, ◌≢◌, ◌⊎◌, ℕ, List, None, Err, IsOk, [], ◌∷◌, length, IsTrue, Result};
+ghost use Rattle.std.specs.Prelude.{◌≡◌, ◌≢◌, ◌⊎◌, ℕ, false, List, None, Err, IsOk, [], ◌∷◌, length, IsTrue, Result};
 ghost use Rattle.sed_outside.specs.Cause.{Rose};
 ghost use Rattle.file_steps.specs.Reads.{AreKnown};
 ghost use Rattle.sedona_cli.specs.declared.refusal.Refusal.{Refusal as TheRefusal};
@@ -12,7 +12,7 @@ ghost use Rattle.sedona_cli.specs.Replay.{HoldsNone, ReplayedBy};
 ghost use Rattle.sedona_cli.specs.Run.{AsksLink, RanBy, RunsNone};
 ghost use Rattle.sedona_cli.specs.Show.{OpensToNone, ShowsKept};
 ghost use Rattle.sedona_cli.specs.Status.{number_of};
-ghost use Rattle.sedona_cli.specs.Words.{command_asked};
+ghost use Rattle.sedona_cli.specs.Words.{command_asked, is_run};
 ghost use Rattle.sedona_cli.specs.Writing.{AsksOf, DidNotFailToWrite, KeepsFiles, KeepsWrites};
 ghost use Rattle.sedona_cli.specs.Program.{AreToldOf, AsksLiveOf, AsksStore, Comes, ComesOrWants, DidNotFail, Follows, IsAnswer, Leaves, OnCommand, PutsAtOnce, SparesDisk};
 
@@ -68,8 +68,8 @@ fn command<F: Files, L: Link, C: Clock, D: Disk, O: Sink>(
         (O.faults out.old) (O.faults out.new) (number_of result)) }
     ensures leaves { IsOneOf (0 ∷ 8 ∷ []) (number_of result) →
         Leaves F.Files D.Disk (asked_command asked.entry) files.old files.new disk.old disk.new }
-    ensures live { AsksLiveOf F.Files L.Link C.Clock (asked_command asked.entry) files.old files.new
-        link.old link.new clock.old clock.new (D.meaning disk.old) (D.meaning disk.new)
+    ensures live { AsksLiveOf F.Files D.Disk L.Link C.Clock (asked_command asked.entry) files.old files.new
+        link.old link.new clock.old clock.new disk.old disk.new
         (O.text out.old) (O.text out.new) (number_of result) }
 {
     match asked {
@@ -122,10 +122,11 @@ pub fn sedona<F: Files, L: Link, C: Clock, D: Disk, O: Sink>(
 ) -> u8
     ensures statuses { IsOneOf (0 ∷ 1 ∷ 2 ∷ 3 ∷ 4 ∷ 5 ∷ 7 ∷ 8 ∷ 9 ∷ 10 ∷ 11 ∷ 12 ∷ []) result }
 
-    // 1: exactly where the words are outside the table of words, unless memory was wanted for them, which is told as 7.
-    // Nothing is asked of the outside then, with 1 as with 7.
+    // 1: exactly where the words are outside the table of words, unless memory was wanted for those behind `run`, which is
+    // told as 7. Nothing is asked of the outside then, with 1 as with 7.
     ensures usage { result ≡ 1 → command_asked (texts words.now) ≡ None }
     ensures usage_comes { command_asked (texts words.now) ≡ None → IsOneOf (1 ∷ 7 ∷ []) result }
+    ensures usage_sure { is_run (texts words.now) ≡ false → command_asked (texts words.now) ≡ None → result ≡ 1 }
     ensures usage_line { result ≡ 1 →
         Puts (O.text out.old) (O.text out.new) (O.faults out.old) (O.faults out.new) usage_line }
     ensures usage_wanted { command_asked (texts words.now) ≡ None → result ≡ 7 →
@@ -191,8 +192,8 @@ pub fn sedona<F: Files, L: Link, C: Clock, D: Disk, O: Sink>(
     // what was offered, and it slept by its period. Of the store the same holds as of `replay`.
     ensures ran { OnCommand (texts words.now) (λ command. (asked : RunAsked) →
         command ≡ Run asked → IsOneOf (0 ∷ 8 ∷ []) result →
-        RanBy F.Files L.Link C.Clock asked files.old files.new link.old link.new clock.old clock.new
-        (D.meaning disk.old) (D.meaning disk.new) (O.text out.old) (O.text out.new) result) }
+        RanBy F.Files D.Disk L.Link C.Clock asked files.old files.new link.old link.new clock.old clock.new
+        disk.old disk.new (O.text out.old) (O.text out.new) result) }
     ensures runs_none { OnCommand (texts words.now) (λ command. (asked : RunAsked) →
         command ≡ Run asked → result ≡ 5 → IsTrue (D.meaning disk.old).tells →
         RunsNone F.Files asked.node files.old files.new (D.meaning disk.old)) }

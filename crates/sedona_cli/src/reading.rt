@@ -1,7 +1,7 @@
 //! The words of the command line, read.
-ghost use Rattle.std.specs.Prelude.{◌≡◌, IfOk, IfSome};
+ghost use Rattle.std.specs.Prelude.{◌≡◌, true, IfOk, IfSome, IsErr};
 ghost use Rattle.std.specs.Option.{option_map};
-ghost use Rattle.sedona_cli.specs.Words.{command_asked};
+ghost use Rattle.sedona_cli.specs.Words.{command_asked, is_run};
 ghost use Rattle.sedona_words.specs.Asked.{asked_command, IsMeant};
 ghost use Rattle.sedona_words.specs.Command.{texts};
 
@@ -15,6 +15,7 @@ use std::alloc::Global;
 pub fn read_command<'a>(alloc: Global, words: &'a [String]) -> Result<Option<Asked<'a>>, Memory>
     ensures command { IfOk result (λ asked. option_map asked_command asked ≡ command_asked (texts words.now)) }
     ensures meant { IfOk result (λ asked. IfSome asked IsMeant) }
+    ensures wants { IsErr result → is_run (texts words.now) ≡ true }
 {
     let Some((name, behind)) = words.split_first() else {
         return Ok(None);

@@ -7,6 +7,7 @@ returns-clause-lived g c = λ n stands.
     record {
       entries = all.entries;
       entries_are = all.entries_are;
+      rounds_are = all.rounds_are;
       events = all.events;
       sent = all.sent;
       runs = all.runs;

@@ -13,8 +13,8 @@ returns-in-Ok-clause-answered g c =
 pub returns-in-Ok-clause-live : goal.returns-in-Ok-clause-live
 returns-in-Ok-clause-live g c =
     asks_so g.L.Link g.C.Clock c.args.words.port _ c.args.link.now c.run_from.new.link c.args.clock.now c.run_from.new.clock _ _
-    (λ at kept. ran_by_files g.F.Files g.L.Link g.C.Clock (asked_run c.args.words) c.args.files.now c.node_inputs.new.files c.node_inputs.result c.in-Ok.inputs c.in-Ok.is c.node_inputs.ensures.read
-    c.args.link.now c.run_from.new.link c.args.clock.now c.run_from.new.clock (g.D.Disk.meaning c.args.disk.now) (g.D.Disk.meaning c.run_from.new.disk) _ _ _ kept)
+    (λ at kept. ran_by_files g.F.Files g.D.Disk g.L.Link g.C.Clock (asked_run c.args.words) c.args.files.now c.node_inputs.new.files c.node_inputs.result c.in-Ok.inputs c.in-Ok.is c.node_inputs.ensures.read
+    c.args.link.now c.run_from.new.link c.args.clock.now c.run_from.new.clock c.args.disk.now c.run_from.new.disk _ _ _ kept)
     c.run_from.ensures.live
 
 pub returns-in-Err-clause-answered : goal.returns-in-Err-clause-answered

@@ -85,35 +85,35 @@ returns-in-Gen-clause-leaves g c = λ at.
 
 pub returns-in-Cycles-clause-live : goal.returns-in-Cycles-clause-live
 returns-in-Cycles-clause-live g c =
-    subst (λ (asked : Asked). AsksLiveOf g.F.Files g.L.Link g.C.Clock (asked_command asked) c.args.files.now c.cycles.new.files c.args.link.now c.args.link.now c.args.clock.now c.args.clock.now (g.D.Disk.meaning c.args.disk.now) (g.D.Disk.meaning c.args.disk.now) (g.O.Sink.text c.args.out.now) (g.O.Sink.text c.answer.new.out) (number_of c.answer.result))
+    subst (λ (asked : Asked). AsksLiveOf g.F.Files g.D.Disk g.L.Link g.C.Clock (asked_command asked) c.args.files.now c.cycles.new.files c.args.link.now c.args.link.now c.args.clock.now c.args.clock.now c.args.disk.now c.args.disk.now (g.O.Sink.text c.args.out.now) (g.O.Sink.text c.answer.new.out) (number_of c.answer.result))
     (sym c.in-Cycles.is) (refl, refl)
 
 pub returns-in-Check-clause-live : goal.returns-in-Check-clause-live
 returns-in-Check-clause-live g c =
-    subst (λ (asked : Asked). AsksLiveOf g.F.Files g.L.Link g.C.Clock (asked_command asked) c.args.files.now c.check.new.files c.args.link.now c.args.link.now c.args.clock.now c.args.clock.now (g.D.Disk.meaning c.args.disk.now) (g.D.Disk.meaning c.args.disk.now) (g.O.Sink.text c.args.out.now) (g.O.Sink.text c.answer-in-Check.new.out) (number_of c.answer-in-Check.result))
+    subst (λ (asked : Asked). AsksLiveOf g.F.Files g.D.Disk g.L.Link g.C.Clock (asked_command asked) c.args.files.now c.check.new.files c.args.link.now c.args.link.now c.args.clock.now c.args.clock.now c.args.disk.now c.args.disk.now (g.O.Sink.text c.args.out.now) (g.O.Sink.text c.answer-in-Check.new.out) (number_of c.answer-in-Check.result))
     (sym c.in-Check.is) (refl, refl)
 
 pub returns-in-New-clause-live : goal.returns-in-New-clause-live
 returns-in-New-clause-live g c =
-    subst (λ (asked : Asked). AsksLiveOf g.F.Files g.L.Link g.C.Clock (asked_command asked) c.args.files.now c.made.new.files c.args.link.now c.args.link.now c.args.clock.now c.args.clock.now (g.D.Disk.meaning c.args.disk.now) (g.D.Disk.meaning c.made.new.disk) (g.O.Sink.text c.args.out.now) (g.O.Sink.text c.answer-in-New.new.out) (number_of c.answer-in-New.result))
+    subst (λ (asked : Asked). AsksLiveOf g.F.Files g.D.Disk g.L.Link g.C.Clock (asked_command asked) c.args.files.now c.made.new.files c.args.link.now c.args.link.now c.args.clock.now c.args.clock.now c.args.disk.now c.made.new.disk (g.O.Sink.text c.args.out.now) (g.O.Sink.text c.answer-in-New.new.out) (number_of c.answer-in-New.result))
     (sym c.in-New.is) (refl, refl)
 
 pub returns-in-Show-clause-live : goal.returns-in-Show-clause-live
 returns-in-Show-clause-live g c =
-    subst (λ (asked : Asked). AsksLiveOf g.F.Files g.L.Link g.C.Clock (asked_command asked) c.args.files.now c.shown.new.files c.args.link.now c.args.link.now c.args.clock.now c.args.clock.now (g.D.Disk.meaning c.args.disk.now) (g.D.Disk.meaning c.shown.new.disk) (g.O.Sink.text c.args.out.now) (g.O.Sink.text c.answer-in-Show.new.out) (number_of c.answer-in-Show.result))
+    subst (λ (asked : Asked). AsksLiveOf g.F.Files g.D.Disk g.L.Link g.C.Clock (asked_command asked) c.args.files.now c.shown.new.files c.args.link.now c.args.link.now c.args.clock.now c.args.clock.now c.args.disk.now c.shown.new.disk (g.O.Sink.text c.args.out.now) (g.O.Sink.text c.answer-in-Show.new.out) (number_of c.answer-in-Show.result))
     (sym c.in-Show.is) (refl, refl)
 
 pub returns-in-Replay-clause-live : goal.returns-in-Replay-clause-live
 returns-in-Replay-clause-live g c =
-    subst (λ (asked : Asked). AsksLiveOf g.F.Files g.L.Link g.C.Clock (asked_command asked) c.args.files.now c.replayed.new.files c.args.link.now c.args.link.now c.args.clock.now c.args.clock.now (g.D.Disk.meaning c.args.disk.now) (g.D.Disk.meaning c.replayed.new.disk) (g.O.Sink.text c.args.out.now) (g.O.Sink.text c.replayed.new.out) (number_of c.replayed.result))
+    subst (λ (asked : Asked). AsksLiveOf g.F.Files g.D.Disk g.L.Link g.C.Clock (asked_command asked) c.args.files.now c.replayed.new.files c.args.link.now c.args.link.now c.args.clock.now c.args.clock.now c.args.disk.now c.replayed.new.disk (g.O.Sink.text c.args.out.now) (g.O.Sink.text c.replayed.new.out) (number_of c.replayed.result))
     (sym c.in-Replay.is) (refl, refl)
 
 pub returns-in-Run-clause-live : goal.returns-in-Run-clause-live
 returns-in-Run-clause-live g c =
-    subst (λ (asked : Asked). AsksLiveOf g.F.Files g.L.Link g.C.Clock (asked_command asked) c.args.files.now c.lived.new.files c.args.link.now c.lived.new.link c.args.clock.now c.lived.new.clock (g.D.Disk.meaning c.args.disk.now) (g.D.Disk.meaning c.lived.new.disk) (g.O.Sink.text c.args.out.now) (g.O.Sink.text c.lived.new.out) (number_of c.lived.result))
+    subst (λ (asked : Asked). AsksLiveOf g.F.Files g.D.Disk g.L.Link g.C.Clock (asked_command asked) c.args.files.now c.lived.new.files c.args.link.now c.lived.new.link c.args.clock.now c.lived.new.clock c.args.disk.now c.lived.new.disk (g.O.Sink.text c.args.out.now) (g.O.Sink.text c.lived.new.out) (number_of c.lived.result))
     (sym c.in-Run.is) c.lived.ensures.live
 
 pub returns-in-Gen-clause-live : goal.returns-in-Gen-clause-live
 returns-in-Gen-clause-live g c =
-    subst (λ (asked : Asked). AsksLiveOf g.F.Files g.L.Link g.C.Clock (asked_command asked) c.args.files.now c.generate.new.files c.args.link.now c.args.link.now c.args.clock.now c.args.clock.now (g.D.Disk.meaning c.args.disk.now) (g.D.Disk.meaning c.args.disk.now) (g.O.Sink.text c.args.out.now) (g.O.Sink.text c.answer-in-Gen.new.out) (number_of c.answer-in-Gen.result))
+    subst (λ (asked : Asked). AsksLiveOf g.F.Files g.D.Disk g.L.Link g.C.Clock (asked_command asked) c.args.files.now c.generate.new.files c.args.link.now c.args.link.now c.args.clock.now c.args.clock.now c.args.disk.now c.args.disk.now (g.O.Sink.text c.args.out.now) (g.O.Sink.text c.answer-in-Gen.new.out) (number_of c.answer-in-Gen.result))
     (sym c.in-Gen.is) (refl, refl)

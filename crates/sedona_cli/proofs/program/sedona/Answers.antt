@@ -173,22 +173,22 @@ returns-in-Some-clause-bound g c = λ command is.
     let same : asked ≡ command = same_command asked command (read_as c.in-Ok.asked c.in-Some.asked (command_asked (texts c.args.words.now)) c.in-Some.is c.in-Ok.ensures.command ∙ is) in
     subst (λ (n : ℕ). AsksLink g.L.Link g.C.Clock (port_of command) n c.args.link.now c.command.new.link c.args.clock.now c.command.new.clock) (sym c.number.ensures)
     (subst (λ (k : Command). AsksLink g.L.Link g.C.Clock (port_of k) (number_of c.command.result) c.args.link.now c.command.new.link c.args.clock.now c.command.new.clock) same
-    (asks_link g.F.Files g.L.Link g.C.Clock asked c.args.files.now c.command.new.files c.args.link.now c.command.new.link c.args.clock.now c.command.new.clock _ _ _ _ _ c.command.ensures.live))
+    (asks_link g.F.Files g.D.Disk g.L.Link g.C.Clock asked c.args.files.now c.command.new.files c.args.link.now c.command.new.link c.args.clock.now c.command.new.clock _ _ _ _ _ c.command.ensures.live))
 
 pub returns-in-Some-clause-link_fault : goal.returns-in-Some-clause-link_fault
 returns-in-Some-clause-link_fault g c = λ ten.
     let asked = asked_command c.in-Some.asked in
     let all = all_asked g.F.Files g.D.Disk (output_of asked) c.args.files.now c.command.new.files c.args.disk.now c.command.new.disk _ c.command.ensures.answered in
-    link_fault g.F.Files g.L.Link g.C.Clock asked all.asks c.args.files.now c.command.new.files c.args.link.now c.command.new.link c.args.clock.now c.command.new.clock _ _ _ _ _ _ _ c.command.ensures.live all.holds
+    link_fault g.F.Files g.D.Disk g.L.Link g.C.Clock asked all.asks c.args.files.now c.command.new.files c.args.link.now c.command.new.link c.args.clock.now c.command.new.clock _ _ _ _ _ _ _ c.command.ensures.live all.holds
     (sym c.number.ensures ∙ ten)
 
 pub returns-in-Some-clause-ran : goal.returns-in-Some-clause-ran
 returns-in-Some-clause-ran g c = λ command is run_asked run at.
     let asked = asked_command c.in-Some.asked in
     let same : asked ≡ command = same_command asked command (read_as c.in-Ok.asked c.in-Some.asked (command_asked (texts c.args.words.now)) c.in-Some.is c.in-Ok.ensures.command ∙ is) in
-    subst (λ (n : ℕ). RanBy g.F.Files g.L.Link g.C.Clock run_asked c.args.files.now c.command.new.files c.args.link.now c.command.new.link c.args.clock.now c.command.new.clock (g.D.Disk.meaning c.args.disk.now) (g.D.Disk.meaning c.command.new.disk) (g.O.Sink.text c.args.out.now) (g.O.Sink.text c.command.new.out) n) (sym c.number.ensures)
+    subst (λ (n : ℕ). RanBy g.F.Files g.D.Disk g.L.Link g.C.Clock run_asked c.args.files.now c.command.new.files c.args.link.now c.command.new.link c.args.clock.now c.command.new.clock c.args.disk.now c.command.new.disk (g.O.Sink.text c.args.out.now) (g.O.Sink.text c.command.new.out) n) (sym c.number.ensures)
     (done_live g.L.Link g.C.Clock run_asked.port (number_of c.command.result) c.args.link.now c.command.new.link c.args.clock.now c.command.new.clock _
-    (subst (λ (k : Command). AsksLiveOf g.F.Files g.L.Link g.C.Clock k c.args.files.now c.command.new.files c.args.link.now c.command.new.link c.args.clock.now c.command.new.clock (g.D.Disk.meaning c.args.disk.now) (g.D.Disk.meaning c.command.new.disk) (g.O.Sink.text c.args.out.now) (g.O.Sink.text c.command.new.out) (number_of c.command.result)) (same ∙ run) c.command.ensures.live)
+    (subst (λ (k : Command). AsksLiveOf g.F.Files g.D.Disk g.L.Link g.C.Clock k c.args.files.now c.command.new.files c.args.link.now c.command.new.link c.args.clock.now c.command.new.clock c.args.disk.now c.command.new.disk (g.O.Sink.text c.args.out.now) (g.O.Sink.text c.command.new.out) (number_of c.command.result)) (same ∙ run) c.command.ensures.live)
     (subst (λ (n : ℕ). IsOneOf (0 ∷ 8 ∷ []) n) c.number.ensures at))
 
 pub returns-in-Some-clause-runs_none : goal.returns-in-Some-clause-runs_none

@@ -1,4 +1,4 @@
-use Rattle.std.proofs.Common.{◌≡◌, ◌≤◌, ◌<◌, ◌+◌, ℕ, suc, List, [], ◌∷◌, ◌++◌, take, refl, sym, ◌∙◌, ap, subst}
+use Rattle.std.proofs.Common.{◌≡◌, ◌+◌, ℕ, suc, List, [], ◌∷◌, ◌++◌, take, refl, sym, ◌∙◌, ap, subst}
 use Rattle.std.proofs.Common.{rules, ℤ, FitsSigned, arith, of_z, to_z, w64}
 use Rattle.std.specs.Prelude.{◌-◌, map, IfSome, Option}
 use Rattle.std.proofs.lemmas.Int.{to_z-of_z}
@@ -15,8 +15,10 @@ use Rattle.node_events.specs.Running.{run}
 use Rattle.sed_node.specs.Living.{offered_as}
 use Rattle.sed_node.specs.Standing.{code_of, is_fixed, setup_of}
 use Rattle.sed_node.proofs.Keeping.{no_time}
+use Rattle.sed_node.proofs.Leaving.{IsLeaving, leaves_all, leaves_datagram, leaves_first, leaves_tick}
 use Rattle.sed_node.proofs.Lives.{IsToGo, Slept, all_gone, goes_datagram, goes_tick, lives_first, lives_on, sleeps_on}
 use Rattle.sed_node.proofs.Lives.{slept_none}
+use Rattle.sed_node.proofs.Rounds.{InRounds, rounds_all, rounds_datagram, rounds_tick}
 use Rattle.sed_node.proofs.Runs.{elapses_both, steps_from}
 use Rattle.sed_node.proofs.node.Node.live.Goals as goal
 
@@ -29,6 +31,8 @@ events-init g c = record {
   time = no_time (g.D.Disk.meaning c.args.disk.now);
   bound = refl;
   slept = slept_none (g.C.Clock.moments c.args.clock.now) c.args.period _ (g.C.Clock.asked c.args.clock.now);
+  left = leaves_first c.args.cycles (g.L.Link.polls c.args.link.now) (g.C.Clock.moments c.args.clock.now)
+      c.new-round.result (c.args.cycles - 0) c.new-round.ensures (omega arith);
   so_far = λ n stands.
       lives_first g.E.Engine g.D.Disk.meaning (is_fixed g.E.Engine c.args.self.now) (code_of g.E.Engine c.args.self.now)
       (setup_of c.args.self.now) c.args.self.now n (g.L.Link.polls c.args.link.now)
@@ -70,6 +74,8 @@ returns-clause-lives g c = λ n stands.
           ran.entries c.events.round (g.L.Link.polls c.events.link) (g.C.Clock.moments c.events.clock)
           (subst (λ (k : ℕ). IsToGo (g.L.Link.polls c.args.link.now) (g.C.Clock.moments c.args.clock.now) c.args.cycles
           ran.entries c.events.round (g.L.Link.polls c.events.link) (g.C.Clock.moments c.events.clock) k) none ran.going);
+      rounds_are = rounds_all c.args.cycles c.events.round (c.args.cycles - c.events.done) ran.entries none
+          ran.rounds_are;
       events = ran.events;
       sent = ran.sent;
       runs = ran.runs;
@@ -89,6 +95,14 @@ returns-clause-sleeps g c =
       asked_are = subst (λ (k : ℕ). AddsWhereTold (g.C.Clock.asked c.args.clock.now) (g.C.Clock.asked c.events.clock)
           (wake_moments (to_z w64 c.events.first-bits) c.args.period k)) all slept.asked_are;
     }
+
+pub returns-clause-left : goal.returns-clause-left
+returns-clause-left g c =
+    let most = c.events.invariant.most in
+    let over = c.events-test.false in
+    leaves_all c.args.cycles (g.L.Link.polls c.args.link.now) (g.L.Link.polls c.events.link)
+    (g.C.Clock.moments c.args.clock.now) (g.C.Clock.moments c.events.clock) c.events.round
+    (c.args.cycles - c.events.done) (omega (arith, most, over)) c.events.invariant.left
 
 pub returns-clause-bound : goal.returns-clause-bound
 returns-clause-bound g c = c.events.invariant.bound
@@ -136,6 +150,16 @@ events-preserved-in-Some g c =
           (g.D.Disk.meaning c.hear.new.disk) before.time c.hear.ensures.time;
       bound = c.hear.ensures.bound ∙ c.next.ensures.bound ∙ before.bound;
       slept = before.slept;
+      left = subst (λ (d : ℕ). IsLeaving c.args.cycles polls (g.L.Link.polls c.hear.new.link) moments now
+          c.next.new.self d) (sym one_more)
+          (subst (λ (then : Option (List Polling)). IsLeaving c.args.cycles polls then moments now c.next.new.self (suc k))
+          (sym c.hear.ensures.polls)
+          (leaves_datagram c.args.cycles polls (g.L.Link.polls c.events.link) (g.L.Link.polls c.next.new.link) moments now
+          c.events.round c.next.new.self k (c.in-Some.from, c.in-Some.len) c.next.new.into
+          (subst (λ (d : ℕ). IsLeaving c.args.cycles polls (g.L.Link.polls c.events.link) moments now c.events.round d)
+          one_more before.left)
+          (subst (λ (came : Option (Addr × ℕ)). HearsWhereTold c.events.round (g.L.Link.polls c.events.link) came
+          c.next.new.into c.next.new.self (g.L.Link.polls c.next.new.link)) c.in-Some.is c.next.ensures.heard)));
       so_far = λ n stands.
           let ran = before.so_far n stands in
           lives_on c.runs_follow_one_another.ensures g.E.Engine g.D.Disk.meaning (is_fixed g.E.Engine old) m s
@@ -161,7 +185,12 @@ events-preserved-in-Some g c =
           (subst (λ (left : ℕ). IsToGo polls moments c.args.cycles ran.entries c.events.round
           (g.L.Link.polls c.events.link) now left) one_more ran.going)
           (subst (λ (came : Option (Addr × ℕ)). HearsWhereTold c.events.round (g.L.Link.polls c.events.link) came
-          c.next.new.into c.next.new.self (g.L.Link.polls c.next.new.link)) c.in-Some.is c.next.ensures.heard))));
+          c.next.new.into c.next.new.self (g.L.Link.polls c.next.new.link)) c.in-Some.is c.next.ensures.heard))))
+          (subst (λ (d : ℕ). InRounds c.args.cycles c.next.new.self d (ran.entries ++ datagram c.in-Some.from bytes ∷ []))
+          (sym one_more)
+          (rounds_datagram c.args.cycles c.events.round c.next.new.self k ran.entries c.in-Some.from bytes
+          c.in-Some.ensures.left
+          (subst (λ (d : ℕ). InRounds c.args.cycles c.events.round d ran.entries) one_more ran.rounds_are)));
     }
 
 pub events-preserved : goal.events-preserved
@@ -214,6 +243,17 @@ events-preserved g c =
           (to_z w64 c.events.first-bits) first c.now-ticks.result asked asked_now asked_then before.slept
           c.now-ticks.ensures.told (λ none. first_is ∙ c.first_of-first.ensures.now none ∙ ticks_is)
           (λ some. first_is ∙ c.first_of-first.ensures.before some) adds);
+      left = subst (λ (round : ℕ). IsLeaving c.args.cycles polls (g.L.Link.polls c.pass.new.link) moments
+          (g.C.Clock.moments c.sleep_until.new.self) round k) (sym c.new-round-in-None.ensures)
+          (subst (λ (then : Option (List Polling)). IsLeaving c.args.cycles polls then moments
+          (g.C.Clock.moments c.sleep_until.new.self) most_polls k) (sym c.pass.ensures.polls)
+          (leaves_tick c.args.cycles polls (g.L.Link.polls c.events.link) (g.L.Link.polls c.next.new.link) moments now
+          (g.C.Clock.moments c.sleep_until.new.self) c.events.round c.next.new.self k c.next.new.into
+          (subst (λ (d : ℕ). IsLeaving c.args.cycles polls (g.L.Link.polls c.events.link) moments now c.events.round d)
+          one_more before.left)
+          (subst (λ (came : Option (Addr × ℕ)). HearsWhereTold c.events.round (g.L.Link.polls c.events.link) came
+          c.next.new.into c.next.new.self (g.L.Link.polls c.next.new.link)) c.in-None.is c.next.ensures.heard)
+          (c.sleep_until.ensures.moments ∙ c.now-ticks.ensures.later)));
       so_far = λ n stands.
           let ran = before.so_far n stands in
           lives_on c.runs_follow_one_another.ensures g.E.Engine g.D.Disk.meaning (is_fixed g.E.Engine old) m s
@@ -241,5 +281,9 @@ events-preserved g c =
           (subst (λ (came : Option (Addr × ℕ)). HearsWhereTold c.events.round (g.L.Link.polls c.events.link) came
           c.next.new.into c.next.new.self (g.L.Link.polls c.next.new.link)) c.in-None.is c.next.ensures.heard)
           (subst (λ (t : ℤ). IfSome now (λ to_come. t ≡ next_moment to_come)) (sym ticks_is) c.now-ticks.ensures.told)
-          (c.sleep_until.ensures.moments ∙ c.now-ticks.ensures.later))));
+          (c.sleep_until.ensures.moments ∙ c.now-ticks.ensures.later))))
+          (subst (λ (round : ℕ). InRounds c.args.cycles round k (ran.entries ++ tick ticks ∷ []))
+          (sym c.new-round-in-None.ensures)
+          (rounds_tick c.args.cycles c.events.round k ran.entries ticks
+          (subst (λ (d : ℕ). InRounds c.args.cycles c.events.round d ran.entries) one_more ran.rounds_are)));
     }

@@ -4,6 +4,7 @@ use Rattle.disk_model.specs.Disk.{Elapses}
 use Rattle.app_save.specs.Saving.{AllStores}
 use Rattle.node_events.specs.Node.{Node}
 use Rattle.sed_node.specs.Standing.{SameSetup, StandsFor, code_of, is_fixed, setup_of}
+use Rattle.sed_node.proofs.Leaving.{IsLeaving}
 use Rattle.sed_node.proofs.Lives.{RanLive, Slept}
 use Rattle.sed_node.proofs.node.Node.live.Given as goal
 
@@ -19,6 +20,8 @@ invariant-events g l = record {
   bound : g.L.Link.bound l.link ≡ g.L.Link.bound l.fn.link;
   slept : Slept (g.C.Clock.moments l.fn.clock) (g.C.Clock.moments l.clock) l.done l.fn.period l.first
       (g.C.Clock.asked l.fn.clock) (g.C.Clock.asked l.clock);
+  left : IsLeaving l.fn.cycles (g.L.Link.polls l.fn.link) (g.L.Link.polls l.link) (g.C.Clock.moments l.fn.clock)
+      (g.C.Clock.moments l.clock) l.round (l.fn.cycles - l.done);
   so_far : (n : Node) → StandsFor g.E.Engine l.fn.self n
       → RanLive g.E.Engine g.D.Disk.meaning (is_fixed g.E.Engine l.fn.self) (code_of g.E.Engine l.fn.self)
       (setup_of l.fn.self) l.self n (g.L.Link.polls l.fn.link) (g.C.Clock.moments l.fn.clock) l.fn.cycles l.round
