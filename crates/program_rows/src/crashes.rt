@@ -1,192 +1,140 @@
-//! The table of crashes: a command that saves, and one that shows what the store holds; the number of the call of the disk
-//! with which the saves begin; the files, files as bytes, and what the store's file holds at first; and what is shown of it
-//! then, and once each save is made. What comes is a tally.
+//! Crashes within saves.
 //!
-//! The first command is done once where no call fails, and once for each call of its saves with that call failing. Of each
-//! run four images that a crash within each of these calls may leave are shown, by how the ranges that wait for a sync are
-//! filled, and so is what the file holds in the end. Allowed is what was acknowledged last before the call, and what was
-//! begun since. Images that hold the same bytes are shown once, since what is shown depends on nothing else.
-ghost use Rattle.std.specs.Prelude.{◌<◌, sum_by};
-ghost use Rattle.disk_model.specs.Replay.{calls_by};
-
-use crate::counted::Counted;
-use crate::doing::{disk_of, done, out_of_memory};
-use crate::inputs::{content_in, files_in, number_in, push_byte_files, texts_in, words_in};
-use crate::tally::Tally;
-use disk_model::{Fill, MemDisk};
-use rows::Table;
-use sed_outside::MemFiles;
-use std::alloc::Global;
-use std::io;
-
-// The bytes that all writes of a disk have room for together.
-const BYTES: usize = 4096;
+//! A command is done once where no call of the disk fails, and once for each call of its saves with that call failing.
+//! Of each run four images that a crash within each of these calls may leave are shown by another command, by how the
+//! ranges that wait for a sync are filled, and so is what the file holds in the end. Allowed is what was acknowledged
+//! last before the call, and what was begun since.
+use crate::world::{World, copied, held};
+use disk_model::Fill;
+use rows::Case;
 
 // What a range holds after a crash.
 const FILLS: [Fill; 4] = [Fill::Old, Fill::New, Fill::Byte(0), Fill::Byte(0xa5)];
 
-pub struct Crashes;
+// What ends the line of the reply to a save, each request to which has the number 0x53: `I` with that number, and `!`
+// with it and `save device`.
+const ACKNOWLEDGED: &str = "4953";
 
-// What a row gives, and the images that were shown, each with the place of what was shown of it among the texts, if it is
-// one of them.
+const REFUSED: &str = "2153736176652064657669636500";
+
+// How many runs ended with status 0, the marks, how many saves were acknowledged and how many refused by the disk, and
+// how many images were shown, and how many of them as what is not allowed.
+#[derive(Clone, Copy, Debug, Default)]
+struct Tally {
+    runs: usize,
+    marks: usize,
+    acknowledged: usize,
+    refused: usize,
+    images: usize,
+    not_allowed: usize,
+}
+
+// What a row says, the images that were shown with the places of what was shown of them, and what is counted.
 #[derive(Drop)]
-struct Case {
-    run: Vec<String>,
-    show: Vec<String>,
+struct Saves {
+    run: String,
+    show: String,
     first: usize,
-    files: MemFiles,
+    files: String,
     content: Vec<u8>,
-    texts: Vec<Vec<u8>>,
+    texts: String,
     known: Vec<(Vec<u8>, Option<usize>)>,
+    tally: Tally,
 }
 
-impl Table for Crashes {
-    const NAME: &'static str = "crashes";
-
-    const INPUTS: usize = 7;
-
-    ghost INPUTS = { 7 };
-
-    fn outcome(&self, alloc: Global, inputs: &[Vec<u8>], out: &mut Vec<u8>) -> io::Result<()> {
-        let mut files = files_in(alloc, &inputs[3])?;
-        push_byte_files(alloc, &inputs[4], &mut files)?;
-        let mut case = Case {
-            run: words_in(alloc, &inputs[0])?,
-            show: words_in(alloc, &inputs[1])?,
-            first: number_in(&inputs[2])?,
-            files: MemFiles::new(files, Vec::new(alloc)),
-            content: content_in(alloc, &inputs[5])?,
-            texts: texts_in(alloc, &inputs[6])?,
-            known: Vec::new(alloc),
-        };
-        run_each(alloc, &mut case)?.write(out)
-    }
-}
-
-// Runs where no call fails, and then with each call of the saves failing.
-fn run_each(alloc: Global, case: &mut Case) -> io::Result<Tally> {
-    let mut tally = Tally::default();
-    let calls = run_with(alloc, case, None, &mut tally)?;
-    for call in case.first..calls {
-        run_with(alloc, case, Some(call), &mut tally)?;
-    }
-    Ok(tally)
-}
-
-// Runs with this call failing, shows what crashes leave, and gives how many calls there were.
-fn run_with(
-    alloc: Global,
-    case: &mut Case,
-    failed: Option<usize>,
-    tally: &mut Tally,
-) -> io::Result<usize> {
-    let mut disk = disk_with(alloc, case.content.as_slice(), failed)?;
-    let (status, sink) = done(alloc, case.run.as_slice(), &mut case.files, &mut disk)?;
-    tally.count_run(status, disk.marks.len(), sink.text());
-    show_images(alloc, case, &disk, failed, tally)?;
-    Ok(disk.disk.calls())
-}
-
-// A disk whose file holds these bytes, with this call failing.
-fn disk_with(alloc: Global, content: &[u8], failed: Option<usize>) -> io::Result<Counted<MemDisk>> {
-    let mut fails = Vec::new(alloc);
-    if let Some(call) = failed {
-        fails.push(call)?;
-    }
-    disk_of(alloc, Vec::from_slice(alloc, content)?, BYTES, fails)
-}
-
-// Shows what a crash within each call of the saves leaves, and what the file holds in the end.
-fn show_images(
-    alloc: Global,
-    case: &mut Case,
-    disk: &Counted<MemDisk>,
-    failed: Option<usize>,
-    tally: &mut Tally,
-) -> io::Result<()> {
-    let marks = disk.marks.as_slice();
-    for call in case.first..disk.disk.calls() {
-        let allowed = allowed_within(marks, failed, call);
-        show_fills(alloc, case, &disk.disk, call, allowed, tally)?;
-    }
-    let allowed = allowed_within(marks, failed, disk.disk.calls());
-    let shown = place_shown(alloc, case, disk.disk.content())?;
-    tally.count_image(is_allowed(shown, allowed));
-    Ok(())
-}
-
-// Shows what a crash within a call leaves.
-fn show_fills(
-    alloc: Global,
-    case: &mut Case,
-    disk: &MemDisk,
-    call: usize,
-    allowed: (usize, usize),
-    tally: &mut Tally,
-) -> io::Result<()>
-    requires { call < sum_by calls_by disk.now.history.calls }
-{
-    for fill in FILLS.as_slice() {
-        let Ok(image) = disk.left(call, *fill) else {
-            return Err(out_of_memory());
-        };
-        let shown = place_shown(alloc, case, image.as_slice())?;
-        tally.count_image(is_allowed(shown, allowed));
-    }
-    Ok(())
-}
-
-// Shows an image, and gives the place of what is shown among the texts, if it is one of them.
-fn place_shown(alloc: Global, case: &mut Case, image: &[u8]) -> io::Result<Option<usize>> {
-    if let Some((_, place)) = case.known.iter().find(|known| known.0.as_slice() == image) {
-        return Ok(*place);
-    }
-    let mut disk = disk_with(alloc, image, None)?;
-    let (status, sink) = done(alloc, case.show.as_slice(), &mut case.files, &mut disk)?;
-    let place = if status == 0 {
-        place_of(case.texts.as_slice(), sink.text())
-    } else {
-        None
+/// The table of crashes: the command that saves, the one that shows what the store holds, the number of the first call
+/// of the disk that is one of a save, the files, the store's file, and what may be shown of it: at first, and after
+/// each save.
+pub fn crashes(case: &mut Case) {
+    let mut saves = Saves {
+        run: case.text(),
+        show: case.text(),
+        first: case.number(),
+        files: case.text(),
+        content: case.bytes(),
+        texts: case.text(),
+        known: Vec::new(case.alloc()),
+        tally: Tally::default(),
     };
-    case.known.push((Vec::from_slice(alloc, image)?, place))?;
-    Ok(place)
-}
-
-fn place_of(texts: &[Vec<u8>], shown: &[u8]) -> Option<usize> {
-    texts.iter().position(|text| text.as_slice() == shown)
-}
-
-// Whether a place is from the first of these on, and below the second.
-fn is_allowed(place: Option<usize>, allowed: (usize, usize)) -> bool {
-    let (from, to) = allowed;
-    match place {
-        Some(place) => from <= place && place < to,
-        None => false,
+    let calls = saves.run_with(case, usize::MAX);
+    for call in saves.first..calls {
+        saves.run_with(case, call);
     }
+    case.show(&saves.tally);
 }
 
-// Which texts may be shown after a crash within this call: from what was acknowledged last before it up to what is saved
-// at it.
-fn allowed_within(marks: &[usize], failed: Option<usize>, call: usize) -> (usize, usize) {
-    let mut from = 0;
-    for mark in marks {
-        if *mark <= call {
-            from = ended_before(marks, failed, *mark);
+// How many saves had ended before a call: one at each mark, and one with the call that failed.
+fn ended(marks: &[usize], failed: usize, call: usize) -> usize {
+    let marked = marks.iter().filter(|mark| **mark <= call).count();
+    marked.saturating_add(usize::from(failed < call))
+}
+
+// Whether what is shown after so many saves is allowed after a crash within this call.
+fn is_allowed(marks: &[usize], failed: usize, call: usize, place: usize) -> bool {
+    let last = marks.iter().rev().find(|mark| **mark <= call);
+    let from = last.map_or(0, |mark| ended(marks, failed, *mark));
+    from <= place && place <= ended(marks, failed, call).saturating_add(1)
+}
+
+// Adds the number of lines that end so.
+fn count_lines(count: &mut usize, text: &str, end: &str) {
+    let lines = text.lines().filter(|line| line.ends_with(end)).count();
+    *count = count.saturating_add(lines);
+}
+
+impl Saves {
+    // Runs with this call of the disk failing, shows what crashes leave, and gives how many calls there were.
+    fn run_with(&mut self, case: &mut Case, failed: usize) -> usize {
+        let plan = format!(in case.alloc(); "d{failed}").unwrap_or(String::new(case.alloc()));
+        let Some(mut world) = World::new(case, &plan, &self.files, &self.content, "") else {
+            return 0;
+        };
+        let is_done = world.does(case, &self.run) == 0;
+        self.tally.runs = self.tally.runs.saturating_add(usize::from(is_done));
+        self.tally.marks = self.tally.marks.saturating_add(world.disk.marks.len());
+        count_lines(&mut self.tally.acknowledged, world.text(), ACKNOWLEDGED);
+        count_lines(&mut self.tally.refused, world.text(), REFUSED);
+        let (disk, marks) = (&world.disk.inner, world.disk.marks.as_slice());
+        for call in self.first..disk.calls() {
+            for fill in FILLS.as_slice() {
+                if let Some(image) = held(case, disk.left(call, *fill)) {
+                    self.count(case, image, marks, failed, call);
+                }
+            }
         }
+        let content = copied(case, disk.content());
+        self.count(case, content, marks, failed, disk.calls());
+        disk.calls()
     }
-    (from, ended_before(marks, failed, call).saturating_add(2))
-}
 
-// How many saves had ended before this call: one at each mark, and one with the call that failed.
-fn ended_before(marks: &[usize], failed: Option<usize>, call: usize) -> usize {
-    let mut ended: usize = match failed {
-        Some(failed) if failed < call => 1,
-        _ => 0,
-    };
-    for mark in marks {
-        if *mark <= call {
-            ended = ended.saturating_add(1);
-        }
+    // Shows an image, and gives the place of what is shown among the texts.
+    fn place_of(&self, case: &mut Case, image: &[u8]) -> Option<usize> {
+        let mut world = World::new(case, "", &self.files, image, "")?;
+        let is_done = world.does(case, &self.show) == 0;
+        let place = self.texts.split('\0').position(|text| text == world.text());
+        place.filter(|_| is_done)
     }
-    ended
+
+    // Counts an image. Images of the same bytes are shown once, since what is shown depends on nothing else.
+    fn count(
+        &mut self,
+        case: &mut Case,
+        image: Vec<u8>,
+        marks: &[usize],
+        failed: usize,
+        call: usize,
+    ) {
+        let known = self.known.iter().find(|known| known.0 == image);
+        let place = match known {
+            Some((_, place)) => *place,
+            None => {
+                let place = self.place_of(case, &image);
+                held(case, self.known.push((image, place)));
+                place
+            }
+        };
+        let is_one = place.is_some_and(|at| is_allowed(marks, failed, call, at));
+        self.tally.images = self.tally.images.saturating_add(1);
+        self.tally.not_allowed = self.tally.not_allowed.saturating_add(usize::from(!is_one));
+    }
 }

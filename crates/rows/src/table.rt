@@ -1,63 +1,55 @@
-//! Tables of rows, and what comes of them.
-ghost use Rattle.std.specs.Prelude.{◌≡◌, ℕ, length, count_by};
+//! Tables of cases, and how they are run.
+ghost use Rattle.std.specs.Prelude.{◌≡◌, count_by};
 ghost use Rattle.std.specs.Str.Lines.{lines};
 ghost use Rattle.rows.specs.Fields.{is_row};
 
+use crate::case::Case;
 use crate::row::{Row, is_row};
 use crate::written::Written;
-use std::alloc::Global;
 use std::rt::Files;
 use std::{fs, io};
 
-/// A table of cases.
-pub trait Table {
-    /// Its name: the rows of `tokens` stand in the file `tokens.rows`.
-    const NAME: &'static str;
-
-    /// How many inputs each of its rows has.
-    const INPUTS: usize;
-
-    ghost INPUTS: { ℕ };
-
-    /// Writes what comes of the inputs of a row, in one way for each outcome. An error, as want of memory, is no
-    /// outcome and ends the run.
-    fn outcome(&self, alloc: Global, inputs: &[Vec<u8>], out: &mut Vec<u8>) -> io::Result<()>
-        requires { length inputs.now ≡ INPUTS };
-}
-
-// Whether what is wanted comes of the row that is this line of the file. Where not, says so.
-fn agrees<R: Print + AllocGlobal, T: Table>(
-    rt: &R,
-    table: &T,
-    line_index: usize,
-    line: &str,
-) -> io::Result<bool> {
-    let alloc = rt.alloc();
-    let name = T::NAME;
-    let number = line_index.saturating_add(1);
-    let row = match Row::read(alloc, line.as_bytes()) {
-        Ok(row) => row,
+// Whether what is wanted has come of a case that was run. Where not, says so behind the words `at`. Nothing may be wanted
+// that is empty, so a table whose outcomes are empty differs.
+fn agrees<R: Print>(rt: &R, at: &str, line: &str, wanted: &[u8], case: Case) -> io::Result<bool> {
+    let came = match case.outcome() {
+        Ok(came) => came,
         Err(fault) => {
-            println!(rt; "{name}.rows:{number}: {fault}: {line}")?;
+            println!(rt; "{at}: {fault}: {line}")?;
             return Ok(false);
         }
     };
-    let inputs = row.inputs.as_slice();
-    if inputs.len() != T::INPUTS {
-        let count = inputs.len();
-        let right = T::INPUTS;
-        println!(rt; "{name}.rows:{number}: {count} inputs and not {right}: {line}")?;
-        return Ok(false);
-    }
-    let mut out = Vec::new(alloc);
-    table.outcome(alloc, inputs, &mut out)?;
-    if out == row.wanted {
+    if came.as_slice() == wanted && !wanted.is_empty() {
         return Ok(true);
     }
-    let wanted = Written(row.wanted.as_slice());
-    let came = Written(out.as_slice());
-    println!(rt; "{name}.rows:{number}: {line}\n    wanted {wanted}\n    came   {came}")?;
+    let wanted = Written(wanted);
+    let came = Written(came.as_slice());
+    println!(rt; "{at}: {line}\n    wanted {wanted}\n    came   {came}")?;
     Ok(false)
+}
+
+// Whether what is wanted comes of the row that a line is. Where not, or where it is none, says so behind the words `at`.
+fn holds<R: Print + AllocGlobal, F: Fn(&str, &mut Case)>(
+    rt: &R,
+    name: &str,
+    at: &str,
+    line: &str,
+    outcome: &F,
+) -> io::Result<bool>
+    requires { F.IsAlwaysCallable outcome.now }
+{
+    let alloc = rt.alloc();
+    match Row::read(alloc, line.as_bytes()) {
+        Ok(row) => {
+            let mut case = Case::new(alloc, row.inputs);
+            outcome(name, &mut case);
+            agrees(rt, at, line, row.wanted.as_slice(), case)
+        }
+        Err(fault) => {
+            println!(rt; "{at}: {fault}: {line}")?;
+            Ok(false)
+        }
+    }
 }
 
 // How many rows a text has.
@@ -76,11 +68,19 @@ fn text_of<R: Files + AllocGlobal>(rt: &R, path: &str) -> io::Result<String> {
     fs::read_to_string(rt, path.as_str())
 }
 
-/// Runs the rows of a table: prints each of which something else comes than what is wanted, and then how many rows
-/// there are, and how many of them differ. A line that is no row differs. Of a file that can't be read, it prints
-/// why.
-pub fn run<R: Files + Print + AllocGlobal, T: Table>(rt: &R, table: &T) -> io::Result<()> {
-    let name = T::NAME;
+/// Runs the rows of the table of a name, which stand in the file `NAME.rows`, by a function from the name and a case to its
+/// outcome: prints each row of which something else comes than what is wanted, and then how many rows there are, and how
+/// many of them differ. A line that is no row differs, and so does a row with an input that can't be read or is left over,
+/// and one whose outcome is empty. Of a file that can't be read, it prints why.
+///
+/// A program has one such function, which goes by the name: each function that is passed by name costs a check of its own.
+pub fn run<R: Files + Print + AllocGlobal, F: Fn(&str, &mut Case)>(
+    rt: &R,
+    name: &str,
+    outcome: F,
+) -> io::Result<()>
+    requires { F.IsAlwaysCallable outcome }
+{
     let path = format!(in rt.alloc(); "{name}.rows")?;
     let file = match text_of(rt, &path) {
         Ok(file) => file,
@@ -89,7 +89,9 @@ pub fn run<R: Files + Print + AllocGlobal, T: Table>(rt: &R, table: &T) -> io::R
     let text = file.as_str();
     let mut differ = 0u64;
     for (i, line) in text.lines().enumerate() {
-        if is_row(line.as_bytes()) && !agrees(rt, table, i, line)? {
+        let number = i.saturating_add(1);
+        let at = format!(in rt.alloc(); "{path}:{number}")?;
+        if is_row(line.as_bytes()) && !holds(rt, name, at.as_str(), line, &outcome)? {
             differ = differ.saturating_add(1);
         }
     }

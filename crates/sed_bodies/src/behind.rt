@@ -19,11 +19,17 @@ use sed_value::Memory;
 use std::alloc::Global;
 
 // `.ID` behind the name of a class.
-fn member_of_class<N: Lookup>(names: &N, class: TypeNo, id: &Ident) -> Checked
-    ensures { result ≡ members.spelled least_fault id.now (members.class_member least_fault id.now.at ((N.names names.now).member class.0 id.now.bytes)) }
+fn member_of_class<N: Lookup>(
+    alloc: Global,
+    names: &N,
+    class: TypeNo,
+    id: &Ident,
+) -> Result<Checked, Memory>
+    ensures { IfOk result (λ r. r ≡ members.spelled least_fault id.now (members.class_member least_fault id.now.at ((N.names names.now).member class.0 id.now.bytes))) }
 {
     let member = names.member(class, id.bytes.as_slice());
-    spelled(id, class_member(id.at, member))
+    let x = class_member(alloc, id.at, member)?;
+    Ok(spelled(id, x))
 }
 
 // `.ID` behind the system's name, which has no members.
@@ -47,7 +53,7 @@ pub(crate) fn behind_class<N: Lookup>(
     ensures { IfOk result (λ r. r ≡ meaning.judge_class least_fault (N.names names.now) body.now scope.now at class link.now) }
 {
     match &link.step {
-        Step::Member(id) => Ok(member_of_class(names, class, id)),
+        Step::Member(id) => member_of_class(alloc, names, class, id),
         Step::Method(id, args) => class_method(alloc, names, body, scope, at, class, id, args),
         Step::Index(_) | Step::Operand(_, _) => Ok(broken(12, at)),
     }
@@ -71,7 +77,8 @@ fn class_method<N: Lookup>(
         Some(s) => {
             let params = s.params.as_slice();
             let xs = arguments(alloc, names, body, scope, at, params, args)?;
-            Ok(spelled(id, class_call(id.at, at, count_of(args), s, xs)))
+            let x = class_call(alloc, id.at, at, count_of(args), s, xs)?;
+            Ok(spelled(id, x))
         }
         None => {
             let xs = arguments(alloc, names, body, scope, at, &[], args)?;
@@ -113,6 +120,6 @@ fn system_method<N: Lookup>(
     ensures { IfOk result (λ r. r ≡ meaning.judge_system least_fault (N.names names.now) body.now scope.now at (Part (label.Method at id.now) (row args.now) NoTree)) }
 {
     let xs = arguments(alloc, names, body, scope, at, &[], args)?;
-    let x = system_call(id.bytes.as_slice(), at, count_of(args), xs);
+    let x = system_call(alloc, id.bytes.as_slice(), at, count_of(args), xs)?;
     Ok(spelled(id, x))
 }

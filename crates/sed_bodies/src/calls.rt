@@ -81,11 +81,13 @@ pub(crate) fn super_call<N: Lookup>(
         Some(s) => {
             let params = s.params.as_slice();
             let xs = arguments(alloc, names, body, scope, at, params, args)?;
-            Ok(spelled(id, super_called(body, at, count_of(args), s, xs)))
+            let x = super_called(alloc, body, at, count_of(args), s, xs)?;
+            Ok(spelled(id, x))
         }
         None => {
             let xs = arguments(alloc, names, body, scope, at, &[], args)?;
-            Ok(spelled(id, super_missing(body, at, xs)))
+            let x = super_missing(alloc, body, at, xs)?;
+            Ok(spelled(id, x))
         }
     }
 }

@@ -104,8 +104,8 @@ pub fn expression<N: Lookup>(
     ensures { IfOk result (λ r. r ≡ meaning.judge least_fault (N.names names.now) body.now scope.now e.now) }
 {
     match &e.node {
-        Node::Literal(l) => Ok(literal(names, l)),
-        Node::This => Ok(receiver(body, e.at)),
+        Node::Literal(l) => literal(alloc, names, l),
+        Node::This => receiver(alloc, body, e.at),
         Node::Name(id) => name(alloc, names, body, scope, id),
         Node::Of(kit, id) => Ok(no_value(kit, id)),
         Node::Paren(x) => expression(alloc, names, body, scope, x),

@@ -1,5 +1,5 @@
 //! The types of kit `sys`, as a source would declare them.
-ghost use Rattle.std.specs.Prelude.{◌≡◌, [], ◌∷◌, IfOk, codes};
+ghost use Rattle.std.specs.Prelude.{◌≡◌, ◌++◌, [], ◌∷◌, IfOk, codes};
 ghost use Rattle.sed_classes.specs.SysSource as sys;
 
 use sed_units::{
@@ -12,219 +12,248 @@ use std::alloc::Global;
 pub fn sys_classes(alloc: Global) -> Result<Vec<Class>, Memory>
     ensures { IfOk result (λ v. v.items ≡ sys.sys_classes) }
 {
-    let object = object_class(alloc)?;
-    let virtual_class = virtual_class(alloc)?;
-    let component = component_class(alloc)?;
-    let app = app_class(alloc)?;
-    let folder = folder_class(alloc)?;
     let mut all = Vec::new(alloc);
-    all.push(object)?;
-    all.push(virtual_class)?;
-    all.push(component)?;
-    all.push(app)?;
-    all.push(folder)?;
+    push_object(alloc, &mut all)?;
+    push_virtual(alloc, &mut all)?;
+    push_component(alloc, &mut all)?;
+    push_app(alloc, &mut all)?;
+    push_folder(alloc, &mut all)?;
     Ok(all)
 }
 
-fn object_class(alloc: Global) -> Result<Class, Memory>
-    ensures { IfOk result (λ c. c ≡ sys.a_class (ModifierWord.Abstract ∷ []) (codes "Obj") None []) }
+fn push_object(alloc: Global, all: &mut Vec<Class>) -> Result<(), Memory>
+    ensures { IfOk result (λ _. all.new.items ≡ all.old.items
+        ++ sys.a_class (ModifierWord.Abstract ∷ []) (codes "Obj") None []
+        ∷ []) }
 {
-    let modifiers = words(alloc, ModifierWord::Abstract)?;
-    let name = named(alloc, b"Obj")?;
-    Ok(class_of(
-        modifiers,
-        name,
-        None,
-        Items::new(Vec::new(alloc)),
-        Items::new(Vec::new(alloc)),
-    ))
+    push_abstract(alloc, all, b"Obj", None, Vec::new(alloc))
 }
 
-fn virtual_class(alloc: Global) -> Result<Class, Memory>
-    ensures { IfOk result (λ c. c ≡ sys.a_class (ModifierWord.Abstract ∷ []) (codes "Virtual") (Some (codes "Obj")) []) }
+fn push_virtual(alloc: Global, all: &mut Vec<Class>) -> Result<(), Memory>
+    ensures { IfOk result (λ _. all.new.items ≡ all.old.items
+        ++ sys.a_class (ModifierWord.Abstract ∷ []) (codes "Virtual") (Some (codes "Obj")) []
+        ∷ []) }
 {
-    let modifiers = words(alloc, ModifierWord::Abstract)?;
-    let name = named(alloc, b"Virtual")?;
     let base = base_named(alloc, b"Obj")?;
-    Ok(class_of(
-        modifiers,
-        name,
-        Some(base),
-        Items::new(Vec::new(alloc)),
-        Items::new(Vec::new(alloc)),
-    ))
+    push_abstract(alloc, all, b"Virtual", base, Vec::new(alloc))
 }
 
-fn component_class(alloc: Global) -> Result<Class, Memory>
-    ensures { IfOk result (λ c. c ≡ sys.a_class (ModifierWord.Abstract ∷ []) (codes "Component") (Some (codes "Virtual")) sys.component_members) }
+fn push_component(alloc: Global, all: &mut Vec<Class>) -> Result<(), Memory>
+    ensures { IfOk result (λ _. all.new.items ≡ all.old.items
+        ++ sys.a_class (ModifierWord.Abstract ∷ []) (codes "Component") (Some (codes "Virtual")) sys.component_members
+        ∷ []) }
 {
-    let modifiers = words(alloc, ModifierWord::Abstract)?;
-    let name = named(alloc, b"Component")?;
     let base = base_named(alloc, b"Virtual")?;
     let members = component_members(alloc)?;
-    Ok(class_of(
-        modifiers,
-        name,
-        Some(base),
-        Items::new(Vec::new(alloc)),
-        Items::new(members),
-    ))
+    push_abstract(alloc, all, b"Component", base, members)
 }
 
-fn app_class(alloc: Global) -> Result<Class, Memory>
-    ensures { IfOk result (λ c. c ≡ sys.a_class [] (codes "App") (Some (codes "Component")) (sys.empty_method ModifierWord.Action (codes "save") [] ∷ [])) }
+fn push_app(alloc: Global, all: &mut Vec<Class>) -> Result<(), Memory>
+    ensures { IfOk result (λ _. all.new.items ≡ all.old.items
+        ++ sys.a_class [] (codes "App") (Some (codes "Component"))
+        (sys.empty_method ModifierWord.Action (codes "save") [] ∷ [])
+        ∷ []) }
 {
-    let name = named(alloc, b"App")?;
     let base = base_named(alloc, b"Component")?;
-    let save = empty_method(
-        alloc,
-        ModifierWord::Action,
-        b"save",
-        Items::new(Vec::new(alloc)),
-    )?;
-    let mut members = Vec::new(alloc);
-    members.push(save)?;
-    let no_words = Items::new(Vec::new(alloc));
-    Ok(class_of(
-        no_words,
-        name,
-        Some(base),
-        Items::new(Vec::new(alloc)),
-        Items::new(members),
-    ))
+    let members = app_members(alloc)?;
+    push_concrete(alloc, all, b"App", base, members)
 }
 
-fn folder_class(alloc: Global) -> Result<Class, Memory>
-    ensures { IfOk result (λ c. c ≡ sys.a_class [] (codes "Folder") (Some (codes "Component")) []) }
+fn push_folder(alloc: Global, all: &mut Vec<Class>) -> Result<(), Memory>
+    ensures { IfOk result (λ _. all.new.items ≡ all.old.items
+        ++ sys.a_class [] (codes "Folder") (Some (codes "Component")) []
+        ∷ []) }
 {
-    let name = named(alloc, b"Folder")?;
     let base = base_named(alloc, b"Component")?;
-    let no_words = Items::new(Vec::new(alloc));
-    Ok(class_of(
-        no_words,
-        name,
-        Some(base),
-        Items::new(Vec::new(alloc)),
-        Items::new(Vec::new(alloc)),
-    ))
+    push_concrete(alloc, all, b"Folder", base, Vec::new(alloc))
 }
 
-// A class of these parts, at no place.
-fn class_of(
-    modifiers: Items<Modifier>,
-    name: Ident,
+// An abstract class of these parts, at no place, behind the others.
+fn push_abstract(
+    alloc: Global,
+    all: &mut Vec<Class>,
+    name: &[u8],
     base: Option<TypeName>,
-    facets: Items<Facet>,
-    members: Items<Member>,
-) -> Class
-    ensures { result ≡ (record { at = 0; facets = facets; modifiers = modifiers; name = name; base = base; members = members }) }
+    members: Vec<Member>,
+) -> Result<(), Memory>
+    ensures { IfOk result (λ _. all.new.items ≡ all.old.items
+        ++ (record {
+          at = 0;
+          facets = [];
+          modifiers = sys.words (ModifierWord.Abstract ∷ []);
+          name = sys.named name.now;
+          base = base;
+          members = members.items;
+        }) ∷ []) }
 {
-    Class {
+    let modifiers = words(alloc, ModifierWord::Abstract)?;
+    let name = named(alloc, name)?;
+    all.push(Class {
         at: 0,
-        facets,
+        facets: Items::new(Vec::new(alloc)),
         modifiers,
         name,
         base,
-        members,
-    }
+        members: Items::new(members),
+    })?;
+    Ok(())
+}
+
+// A class of these parts without a word, at no place, behind the others.
+fn push_concrete(
+    alloc: Global,
+    all: &mut Vec<Class>,
+    name: &[u8],
+    base: Option<TypeName>,
+    members: Vec<Member>,
+) -> Result<(), Memory>
+    ensures { IfOk result (λ _. all.new.items ≡ all.old.items
+        ++ (record {
+          at = 0;
+          facets = [];
+          modifiers = [];
+          name = sys.named name.now;
+          base = base;
+          members = members.items;
+        }) ∷ []) }
+{
+    let name = named(alloc, name)?;
+    all.push(Class {
+        at: 0,
+        facets: Items::new(Vec::new(alloc)),
+        modifiers: Items::new(Vec::new(alloc)),
+        name,
+        base,
+        members: Items::new(members),
+    })?;
+    Ok(())
 }
 
 // The property of every component, what a root call runs, and the callbacks.
 fn component_members(alloc: Global) -> Result<Vec<Member>, Memory>
     ensures { IfOk result (λ v. v.items ≡ sys.component_members) }
 {
-    let meta = meta(alloc)?;
-    let execute = empty_method(
+    let mut all = Vec::new(alloc);
+    push_meta(alloc, &mut all)?;
+    push_method(
         alloc,
+        &mut all,
         ModifierWord::Virtual,
         b"execute",
-        Items::new(Vec::new(alloc)),
+        Vec::new(alloc),
     )?;
-    let start = empty_method(
+    push_method(
         alloc,
+        &mut all,
         ModifierWord::Virtual,
         b"start",
-        Items::new(Vec::new(alloc)),
+        Vec::new(alloc),
     )?;
-    let stop = empty_method(
+    push_method(
         alloc,
+        &mut all,
         ModifierWord::Virtual,
         b"stop",
-        Items::new(Vec::new(alloc)),
+        Vec::new(alloc),
     )?;
     let params = slot_params(alloc)?;
-    let changed = empty_method(alloc, ModifierWord::Virtual, b"changed", Items::new(params))?;
+    push_method(alloc, &mut all, ModifierWord::Virtual, b"changed", params)?;
+    Ok(all)
+}
+
+// The action that saves the application.
+fn app_members(alloc: Global) -> Result<Vec<Member>, Memory>
+    ensures { IfOk result (λ v. v.items ≡ sys.empty_method ModifierWord.Action (codes "save") [] ∷ []) }
+{
     let mut all = Vec::new(alloc);
-    all.push(meta)?;
-    all.push(execute)?;
-    all.push(start)?;
-    all.push(stop)?;
-    all.push(changed)?;
+    push_method(
+        alloc,
+        &mut all,
+        ModifierWord::Action,
+        b"save",
+        Vec::new(alloc),
+    )?;
     Ok(all)
 }
 
 // `@config property int meta`
-fn meta(alloc: Global) -> Result<Member, Memory>
-    ensures { IfOk result (λ m. m ≡ sys.meta) }
+fn push_meta(alloc: Global, all: &mut Vec<Member>) -> Result<(), Memory>
+    ensures { IfOk result (λ _. all.new.items ≡ all.old.items ++ sys.meta ∷ []) }
 {
-    let config = Facet {
-        at: 0,
-        name: named(alloc, b"config")?,
-        value: None,
-    };
-    let mut facets = Vec::new(alloc);
-    facets.push(config)?;
-    Ok(Member {
+    let facets = config(alloc)?;
+    let modifiers = words(alloc, ModifierWord::Property)?;
+    let name = named(alloc, b"meta")?;
+    all.push(Member {
         at: 0,
         facets: Items::new(facets),
-        modifiers: words(alloc, ModifierWord::Property)?,
+        modifiers,
         kind: of_base(Base::Primitive(Prim::Int)),
-        name: named(alloc, b"meta")?,
+        name,
         form: MemberForm::Field(None),
-    })
+    })?;
+    Ok(())
 }
 
-// `virtual void NAME(..) {}`, and the like.
-fn empty_method(
+// `@config`
+fn config(alloc: Global) -> Result<Vec<Facet>, Memory>
+    ensures { IfOk result (λ v. v.items ≡ sys.meta.facets) }
+{
+    let name = named(alloc, b"config")?;
+    let mut all = Vec::new(alloc);
+    all.push(Facet {
+        at: 0,
+        name,
+        value: None,
+    })?;
+    Ok(all)
+}
+
+// `virtual void NAME(..) {}`, and the like, behind the others.
+fn push_method(
     alloc: Global,
+    all: &mut Vec<Member>,
     word: ModifierWord,
     name: &[u8],
-    params: Items<Param>,
-) -> Result<Member, Memory>
-    ensures { IfOk result (λ m. m ≡ sys.empty_method word name.now params) }
+    params: Vec<Param>,
+) -> Result<(), Memory>
+    ensures { IfOk result (λ _. all.new.items ≡ all.old.items ++ sys.empty_method word name.now params.items ∷ []) }
 {
-    Ok(Member {
+    let modifiers = words(alloc, word)?;
+    let name = named(alloc, name)?;
+    all.push(Member {
         at: 0,
         facets: Items::new(Vec::new(alloc)),
-        modifiers: words(alloc, word)?,
+        modifiers,
         kind: of_base(Base::Void),
-        name: named(alloc, name)?,
-        form: MemberForm::Method(params, Some(Items::new(Vec::new(alloc)))),
-    })
+        name,
+        form: MemberForm::Method(Items::new(params), Some(Items::new(Vec::new(alloc)))),
+    })?;
+    Ok(())
 }
 
 // `int slot`
 fn slot_params(alloc: Global) -> Result<Vec<Param>, Memory>
     ensures { IfOk result (λ v. v.items ≡ sys.slot_param ∷ []) }
 {
-    let param = Param {
+    let name = named(alloc, b"slot")?;
+    let mut all = Vec::new(alloc);
+    all.push(Param {
         at: 0,
         kind: of_base(Base::Primitive(Prim::Int)),
-        name: named(alloc, b"slot")?,
-    };
-    let mut all = Vec::new(alloc);
-    all.push(param)?;
+        name,
+    })?;
     Ok(all)
 }
 
-fn base_named(alloc: Global, name: &[u8]) -> Result<TypeName, Memory>
-    ensures { IfOk result (λ t. t ≡ (record { at = 0; kit = None; id = sys.named name.now })) }
+fn base_named(alloc: Global, name: &[u8]) -> Result<Option<TypeName>, Memory>
+    ensures { IfOk result (λ t. t ≡ Some (record { at = 0; kit = None; id = sys.named name.now })) }
 {
-    Ok(TypeName {
+    let id = named(alloc, name)?;
+    Ok(Some(TypeName {
         at: 0,
         kit: None,
-        id: named(alloc, name)?,
-    })
+        id,
+    }))
 }
 
 fn named(alloc: Global, name: &[u8]) -> Result<Ident, Memory>

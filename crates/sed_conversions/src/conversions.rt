@@ -115,28 +115,34 @@ pub fn in_width(alloc: Global, width: Width, x: Found) -> Result<Found, Memory>
 // ---- `null`
 
 /// `null` in a place of a kind, if it goes there.
-pub fn null_in(kind: Kind) -> Option<Found>
-    ensures is { result ≡ conversions.null_in kind }
-    ensures value { IfSome result (λ r. is_value r ≡ true) }
+pub fn null_in(alloc: Global, kind: Kind) -> Result<Option<Found>, Memory>
+    ensures is { IfOk result (λ r. r ≡ conversions.null_in kind) }
+    ensures value { IfOk result (λ r. IfSome r (λ v. is_value v ≡ true)) }
 {
     match kind {
-        Kind::Bool => Some(Found::truth(2)),
-        Kind::Text | Kind::Object(_) => Some(Found::null(kind)),
-        Kind::Void | Kind::Int | Kind::Long => None,
+        Kind::Bool => {
+            let x = Found::truth(alloc, 2)?;
+            Ok(Some(x))
+        }
+        Kind::Text | Kind::Object(_) => {
+            let x = Found::null(alloc, kind)?;
+            Ok(Some(x))
+        }
+        Kind::Void | Kind::Int | Kind::Long => Ok(None),
     }
 }
 
 /// An operand beside one that comes to this.
-pub fn beside(other: Sort, x: Found) -> Found
-    ensures { result ≡ conversions.beside other (sort_of x) x }
+pub fn beside(alloc: Global, other: Sort, x: Found) -> Result<Found, Memory>
+    ensures { IfOk result (λ r. r ≡ conversions.beside other (sort_of x) x) }
 {
     match (other, x.sort()) {
-        (Sort::Of(kind), Sort::Nothing) => match null_in(kind) {
-            Some(null) => null,
-            None => x,
+        (Sort::Of(kind), Sort::Nothing) => match null_in(alloc, kind)? {
+            Some(null) => Ok(null),
+            None => Ok(x),
         },
-        (Sort::Nothing, Sort::Nothing) => Found::null(Kind::Object(TypeNo(0))),
-        _ => x,
+        (Sort::Nothing, Sort::Nothing) => Found::null(alloc, Kind::Object(TypeNo(0))),
+        _ => Ok(x),
     }
 }
 
@@ -188,7 +194,7 @@ pub fn placed<N: Lookup>(
 {
     match x.sort() {
         Sort::Of(from) => converted(alloc, names, to, from, x),
-        Sort::Nothing => Ok(null_in(to)),
+        Sort::Nothing => null_in(alloc, to),
         Sort::Array(_) => Ok(None),
         Sort::Buf => Ok(None),
         Sort::Bytes => Ok(None),

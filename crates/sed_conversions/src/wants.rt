@@ -1,5 +1,5 @@
 //! What is wanted of an operand.
-ghost use Rattle.std.specs.Prelude.{◌≡◌, true};
+ghost use Rattle.std.specs.Prelude.{◌≡◌, IfOk, true};
 ghost use Rattle.sed_terms.specs.Faults as faults;
 ghost use Rattle.sed_terms.specs.Faults.{IfSound, least_fault};
 ghost use Rattle.sed_terms.specs.Sorts.{is_value};
@@ -9,6 +9,8 @@ ghost use Rattle.sed_conversions.specs.Wants as wants;
 use crate::conversions::{Checked, beside, is_bool, is_int, is_number, is_operand};
 use sed_terms::{Fault, Found, Judged, Sort, broken, paired};
 use sed_typed::Kind;
+use sed_value::Memory;
+use std::alloc::Global;
 
 /// A number, at the place of its first byte.
 #[tactic(auto, using(crate::specs::Values::number_value))]
@@ -64,20 +66,20 @@ pub fn wants_operand(at: usize, x: Checked) -> Checked
 
 /// A bool: a condition, or an operand of `!`, `&&` and `||`.
 #[tactic(auto, using(crate::specs::Values::bool_value))]
-pub fn truth(at: usize, x: Checked) -> Checked
-    ensures is { result ≡ wants.truth least_fault at x }
-    ensures value { IfSound result (λ t. is_value t ≡ true) }
+pub fn truth(alloc: Global, at: usize, x: Checked) -> Result<Checked, Memory>
+    ensures is { IfOk result (λ r. r ≡ wants.truth least_fault at x) }
+    ensures value { IfOk result (λ r. IfSound r (λ t. is_value t ≡ true)) }
 {
     match x {
         Judged::Sound(x) => {
-            let x = beside(Sort::Of(Kind::Bool), x);
+            let x = beside(alloc, Sort::Of(Kind::Bool), x)?;
             if is_bool(x.sort()) {
-                Judged::Sound(x)
+                Ok(Judged::Sound(x))
             } else {
-                broken(13, at)
+                Ok(broken(13, at))
             }
         }
-        Judged::Unknown(f) => Judged::Unknown(f),
+        Judged::Unknown(f) => Ok(Judged::Unknown(f)),
     }
 }
 

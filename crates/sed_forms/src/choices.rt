@@ -36,7 +36,8 @@ pub fn conditional(
 ) -> Result<CheckedStmt, Memory>
     ensures { IfOk result (λ r. r ≡ rules.conditional least_fault at t x y) }
 {
-    match test_and_branches(truth(at, t), paired(x, y)) {
+    let t = truth(alloc, at, t)?;
+    match test_and_branches(t, paired(x, y)) {
         Judged::Sound(parts) => {
             let (t, both) = parts;
             let (x, y) = both;

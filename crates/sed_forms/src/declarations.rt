@@ -89,12 +89,15 @@ pub fn declared<N: Lookup>(
 // ---- the statement
 
 /// Its declaration without an initial value.
-pub fn begun_bare(local: CheckedLocal) -> CheckedStmt
-    ensures { result ≡ rules.begun_bare local }
+pub fn begun_bare(alloc: Global, local: CheckedLocal) -> Result<CheckedStmt, Memory>
+    ensures { IfOk result (λ r. r ≡ rules.begun_bare local) }
 {
     match local {
-        Judged::Sound((kind, number)) => Judged::Sound(FoundStmt::begun_bare(kind, number)),
-        Judged::Unknown(f) => Judged::Unknown(f),
+        Judged::Sound((kind, number)) => {
+            let x = FoundStmt::begun_bare(alloc, kind, number)?;
+            Ok(Judged::Sound(x))
+        }
+        Judged::Unknown(f) => Ok(Judged::Unknown(f)),
     }
 }
 

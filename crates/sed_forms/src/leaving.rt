@@ -1,11 +1,13 @@
 //! `break` and `continue`.
-ghost use Rattle.std.specs.Prelude.{◌≡◌};
+ghost use Rattle.std.specs.Prelude.{◌≡◌, IfOk};
 ghost use Rattle.sed_terms.specs.Faults.{least_fault};
 ghost use Rattle.sed_forms.specs.Leaving as rules;
 
 use crate::rows::CheckedStmt;
 use sed_stmt_terms::FoundStmt;
 use sed_terms::{Judged, broken};
+use sed_value::Memory;
+use std::alloc::Global;
 
 /// What a statement stands in: whether something is there that `break` leaves, and a loop that `continue` goes on with.
 #[derive(Clone, Copy)]
@@ -47,23 +49,25 @@ impl Around {
 }
 
 /// `break` at a place.
-pub fn broken_off(around: Around, at: usize) -> CheckedStmt
-    ensures { result ≡ rules.broken_off least_fault around at }
+pub fn broken_off(alloc: Global, around: Around, at: usize) -> Result<CheckedStmt, Memory>
+    ensures { IfOk result (λ r. r ≡ rules.broken_off least_fault around at) }
 {
     if around.breaks {
-        Judged::Sound(FoundStmt::broken_off())
+        let x = FoundStmt::broken_off(alloc)?;
+        Ok(Judged::Sound(x))
     } else {
-        broken(18, at)
+        Ok(broken(18, at))
     }
 }
 
 /// `continue` at a place.
-pub fn continued(around: Around, at: usize) -> CheckedStmt
-    ensures { result ≡ rules.continued least_fault around at }
+pub fn continued(alloc: Global, around: Around, at: usize) -> Result<CheckedStmt, Memory>
+    ensures { IfOk result (λ r. r ≡ rules.continued least_fault around at) }
 {
     if around.continues {
-        Judged::Sound(FoundStmt::continued())
+        let x = FoundStmt::continued(alloc)?;
+        Ok(Judged::Sound(x))
     } else {
-        broken(18, at)
+        Ok(broken(18, at))
     }
 }

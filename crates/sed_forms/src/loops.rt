@@ -35,7 +35,8 @@ fn body_and_test(x: CheckedStmt, t: Checked) -> Judged<(FoundStmt, Found), Optio
 pub fn repeated(alloc: Global, at: usize, t: Checked, x: CheckedStmt) -> Result<CheckedStmt, Memory>
     ensures { IfOk result (λ r. r ≡ rules.repeated least_fault at t x) }
 {
-    match test_and_body(truth(at, t), x) {
+    let t = truth(alloc, at, t)?;
+    match test_and_body(t, x) {
         Judged::Sound(both) => {
             let (t, x) = both;
             let z = FoundStmt::repeated(alloc, t, x)?;
@@ -54,7 +55,8 @@ pub fn done_while(
 ) -> Result<CheckedStmt, Memory>
     ensures { IfOk result (λ r. r ≡ rules.done_while least_fault x at t) }
 {
-    match body_and_test(x, truth(at, t)) {
+    let t = truth(alloc, at, t)?;
+    match body_and_test(x, t) {
         Judged::Sound(both) => {
             let (x, t) = both;
             let z = FoundStmt::done_while(alloc, x, t)?;
@@ -67,13 +69,13 @@ pub fn done_while(
 // ---- `for`
 
 /// A condition that is there, with its place.
-pub fn test_of(at: usize, t: Checked) -> CheckedPart
-    ensures is { result ≡ rules.test_of least_fault at t }
-    ensures value { IfSound result (λ u. IfSome u (λ v. is_value v ≡ true)) }
+pub fn test_of(alloc: Global, at: usize, t: Checked) -> Result<CheckedPart, Memory>
+    ensures is { IfOk result (λ r. r ≡ rules.test_of least_fault at t) }
+    ensures value { IfOk result (λ r. IfSound r (λ u. IfSome u (λ v. is_value v ≡ true))) }
 {
-    match truth(at, t) {
-        Judged::Sound(t) => Judged::Sound(Some(t)),
-        Judged::Unknown(f) => Judged::Unknown(f),
+    match truth(alloc, at, t)? {
+        Judged::Sound(t) => Ok(Judged::Sound(Some(t))),
+        Judged::Unknown(f) => Ok(Judged::Unknown(f)),
     }
 }
 

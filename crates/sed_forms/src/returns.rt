@@ -15,13 +15,20 @@ use sed_value::Memory;
 use std::alloc::Global;
 
 /// `return` alone, at a place, in a method of this result; none where the result is declared with a fault.
-pub fn returned_nothing(result_kind: Option<Kind>, at: usize) -> CheckedStmt
-    ensures { result ≡ rules.returned_nothing least_fault result_kind at }
+pub fn returned_nothing(
+    alloc: Global,
+    result_kind: Option<Kind>,
+    at: usize,
+) -> Result<CheckedStmt, Memory>
+    ensures { IfOk result (λ r. r ≡ rules.returned_nothing least_fault result_kind at) }
 {
     match result_kind {
-        Some(Kind::Void) => Judged::Sound(FoundStmt::returned_nothing()),
-        Some(_) => broken(19, at),
-        None => Judged::Unknown(None),
+        Some(Kind::Void) => {
+            let x = FoundStmt::returned_nothing(alloc)?;
+            Ok(Judged::Sound(x))
+        }
+        Some(_) => Ok(broken(19, at)),
+        None => Ok(Judged::Unknown(None)),
     }
 }
 

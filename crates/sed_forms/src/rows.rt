@@ -43,11 +43,14 @@ pub fn followed(xs: CheckedRow, x: CheckedStmt) -> Result<CheckedRow, Memory>
 }
 
 /// The statements of a block.
-pub fn blocked(xs: CheckedRow) -> CheckedStmt
-    ensures { result ≡ rules.blocked xs }
+pub fn blocked(alloc: Global, xs: CheckedRow) -> Result<CheckedStmt, Memory>
+    ensures { IfOk result (λ r. r ≡ rules.blocked xs) }
 {
     match xs {
-        Judged::Sound(xs) => Judged::Sound(xs.into_block()),
-        Judged::Unknown(f) => Judged::Unknown(f),
+        Judged::Sound(xs) => {
+            let x = xs.into_block(alloc)?;
+            Ok(Judged::Sound(x))
+        }
+        Judged::Unknown(f) => Ok(Judged::Unknown(f)),
     }
 }

@@ -165,13 +165,16 @@ fn super_callee(at: usize, count: usize, s: &Signature) -> CheckedCallee
 
 // ---- with its arguments
 
-fn static_call(c: Callee, args: Arguments) -> Checked
-    ensures is { result ≡ meaning.static_call least_fault c args }
-    ensures alone { IfSound result (λ t. forms.is_alone t ≡ true) }
+fn static_call(alloc: Global, c: Callee, args: Arguments) -> Result<Checked, Memory>
+    ensures is { IfOk result (λ r. r ≡ meaning.static_call least_fault c args) }
+    ensures alone { IfOk result (λ r. IfSound r (λ t. forms.is_alone t ≡ true)) }
 {
     match c.result {
-        Some(kind) => Judged::Sound(Found::call(kind, c.number, args)),
-        None => Judged::Unknown(None),
+        Some(kind) => {
+            let x = Found::call(alloc, kind, c.number, args)?;
+            Ok(Judged::Sound(x))
+        }
+        None => Ok(Judged::Unknown(None)),
     }
 }
 
@@ -188,12 +191,15 @@ fn invocation(alloc: Global, c: Callee, x: Found, args: Arguments) -> Result<Che
     }
 }
 
-fn super_invocation(c: Callee, args: Arguments) -> Checked
-    ensures { result ≡ meaning.super_invocation least_fault c args }
+fn super_invocation(alloc: Global, c: Callee, args: Arguments) -> Result<Checked, Memory>
+    ensures { IfOk result (λ r. r ≡ meaning.super_invocation least_fault c args) }
 {
     match c.result {
-        Some(kind) => Judged::Sound(Found::super_call(kind, c.number, args)),
-        None => Judged::Unknown(None),
+        Some(kind) => {
+            let x = Found::super_call(alloc, kind, c.number, args)?;
+            Ok(Judged::Sound(x))
+        }
+        None => Ok(Judged::Unknown(None)),
     }
 }
 
@@ -222,9 +228,10 @@ pub fn own_call(
         Judged::Sound(pair) => {
             let (c, args) = pair;
             if c.is_static {
-                Ok(static_call(c, args))
+                static_call(alloc, c, args)
             } else {
-                invocation(alloc, c, Found::this(body.class), args)
+                let x = Found::this(alloc, body.class)?;
+                invocation(alloc, c, x, args)
             }
         }
         Judged::Unknown(f) => Ok(Judged::Unknown(f)),
@@ -242,53 +249,62 @@ fn received(x: Checked, c: CheckedCallee) -> CheckedCallee
 
 /// `super.ID(..)`; `at` is its place.
 pub fn super_called(
+    alloc: Global,
     body: &Body,
     at: usize,
     count: usize,
     s: &Signature,
     xs: CheckedArguments,
-) -> Checked
-    ensures { result ≡ meaning.super_called least_fault body.now at count (Some s.now) xs }
+) -> Result<Checked, Memory>
+    ensures { IfOk result (λ r. r ≡ meaning.super_called least_fault body.now at count (Some s.now) xs) }
 {
-    match paired(received(receiver(body, at), super_callee(at, count, s)), xs) {
+    let this = receiver(alloc, body, at)?;
+    match paired(received(this, super_callee(at, count, s)), xs) {
         Judged::Sound(pair) => {
             let (c, args) = pair;
             if c.is_static {
-                static_call(c, args)
+                static_call(alloc, c, args)
             } else {
-                super_invocation(c, args)
+                super_invocation(alloc, c, args)
             }
         }
-        Judged::Unknown(f) => Judged::Unknown(f),
+        Judged::Unknown(f) => Ok(Judged::Unknown(f)),
     }
 }
 
 /// `super.ID(..)` of no method.
-pub fn super_missing(body: &Body, at: usize, xs: CheckedArguments) -> Checked
-    ensures { result ≡ meaning.super_called least_fault body.now at 0 None xs }
+pub fn super_missing(
+    alloc: Global,
+    body: &Body,
+    at: usize,
+    xs: CheckedArguments,
+) -> Result<Checked, Memory>
+    ensures { IfOk result (λ r. r ≡ meaning.super_called least_fault body.now at 0 None xs) }
 {
-    match paired(receiver(body, at), no_method(at, xs)) {
-        Judged::Sound((_, t)) => Judged::Sound(t),
-        Judged::Unknown(f) => Judged::Unknown(f),
+    let this = receiver(alloc, body, at)?;
+    match paired(this, no_method(at, xs)) {
+        Judged::Sound((_, t)) => Ok(Judged::Sound(t)),
+        Judged::Unknown(f) => Ok(Judged::Unknown(f)),
     }
 }
 
 /// `.ID(..)` behind the name of a class: the places of the identifier and of the call.
 pub fn class_call(
+    alloc: Global,
     id_at: usize,
     at: usize,
     count: usize,
     s: &Signature,
     xs: CheckedArguments,
-) -> Checked
-    ensures { result ≡ meaning.class_call least_fault id_at at count (Some s.now) xs }
+) -> Result<Checked, Memory>
+    ensures { IfOk result (λ r. r ≡ meaning.class_call least_fault id_at at count (Some s.now) xs) }
 {
     match paired(own_callee(false, id_at, at, count, s), xs) {
         Judged::Sound(pair) => {
             let (c, args) = pair;
-            static_call(c, args)
+            static_call(alloc, c, args)
         }
-        Judged::Unknown(f) => Judged::Unknown(f),
+        Judged::Unknown(f) => Ok(Judged::Unknown(f)),
     }
 }
 
@@ -307,7 +323,8 @@ fn object_call(
         Judged::Sound(pair) => {
             let (c, args) = pair;
             if c.is_static {
-                through(alloc, x, static_call(c, args))
+                let member = static_call(alloc, c, args)?;
+                through(alloc, x, member)
             } else {
                 invocation(alloc, c, x, args)
             }
@@ -464,15 +481,24 @@ pub fn called<N: Lookup>(
 // ---- of the system
 
 /// A call of the system's.
-pub fn system_call(name: &[u8], at: usize, count: usize, xs: CheckedArguments) -> Checked
-    ensures { result ≡ meaning.system_call least_fault name.now at count xs }
+pub fn system_call(
+    alloc: Global,
+    name: &[u8],
+    at: usize,
+    count: usize,
+    xs: CheckedArguments,
+) -> Result<Checked, Memory>
+    ensures { IfOk result (λ r. r ≡ meaning.system_call least_fault name.now at count xs) }
 {
     if name == b"ticks".as_slice() && count == 0 {
         match xs {
-            Judged::Sound(_) => Judged::Sound(Found::ticks()),
-            Judged::Unknown(f) => Judged::Unknown(f),
+            Judged::Sound(_) => {
+                let x = Found::ticks(alloc)?;
+                Ok(Judged::Sound(x))
+            }
+            Judged::Unknown(f) => Ok(Judged::Unknown(f)),
         }
     } else {
-        no_method(at, xs)
+        Ok(no_method(at, xs))
     }
 }

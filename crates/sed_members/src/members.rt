@@ -15,12 +15,15 @@ use sed_units::{Expr, Ident, Node};
 use sed_value::{LONGEST_NAME, Memory};
 use std::alloc::Global;
 
-fn local_found(local: Local) -> Checked
-    ensures { result ≡ meaning.local_of least_fault local }
+fn local_found(alloc: Global, local: Local) -> Result<Checked, Memory>
+    ensures { IfOk result (λ r. r ≡ meaning.local_of least_fault local) }
 {
     match local.kind {
-        Some(kind) => Judged::Sound(Found::local(kind, local.number)),
-        None => Judged::Unknown(None),
+        Some(kind) => {
+            let x = Found::local(alloc, kind, local.number)?;
+            Ok(Judged::Sound(x))
+        }
+        None => Ok(Judged::Unknown(None)),
     }
 }
 
@@ -56,44 +59,61 @@ fn field_found(
 }
 
 // A static member stands behind nothing.
-fn static_found(form: Option<FieldForm>, number: u16) -> Checked
-    ensures is { result ≡ meaning.static_of least_fault form number }
-    ensures alone { IfSound result (λ t. forms.is_alone t ≡ true) }
+fn static_found(alloc: Global, form: Option<FieldForm>, number: u16) -> Result<Checked, Memory>
+    ensures is { IfOk result (λ r. r ≡ meaning.static_of least_fault form number) }
+    ensures alone { IfOk result (λ r. IfSound r (λ t. forms.is_alone t ≡ true)) }
 {
     match form {
-        Some(FieldForm::Prim(prim)) => Judged::Sound(Found::static_field(prim, number)),
-        Some(FieldForm::Str(_)) => Judged::Sound(Found::static_part(Kind::Text, number)),
-        Some(FieldForm::Array(prim, count)) => Judged::Sound(Found::static_array(
-            prim, count, number,
-        )),
-        Some(FieldForm::Object(class)) => Judged::Sound(Found::static_part(
-            Kind::Object(class),
-            number,
-        )),
-        Some(FieldForm::Buf(_)) | None => Judged::Unknown(None),
+        Some(FieldForm::Prim(prim)) => {
+            let x = Found::static_field(alloc, prim, number)?;
+            Ok(Judged::Sound(x))
+        }
+        Some(FieldForm::Str(_)) => {
+            let x = Found::static_part(alloc, Kind::Text, number)?;
+            Ok(Judged::Sound(x))
+        }
+        Some(FieldForm::Array(prim, count)) => {
+            let x = Found::static_array(alloc, prim, count, number)?;
+            Ok(Judged::Sound(x))
+        }
+        Some(FieldForm::Object(class)) => {
+            let x = Found::static_part(alloc, Kind::Object(class), number)?;
+            Ok(Judged::Sound(x))
+        }
+        Some(FieldForm::Buf(_)) | None => Ok(Judged::Unknown(None)),
     }
 }
 
-fn define_found(constant: Option<Constant>) -> Checked
-    ensures is { result ≡ meaning.define_of least_fault constant }
-    ensures alone { IfSound result (λ t. forms.is_alone t ≡ true) }
+fn define_found(alloc: Global, constant: Option<Constant>) -> Result<Checked, Memory>
+    ensures is { IfOk result (λ r. r ≡ meaning.define_of least_fault constant) }
+    ensures alone { IfOk result (λ r. IfSound r (λ t. forms.is_alone t ≡ true)) }
 {
     match constant {
-        Some(Constant::Bool(truth)) => Judged::Sound(Found::truth(truth)),
-        Some(Constant::Int(n)) => Judged::Sound(Found::int(n)),
-        Some(Constant::Long(n)) => Judged::Sound(Found::long(n)),
-        None => Judged::Unknown(None),
+        Some(Constant::Bool(truth)) => {
+            let x = Found::truth(alloc, truth)?;
+            Ok(Judged::Sound(x))
+        }
+        Some(Constant::Int(n)) => {
+            let x = Found::int(alloc, n)?;
+            Ok(Judged::Sound(x))
+        }
+        Some(Constant::Long(n)) => {
+            let x = Found::long(alloc, n)?;
+            Ok(Judged::Sound(x))
+        }
+        None => Ok(Judged::Unknown(None)),
     }
 }
 
 /// `this`; `at` is its place.
-pub fn receiver(body: &Body, at: usize) -> Checked
-    ensures { result ≡ meaning.receiver least_fault body.now at }
+pub fn receiver(alloc: Global, body: &Body, at: usize) -> Result<Checked, Memory>
+    ensures { IfOk result (λ r. r ≡ meaning.receiver least_fault body.now at) }
 {
     if body.is_static {
-        broken(17, at)
+        Ok(broken(17, at))
     } else {
-        Judged::Sound(Found::this(body.class))
+        let x = Found::this(alloc, body.class)?;
+        Ok(Judged::Sound(x))
     }
 }
 
@@ -110,24 +130,25 @@ fn own_member(
             if body.is_static {
                 Ok(broken(17, at))
             } else {
-                field_found(alloc, form, number, Found::this(body.class))
+                let x = Found::this(alloc, body.class)?;
+                field_found(alloc, form, number, x)
             }
         }
-        Some(Member::Static(form, number)) => Ok(static_found(form, number)),
-        Some(Member::Define(constant)) => Ok(define_found(constant)),
+        Some(Member::Static(form, number)) => static_found(alloc, form, number),
+        Some(Member::Define(constant)) => define_found(alloc, constant),
         Some(Member::Method) | None => Ok(broken(12, at)),
     }
 }
 
 /// A member behind the name of a class; `at` is the place of the member's name.
-pub fn class_member(at: usize, member: Option<Member>) -> Checked
-    ensures { result ≡ meaning.class_member least_fault at member }
+pub fn class_member(alloc: Global, at: usize, member: Option<Member>) -> Result<Checked, Memory>
+    ensures { IfOk result (λ r. r ≡ meaning.class_member least_fault at member) }
 {
     match member {
-        Some(Member::Field(_, _)) => broken(17, at),
-        Some(Member::Static(form, number)) => static_found(form, number),
-        Some(Member::Define(constant)) => define_found(constant),
-        Some(Member::Method) | None => broken(12, at),
+        Some(Member::Field(_, _)) => Ok(broken(17, at)),
+        Some(Member::Static(form, number)) => static_found(alloc, form, number),
+        Some(Member::Define(constant)) => define_found(alloc, constant),
+        Some(Member::Method) | None => Ok(broken(12, at)),
     }
 }
 
@@ -157,8 +178,14 @@ fn object_member(
 {
     match member {
         Some(Member::Field(form, number)) => field_found(alloc, form, number, x),
-        Some(Member::Static(form, number)) => through(alloc, x, static_found(form, number)),
-        Some(Member::Define(constant)) => through(alloc, x, define_found(constant)),
+        Some(Member::Static(form, number)) => {
+            let member = static_found(alloc, form, number)?;
+            through(alloc, x, member)
+        }
+        Some(Member::Define(constant)) => {
+            let member = define_found(alloc, constant)?;
+            through(alloc, x, member)
+        }
         Some(Member::Method) => Ok(broken(12, at)),
         None => Ok(broken(12, at)),
     }
@@ -173,7 +200,7 @@ fn buf_member(alloc: Global, id: &Ident, x: Found) -> Result<Checked, Memory>
         let x = Found::size(alloc, x)?;
         Ok(Judged::Sound(x))
     } else if name == b"bytes".as_slice() {
-        let x = Found::bytes(x)?;
+        let x = Found::bytes(alloc, x)?;
         Ok(Judged::Sound(x))
     } else {
         Ok(broken(12, id.at))
@@ -227,7 +254,7 @@ pub fn named<N: Lookup>(
     ensures { IfOk result (λ r. r ≡ meaning.named least_fault (N.names names.now) body.now scope.now id.now) }
 {
     match scope.local(id.bytes.as_slice()) {
-        Some(local) => Ok(local_found(local)),
+        Some(local) => local_found(alloc, local),
         None => {
             let member = names.member(body.class, id.bytes.as_slice());
             own_member(alloc, body, id.at, member)

@@ -51,8 +51,8 @@ fn branched(
     match paired(wants_operand(left, x), wants_operand(right, y)) {
         Judged::Sound((x, y)) => {
             let first = x.sort();
-            let x = beside(y.sort(), x);
-            let y = beside(first, y);
+            let x = beside(alloc, y.sort(), x)?;
+            let y = beside(alloc, first, y)?;
             equal_branches(alloc, right, x, y)
         }
         Judged::Unknown(f) => Ok(Judged::Unknown(f)),
@@ -84,7 +84,8 @@ pub fn chosen(
     ensures { IfOk result (λ r. r ≡ choices.chosen least_fault at left right t x y) }
 {
     let both = branched(alloc, left, right, x, y)?;
-    match test_and_branches(truth(at, t), both) {
+    let t = truth(alloc, at, t)?;
+    match test_and_branches(t, both) {
         Judged::Sound(parts) => {
             let (t, both) = parts;
             let (x, y) = both;

@@ -24,7 +24,7 @@ use std::alloc::Global;
 pub fn negated(alloc: Global, at: usize, x: Checked) -> Result<Checked, Memory>
     ensures { IfOk result (λ r. r ≡ operands.negated least_fault at x) }
 {
-    match truth(at, x) {
+    match truth(alloc, at, x)? {
         Judged::Sound(x) => {
             let x = Found::unary(alloc, Unary::Not, x)?;
             Ok(Judged::Sound(x))
@@ -259,8 +259,8 @@ fn equality(
     match paired(x, y) {
         Judged::Sound((x, y)) => {
             let left = x.sort();
-            let x = beside(y.sort(), x);
-            let y = beside(left, y);
+            let x = beside(alloc, y.sort(), x)?;
+            let y = beside(alloc, left, y)?;
             equated_pair(alloc, op, truths, references, at, x, y)
         }
         Judged::Unknown(f) => Ok(Judged::Unknown(f)),
@@ -270,7 +270,9 @@ fn equality(
 fn both(alloc: Global, at: usize, right: usize, x: Checked, y: Checked) -> Result<Checked, Memory>
     ensures { IfOk result (λ r. r ≡ operands.operated least_fault operands.Both at right x y) }
 {
-    match both_values(truth(at, x), truth(right, y)) {
+    let x = truth(alloc, at, x)?;
+    let y = truth(alloc, right, y)?;
+    match both_values(x, y) {
         Judged::Sound(pair) => {
             let (x, y) = pair;
             let z = Found::and(alloc, x, y)?;
@@ -283,7 +285,9 @@ fn both(alloc: Global, at: usize, right: usize, x: Checked, y: Checked) -> Resul
 fn either(alloc: Global, at: usize, right: usize, x: Checked, y: Checked) -> Result<Checked, Memory>
     ensures { IfOk result (λ r. r ≡ operands.operated least_fault operands.Either at right x y) }
 {
-    match both_values(truth(at, x), truth(right, y)) {
+    let x = truth(alloc, at, x)?;
+    let y = truth(alloc, right, y)?;
+    match both_values(x, y) {
         Judged::Sound(pair) => {
             let (x, y) = pair;
             let z = Found::or(alloc, x, y)?;

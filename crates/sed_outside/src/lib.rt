@@ -26,6 +26,3 @@ pub use mem_sink::MemSink;
 pub use out_sink::OutSink;
 pub use real_files::RealFiles;
 pub use sink::{Sink, SinkFault};
-
-#[cfg(test)]
-mod tests;

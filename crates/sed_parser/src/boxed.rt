@@ -1,12 +1,12 @@
 // An item of a tree in a place of its own, which contracts see as the item.
-ghost use Rattle.std.specs.Prelude.{◌≡◌};
+ghost use Rattle.std.specs.Prelude.{◌≡◌, IfOk, [], ◌∷◌, ◌++◌};
 ghost use Rattle.sed_parser.specs.Halts.{Makes};
 
 use crate::halt::Halt;
-use std::alloc::Global;
+use std::alloc::{AllocError, Global};
 use std::marker::Model;
 
-/// An item in a place of its own.
+/// An item in a place of its own. What is made of trees is passed on in one, since an item by value is dear to check.
 #[derive(Drop)]
 pub struct Boxed<T: Drop> {
     item: Box<T>,
@@ -32,4 +32,28 @@ impl<T: Drop> Boxed<T> {
     {
         self.item
     }
+
+    pub fn into_inner(self) -> T
+        ensures { result ≡ self }
+    {
+        Box::into_inner(self.item)
+    }
+}
+
+/// The item, where there is one.
+pub fn unboxed<T: Drop>(item: Option<Boxed<T>>) -> Option<T>
+    ensures { result ≡ item }
+{
+    match item {
+        Some(item) => Some(item.into_inner()),
+        None => None,
+    }
+}
+
+/// Puts an item behind the others.
+pub fn push<T: Drop>(items: &mut Vec<T>, item: Boxed<T>) -> Result<(), AllocError>
+    ensures items { IfOk result (λ _. items.new.items ≡ items.old.items ++ item ∷ []) }
+{
+    items.push(item.into_inner())?;
+    Ok(())
 }

@@ -8,12 +8,11 @@ ghost use Rattle.sed_scope.specs.Scope as scopes;
 ghost use Rattle.sed_statements.specs.Statements as meaning;
 
 use crate::enclosing::Enclosing;
-use crate::simple::{evaluation, is_there, local};
+use crate::simple::{empty, evaluation, is_there, local};
 use sed_bodies::{expression, place_of};
 use sed_forms::{CheckedPart, CheckedStmt, last_of, test_of};
 use sed_names::Lookup;
 use sed_scope::Locals;
-use sed_stmt_terms::FoundStmt;
 use sed_terms::Judged;
 use sed_units::{Expr, ForFirst};
 use sed_value::Memory;
@@ -33,7 +32,7 @@ pub fn first_part<N: Lookup>(
     ensures behind { IfOk result (λ _. scope.new ≡ scopes.behind (N.names names.now) scope.old (first_tree first.now)) }
 {
     match first {
-        ForFirst::Nothing => Ok(Judged::Sound(FoundStmt::empty())),
+        ForFirst::Nothing => empty(alloc),
         ForFirst::Local(l) => local(alloc, names, method, scope, l),
         ForFirst::Evaluate(e) => {
             is_there(e);
@@ -59,7 +58,7 @@ pub fn test_part<N: Lookup>(
         Some(e) => {
             is_there(e);
             let x = expression(alloc, names, &method.body, scope, e)?;
-            Ok(test_of(place_of(e), x))
+            test_of(alloc, place_of(e), x)
         }
     }
 }

@@ -40,7 +40,8 @@ pub fn judged_method<N: Lookup>(
     let mut scope = Locals::new(alloc, !method.body.is_static);
     let free = enter_params(alloc, names, &mut scope, params)?;
     let xs = statements(alloc, names, method, Around::outermost(), &mut scope, body)?;
-    match paired(free, blocked(xs)) {
+    let x = blocked(alloc, xs)?;
+    match paired(free, x) {
         Judged::Sound(both) => {
             let (_, x) = both;
             Ok(Judged::Sound(x))

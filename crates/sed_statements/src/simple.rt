@@ -2,7 +2,9 @@
 ghost use Rattle.std.specs.Prelude.{◌≡◌, true, IfOk};
 ghost use Rattle.sed_units.specs.StatementTree.{local_tree};
 ghost use Rattle.sed_units.specs.Tree.{optional};
+ghost use Rattle.sed_terms.specs.declared.sign.Sign.TheVariants as sign;
 ghost use Rattle.sed_terms.specs.Faults.{least_fault};
+ghost use Rattle.sed_terms.specs.Term as terms;
 ghost use Rattle.sed_scope.specs.Scope as scopes;
 ghost use Rattle.sed_forms.specs.Rows as rows;
 ghost use Rattle.sed_bodies.specs.Expressions as expressions;
@@ -14,6 +16,8 @@ use sed_bodies::{expression, place_of};
 use sed_forms::{CheckedStmt, begun, begun_bare, declared, evaluated, returned, returned_nothing};
 use sed_names::Lookup;
 use sed_scope::Locals;
+use sed_stmt_terms::FoundStmt;
+use sed_terms::Judged;
 use sed_units::{Expr, Local, Node};
 use sed_value::Memory;
 use std::alloc::Global;
@@ -37,6 +41,14 @@ pub fn is_there(e: &Expr)
         Node::Conditional(_, _, _) => {}
         Node::Assign(_, _, _) => {}
     }
+}
+
+/// A statement that does nothing.
+pub fn empty(alloc: Global) -> Result<CheckedStmt, Memory>
+    ensures { IfOk result (λ r. r ≡ Judged.Sound (terms.leaf sign.Empty)) }
+{
+    let x = FoundStmt::empty(alloc)?;
+    Ok(Judged::Sound(x))
 }
 
 /// An expression whose value is not used.
@@ -67,7 +79,7 @@ fn declaration<N: Lookup>(
 {
     let name = l.name.bytes.as_slice();
     match &l.value {
-        None => Ok(begun_bare(declared(names, scope, l.at, &l.kind, name))),
+        None => begun_bare(alloc, declared(names, scope, l.at, &l.kind, name)),
         Some(e) => {
             is_there(e);
             let x = expression(alloc, names, &method.body, scope, e)?;
@@ -107,7 +119,7 @@ pub fn answer<N: Lookup>(
         (optional value.now)) }
 {
     match value {
-        None => Ok(returned_nothing(method.result, at)),
+        None => returned_nothing(alloc, method.result, at),
         Some(e) => {
             is_there(e);
             let x = expression(alloc, names, &method.body, scope, e)?;

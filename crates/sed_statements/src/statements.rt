@@ -17,7 +17,7 @@ ghost use Rattle.sed_statements.specs.Statements as meaning;
 use crate::cases::case_int;
 use crate::enclosing::Enclosing;
 use crate::heads::{first_part, last_part, test_part};
-use crate::simple::{answer, evaluation, local};
+use crate::simple::{answer, empty, evaluation, local};
 use sed_bodies::{expression, place_of};
 use sed_forms::{
     Around, CheckedCases, CheckedLabel, CheckedRow, CheckedStmt, blocked, broken_off, case_of,
@@ -26,7 +26,7 @@ use sed_forms::{
 };
 use sed_names::Lookup;
 use sed_scope::Locals;
-use sed_stmt_terms::{FoundCases, FoundStmt, FoundStmts};
+use sed_stmt_terms::{FoundCases, FoundStmts};
 use sed_terms::Judged;
 use sed_typed::Label;
 use sed_units::{Case, Expr, ForHead, Form, Stmt};
@@ -48,7 +48,7 @@ pub fn statement<N: Lookup>(
     ensures behind { IfOk result (λ _. scope.new ≡ scopes.behind (N.names names.now) scope.old s.now) }
 {
     match &s.form {
-        Form::Empty => Ok(Judged::Sound(FoundStmt::empty())),
+        Form::Empty => empty(alloc),
         Form::Evaluate(e) => evaluation(alloc, names, method, scope, e),
         Form::Local(l) => local(alloc, names, method, scope, l),
         Form::Block(all) => block(alloc, names, method, around, scope, all),
@@ -58,8 +58,8 @@ pub fn statement<N: Lookup>(
         Form::DoWhile(x, t) => do_loop(alloc, names, method, scope, x, t),
         Form::For(head, x) => for_loop(alloc, names, method, scope, head, x),
         Form::Switch(e, all) => switch(alloc, names, method, around, scope, e, all),
-        Form::Break => Ok(broken_off(around, s.at)),
-        Form::Continue => Ok(continued(around, s.at)),
+        Form::Break => broken_off(alloc, around, s.at),
+        Form::Continue => continued(alloc, around, s.at),
         Form::Return(value) => answer(alloc, names, method, scope, s.at, value),
     }
 }
@@ -122,7 +122,8 @@ fn block<N: Lookup>(
     let mark = scope.len();
     let xs = statements(alloc, names, method, around, scope, all)?;
     scope.leave(mark);
-    Ok(blocked(xs))
+    let x = blocked(alloc, xs)?;
+    Ok(x)
 }
 
 // `if` without `else`.
@@ -145,7 +146,8 @@ fn choice<N: Lookup>(
     let at = place_of(t);
     let t = expression(alloc, names, &method.body, scope, t)?;
     let x = inner(alloc, names, method, around, scope, x)?;
-    conditional(alloc, at, t, x, Judged::Sound(FoundStmt::empty()))
+    let y = empty(alloc)?;
+    conditional(alloc, at, t, x, y)
 }
 
 #[cycle(statements)]

@@ -1,13 +1,16 @@
 //! A typed statement in the making.
-ghost use Rattle.std.specs.Prelude.{◌≡◌, IfOk, IfSome, true};
+ghost use Rattle.std.specs.Prelude.{◌≡◌, ◌++◌, [], ◌∷◌, IfOk, IfSome, true};
 ghost use Rattle.std.specs.Option.{option_map};
+ghost use Rattle.sed_typed.specs.declared.statement.Stmt.TheVariants as stmt;
 ghost use Rattle.sed_terms.specs.declared.sign.Sign.TheVariants as sign;
 ghost use Rattle.sed_terms.specs.Forms as forms;
+ghost use Rattle.sed_terms.specs.OpenTerm.{optional_boxed};
 ghost use Rattle.sed_terms.specs.Seen.{optional_term, stmt_term};
 ghost use Rattle.sed_terms.specs.Sorts.{is_value};
 ghost use Rattle.sed_terms.specs.Term.{Absent, Node, appended, leaf, optional, with_item};
 
 use sed_terms::Found;
+use sed_terms::boxes::{boxed, push_boxed};
 use sed_typed::{Expr, Kind, Label, Stmt};
 use sed_value::Memory;
 use std::alloc::Global;
@@ -16,7 +19,7 @@ use std::marker::Model;
 /// A typed statement in the making. Contracts see its term.
 #[derive(Drop)]
 pub struct FoundStmt {
-    tree: Stmt,
+    made: Box<Stmt>,
 }
 
 /// Typed statements in the making, one after another. Contracts see the row of their terms.
@@ -41,7 +44,7 @@ impl Model for FoundStmt {
 
     ghost coded = { term_code s.the_row.coded };
 
-    ghost view = { λ f. stmt_term f.tree };
+    ghost view = { λ f. stmt_term f.made.value };
 }
 
 impl Model for FoundStmts {
@@ -84,15 +87,14 @@ impl FoundCases {
     }
 
     /// With one more label at the end, and the block behind it.
-    #[tactic(auto, using(crate::proofs::Rows::one_more_case))]
+    #[tactic(auto, using(crate::proofs::Rows::one_more_case, crate::proofs::Rows::block_row))]
     pub fn with(self, label: Label, block: FoundStmts) -> Result<FoundCases, Memory>
         ensures { IfOk result (λ r. r ≡ appended self (Node (sign.Label label) (Node sign.Block block Absent) Absent)) }
     {
-        let block = block.into_block().into_stmt();
         let mut labels = self.labels;
         let mut blocks = self.blocks;
         labels.push(label)?;
-        blocks.push(block)?;
+        push_block(&mut blocks, block.items)?;
         Ok(FoundCases { labels, blocks })
     }
 }
@@ -112,25 +114,25 @@ impl FoundStmts {
         ensures { IfOk result (λ r. r ≡ with_item self statement) }
     {
         let mut items = self.items;
-        items.push(statement.tree)?;
+        push_boxed(&mut items, statement.made)?;
         Ok(FoundStmts { items })
     }
 
     #[tactic(auto, using(crate::proofs::Rows::block_row))]
-    pub fn into_block(self) -> FoundStmt
-        ensures { result ≡ Node sign.Block self Absent }
+    pub fn into_block(self, alloc: Global) -> Result<FoundStmt, Memory>
+        ensures { IfOk result (λ r. r ≡ Node sign.Block self Absent) }
     {
-        FoundStmt {
-            tree: Stmt::Block(self.items),
-        }
+        let made = boxed(alloc, Stmt::Block(self.items))?;
+        Ok(FoundStmt { made })
     }
 }
 
 impl FoundStmt {
-    pub fn empty() -> FoundStmt
-        ensures { result ≡ leaf sign.Empty }
+    pub fn empty(alloc: Global) -> Result<FoundStmt, Memory>
+        ensures { IfOk result (λ r. r ≡ leaf sign.Empty) }
     {
-        FoundStmt { tree: Stmt::Empty }
+        let made = boxed(alloc, Stmt::Empty)?;
+        Ok(FoundStmt { made })
     }
 
     /// An expression whose value is not used.
@@ -139,8 +141,11 @@ impl FoundStmt {
         ensures { IfOk result (λ r. r ≡ forms.evaluating (forms.discarded e)) }
     {
         match e.into_evaluated(alloc)? {
-            Some(e) => Ok(FoundStmt { tree: Stmt::Do(e) }),
-            None => Ok(FoundStmt { tree: Stmt::Empty }),
+            Some(e) => {
+                let made = boxed(alloc, Stmt::Do(Box::into_inner(e)))?;
+                Ok(FoundStmt { made })
+            }
+            None => FoundStmt::empty(alloc),
         }
     }
 
@@ -150,18 +155,19 @@ impl FoundStmt {
         ensures { IfOk result (λ r. r ≡ Node (sign.Begin kind number) value Absent) }
     {
         let value = value.into_expr(alloc)?;
-        Ok(FoundStmt {
-            tree: Stmt::Local(kind, number, Some(value)),
-        })
+        let made = boxed(
+            alloc,
+            Stmt::Local(kind, number, Some(Box::into_inner(value))),
+        )?;
+        Ok(FoundStmt { made })
     }
 
     /// A local without a value.
-    pub fn begun_bare(kind: Kind, number: u8) -> FoundStmt
-        ensures { result ≡ leaf (sign.Begin kind number) }
+    pub fn begun_bare(alloc: Global, kind: Kind, number: u8) -> Result<FoundStmt, Memory>
+        ensures { IfOk result (λ r. r ≡ leaf (sign.Begin kind number)) }
     {
-        FoundStmt {
-            tree: Stmt::Local(kind, number, None),
-        }
+        let made = boxed(alloc, Stmt::Local(kind, number, None))?;
+        Ok(FoundStmt { made })
     }
 
     /// `if`, with a branch that is empty where there is none.
@@ -175,11 +181,11 @@ impl FoundStmt {
         ensures { IfOk result (λ r. r ≡ Node sign.If test (Node sign.Pair left right)) }
     {
         let test = test.into_expr(alloc)?;
-        let left = Box::new(alloc, left.tree)?;
-        let right = Box::new(alloc, right.tree)?;
-        Ok(FoundStmt {
-            tree: Stmt::If(test, left, right),
-        })
+        let made = boxed(
+            alloc,
+            Stmt::If(Box::into_inner(test), left.made, right.made),
+        )?;
+        Ok(FoundStmt { made })
     }
 
     /// `while`.
@@ -188,10 +194,8 @@ impl FoundStmt {
         ensures { IfOk result (λ r. r ≡ Node sign.While test body) }
     {
         let test = test.into_expr(alloc)?;
-        let body = Box::new(alloc, body.tree)?;
-        Ok(FoundStmt {
-            tree: Stmt::While(test, body),
-        })
+        let made = boxed(alloc, Stmt::While(Box::into_inner(test), body.made))?;
+        Ok(FoundStmt { made })
     }
 
     /// `do` and `while`.
@@ -200,10 +204,8 @@ impl FoundStmt {
         ensures { IfOk result (λ r. r ≡ Node sign.DoWhile body test) }
     {
         let test = test.into_expr(alloc)?;
-        let body = Box::new(alloc, body.tree)?;
-        Ok(FoundStmt {
-            tree: Stmt::DoWhile(body, test),
-        })
+        let made = boxed(alloc, Stmt::DoWhile(body.made, Box::into_inner(test)))?;
+        Ok(FoundStmt { made })
     }
 
     /// `for`: first part, condition, last part, body.
@@ -217,27 +219,27 @@ impl FoundStmt {
         requires { IfSome test (λ t. is_value t ≡ true) }
         ensures { IfOk result (λ r. r ≡ Node sign.For (Node sign.Pair first (Node sign.Pair (optional test) (optional (option_map forms.discarded last)))) body) }
     {
-        let first = Box::new(alloc, first.tree)?;
         let test = optional_value(alloc, test)?;
         let last = optional_evaluated(alloc, last)?;
-        let body = Box::new(alloc, body.tree)?;
-        Ok(FoundStmt {
-            tree: Stmt::For(first, test, last, body),
-        })
+        let made = boxed(
+            alloc,
+            Stmt::For(first.made, unboxed(test), unboxed(last), body.made),
+        )?;
+        Ok(FoundStmt { made })
     }
 
-    pub fn broken_off() -> FoundStmt
-        ensures { result ≡ leaf sign.Break }
+    pub fn broken_off(alloc: Global) -> Result<FoundStmt, Memory>
+        ensures { IfOk result (λ r. r ≡ leaf sign.Break) }
     {
-        FoundStmt { tree: Stmt::Break }
+        let made = boxed(alloc, Stmt::Break)?;
+        Ok(FoundStmt { made })
     }
 
-    pub fn continued() -> FoundStmt
-        ensures { result ≡ leaf sign.Continue }
+    pub fn continued(alloc: Global) -> Result<FoundStmt, Memory>
+        ensures { IfOk result (λ r. r ≡ leaf sign.Continue) }
     {
-        FoundStmt {
-            tree: Stmt::Continue,
-        }
+        let made = boxed(alloc, Stmt::Continue)?;
+        Ok(FoundStmt { made })
     }
 
     pub fn returned(alloc: Global, value: Found) -> Result<FoundStmt, Memory>
@@ -245,17 +247,15 @@ impl FoundStmt {
         ensures { IfOk result (λ r. r ≡ Node sign.Return value Absent) }
     {
         let value = value.into_expr(alloc)?;
-        Ok(FoundStmt {
-            tree: Stmt::Return(Some(value)),
-        })
+        let made = boxed(alloc, Stmt::Return(Some(Box::into_inner(value))))?;
+        Ok(FoundStmt { made })
     }
 
-    pub fn returned_nothing() -> FoundStmt
-        ensures { result ≡ leaf sign.Return }
+    pub fn returned_nothing(alloc: Global) -> Result<FoundStmt, Memory>
+        ensures { IfOk result (λ r. r ≡ leaf sign.Return) }
     {
-        FoundStmt {
-            tree: Stmt::Return(None),
-        }
+        let made = boxed(alloc, Stmt::Return(None))?;
+        Ok(FoundStmt { made })
     }
 
     /// `switch`, of a value.
@@ -265,23 +265,31 @@ impl FoundStmt {
         ensures { IfOk result (λ r. r ≡ Node sign.Switch value cases) }
     {
         let value = value.into_expr(alloc)?;
-        Ok(FoundStmt {
-            tree: Stmt::Switch(value, cases.labels, cases.blocks),
-        })
+        let tree = Stmt::Switch(Box::into_inner(value), cases.labels, cases.blocks);
+        let made = boxed(alloc, tree)?;
+        Ok(FoundStmt { made })
     }
 
     /// The statement.
     pub fn into_stmt(self) -> Stmt
         ensures { stmt_term result ≡ self }
     {
-        self.tree
+        Box::into_inner(self.made)
     }
 }
 
+// A block of statements, put behind the others.
+fn push_block(blocks: &mut Vec<Stmt>, items: Vec<Stmt>) -> Result<(), Memory>
+    ensures { IfOk result (λ _. blocks.new.items ≡ blocks.old.items ++ stmt.Block items ∷ []) }
+{
+    blocks.push(Stmt::Block(items))?;
+    Ok(())
+}
+
 // A part that may be missing.
-fn optional_value(alloc: Global, e: Option<Found>) -> Result<Option<Expr>, Memory>
+fn optional_value(alloc: Global, e: Option<Found>) -> Result<Option<Box<Expr>>, Memory>
     requires { IfSome e (λ t. is_value t ≡ true) }
-    ensures { IfOk result (λ r. optional_term r ≡ optional e) }
+    ensures { IfOk result (λ r. optional_boxed r ≡ optional e) }
 {
     match e {
         Some(e) => {
@@ -292,11 +300,20 @@ fn optional_value(alloc: Global, e: Option<Found>) -> Result<Option<Expr>, Memor
     }
 }
 
-fn optional_evaluated(alloc: Global, e: Option<Found>) -> Result<Option<Expr>, Memory>
-    ensures { IfOk result (λ r. optional_term r ≡ optional (option_map forms.discarded e)) }
+fn optional_evaluated(alloc: Global, e: Option<Found>) -> Result<Option<Box<Expr>>, Memory>
+    ensures { IfOk result (λ r. optional_boxed r ≡ optional (option_map forms.discarded e)) }
 {
     match e {
         Some(e) => e.into_evaluated(alloc),
         None => Ok(None),
+    }
+}
+
+fn unboxed(e: Option<Box<Expr>>) -> Option<Expr>
+    ensures { optional_term result ≡ optional_boxed e }
+{
+    match e {
+        Some(e) => Some(Box::into_inner(e)),
+        None => None,
     }
 }

@@ -281,13 +281,13 @@ pub fn arithmetic_of(op: AssignOp) -> Option<Arithmetic>
 }
 
 // The 1 of a width.
-fn one_in(width: Width) -> Found
-    ensures is { result ≡ ones.one_in width }
-    ensures value { is_value result ≡ true }
+fn one_in(alloc: Global, width: Width) -> Result<Found, Memory>
+    ensures is { IfOk result (λ r. r ≡ ones.one_in width) }
+    ensures value { IfOk result (λ r. is_value r ≡ true) }
 {
     match width {
-        Width::Int => Found::int(1),
-        Width::Long => Found::long(1),
+        Width::Int => Found::int(alloc, 1),
+        Width::Long => Found::long(alloc, 1),
     }
 }
 
@@ -305,7 +305,7 @@ pub fn counted_first(
     match number_target(at, may, left, x) {
         Judged::Sound(x) => {
             let width = width_of(&x);
-            let one = one_in(width);
+            let one = one_in(alloc, width)?;
             let z = Found::update(alloc, storing(op, width), x, one)?;
             Ok(Judged::Sound(z))
         }

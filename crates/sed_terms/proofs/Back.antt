@@ -1,5 +1,5 @@
 -- The term of a typed expression is typed.
-use Rattle.std.proofs.Common.{◌≡◌, ℕ, ℤ, pos, List, ◌∷◌, refl, ap, sym, ◌∙◌, subst}
+use Rattle.std.proofs.Common.{◌≡◌, refl, ap, sym, ◌∙◌, subst}
 use Rattle.std.specs.Option.{option_and_then}
 use mathlib.Core.Former.{Count}
 use Rattle.sed_typed.specs.declared.kind.Kind.{Kind}
@@ -15,9 +15,9 @@ use Rattle.sed_typed.specs.declared.tree.Link.{Link}
 use Rattle.sed_typed.specs.declared.tree.Link.TheVariants as link
 use Rattle.sed_typed.specs.declared.tree.Place.{Place}
 use Rattle.sed_typed.specs.declared.tree.Place.TheVariants as place
-use Rattle.sed_typed.specs.Kinds.{kind_of, place_kind, link_kind}
-use Rattle.sed_typed.specs.TypedExpr.{Context, IsExpr, IsPlace, IsLink, AreLinks, AreExprs, MayGive, one_of, field_form, part_kind, right_kind}
-use Rattle.sed_terms.specs.Term.{Term, Node}
+use Rattle.sed_typed.specs.Kinds.{kind_of, link_kind}
+use Rattle.sed_typed.specs.TypedExpr.{Context, IsExpr, IsPlace, IsLink, AreLinks, AreExprs, MayGive, one_of, field_form, part_kind}
+use Rattle.sed_terms.specs.Term.{Term}
 use Rattle.sed_terms.specs.Ones.{one_in}
 use Rattle.sed_terms.specs.Sorts.{term_kind}
 use Rattle.sed_terms.specs.Seen.{term_of, place_term, operand_term, link_term, term_after, args_term}

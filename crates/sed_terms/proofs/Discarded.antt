@@ -1,5 +1,6 @@
 -- What is evaluated of expressions whose values are not used.
-use Rattle.std.proofs.Common.{◌≡◌, Bool, true, false, Option, Some, None, refl, sym, ap, ◌∙◌}
+use Rattle.std.proofs.Common.{◌≡◌, true, false, Option, Some, None, refl, ap, ◌∙◌}
+use Rattle.std.specs.Global.{Box}
 use mathlib.Core.Former.{Count}
 use Rattle.sed_typed.specs.declared.tree.Expr.{Expr, Row_of-Link, end_of-Link, more_of-Link}
 use Rattle.sed_typed.specs.declared.tree.Expr.TheVariants as expr
@@ -8,10 +9,10 @@ use Rattle.sed_typed.specs.declared.tree.Link.TheVariants as link
 use Rattle.sed_terms.specs.declared.open.Open.{Open}
 use Rattle.sed_terms.specs.declared.open.Open.TheVariants as held
 use Rattle.sed_terms.specs.declared.sign.Sign.TheVariants as sign
-use Rattle.sed_terms.specs.Term.{Term, Absent, Node, leaf}
+use Rattle.sed_terms.specs.Term.{Term, Absent, Node}
 use Rattle.sed_terms.specs.Forms.{discarded, evaluated_after, evaluating}
 use Rattle.sed_terms.specs.OpenTerm.{open_term, behind, evaluated_behind}
-use Rattle.sed_terms.specs.Seen.{term_of, link_term, term_after, optional_term}
+use Rattle.sed_terms.specs.Seen.{term_of, link_term, term_after}
 use Rattle.sed_terms.specs.Sorts.{is_value}
 use Rattle.sed_terms.proofs.StmtAgain.{IsNode, is_node}
 
@@ -59,7 +60,7 @@ mutual
   whole_after t (more_of-Link l ls) h = whole_after (link_term t l) ls (whole_link t l)
 
 pub value_whole : (o : Open) → is_value (open_term o) ≡ true → discarded (open_term o) ≡ open_term o
-value_whole (held.Value e) h = whole e
+value_whole (held.Value e) h = whole e.value
 value_whole (held.Local k i) h = refl
 value_whole (held.Static p i) h = refl
 value_whole (held.StaticElement p n i e) h = refl
@@ -81,6 +82,6 @@ evaluating_is e = evaluating_node (term_of e) (is_node e)
 pub after_is : (t : Term) (e : Expr) → evaluated_after t (term_of e) ≡ Node sign.After t (term_of e)
 after_is t e = after_part t (term_of e) (is_node e)
 
-pub discarded_behind : (b : Option Expr) (t : Term) → discarded (behind b t) ≡ evaluated_behind b (discarded t)
+pub discarded_behind : (b : Option (Box Expr)) (t : Term) → discarded (behind b t) ≡ evaluated_behind b (discarded t)
 discarded_behind None t = refl
 discarded_behind (Some e) t = refl

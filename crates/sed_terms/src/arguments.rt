@@ -4,6 +4,7 @@ ghost use Rattle.sed_terms.specs.Seen.{term_of};
 ghost use Rattle.sed_terms.specs.Sorts.{is_value};
 ghost use Rattle.sed_terms.specs.Term.{Absent, row, with_item};
 
+use crate::boxes::push_boxed;
 use crate::found::Found;
 use sed_typed::Expr;
 use sed_value::Memory;
@@ -46,7 +47,7 @@ impl Arguments {
     {
         let argument = argument.into_expr(alloc)?;
         let mut items = self.items;
-        items.push(argument)?;
+        push_boxed(&mut items, argument)?;
         Ok(Arguments { items })
     }
 

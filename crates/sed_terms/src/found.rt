@@ -1,9 +1,9 @@
 //! A typed expression in the making.
-ghost use Rattle.std.specs.Prelude.{◌≡◌, IfOk, true};
+ghost use Rattle.std.specs.Prelude.{◌≡◌, IfOk, false, true};
 ghost use Rattle.sed_terms.specs.declared.sign.Sign.TheVariants as sign;
 ghost use Rattle.sed_terms.specs.Forms as forms;
-ghost use Rattle.sed_terms.specs.OpenTerm.{open_term, is_open, behind};
-ghost use Rattle.sed_terms.specs.Seen.{optional_term, term_of};
+ghost use Rattle.sed_terms.specs.OpenTerm.{open_term, is_open, behind, optional_boxed};
+ghost use Rattle.sed_terms.specs.Seen.{term_of};
 ghost use Rattle.sed_terms.specs.Sorts as sorts;
 ghost use Rattle.sed_terms.specs.Sorts.{is_value, sort_of};
 ghost use Rattle.sed_terms.specs.Term.{Absent, Node, leaf};
@@ -12,11 +12,14 @@ mod accesses;
 mod calls;
 mod stores;
 
+use crate::boxes::boxed;
 use crate::kinds::{binary_kind, kind_in, read_kind, unary_kind};
-use crate::links::{closed, evaluated, evaluated_part, put_behind, with_link};
+use crate::links::{
+    and_link, binary_link, closed, evaluated, evaluated_part, or_link, put_behind, with_link,
+};
 use crate::open::Open;
 use crate::sort::Sort;
-use sed_typed::{Binary, Expr, Kind, Link, TypeNo, Unary};
+use sed_typed::{Binary, Expr, Kind, TypeNo, Unary};
 use sed_value::{Memory, Prim};
 use std::alloc::Global;
 use std::marker::Model;
@@ -24,8 +27,14 @@ use std::marker::Model;
 /// A typed expression in the making, with what it comes to. Contracts see its term.
 #[derive(Drop)]
 pub struct Found {
+    made: Box<Made>,
+}
+
+// What is made of it so far: what is evaluated before it, and its tree.
+#[derive(Drop)]
+struct Made {
     sort: Sort,
-    before: Option<Expr>,
+    before: Option<Box<Expr>>,
     tree: Open,
 }
 
@@ -40,146 +49,135 @@ impl Model for Found {
 
     ghost coded = { term_code s.the_row.coded };
 
-    ghost view = { λ f. behind f.before (open_term f.tree) };
+    ghost view = { λ f. behind f.made.value.before (open_term f.made.value.tree) };
 
-    ghost invariant = { λ f. (f.sort ≡ sort_of (behind f.before (open_term f.tree))) × (is_open f.tree ≡ is_place (behind f.before (open_term f.tree))) };
+    ghost invariant = { λ f. (f.made.value.sort ≡ sort_of (behind f.made.value.before (open_term f.made.value.tree))) × (is_open f.made.value.tree ≡ is_place (behind f.made.value.before (open_term f.made.value.tree))) };
 }
 
 // One with its parts.
 #[tactic(auto, using(crate::proofs::Values::place_behind, crate::proofs::Values::sort_behind))]
-fn held(before: Option<Expr>, sort: Sort, tree: Open) -> Found
+fn held(alloc: Global, before: Option<Box<Expr>>, sort: Sort, tree: Open) -> Result<Found, Memory>
     requires sort_is { sort ≡ sort_of (open_term tree) }
     requires place_is { is_open tree ≡ sorts.is_place (open_term tree) }
-    ensures { result ≡ behind before (open_term tree) }
+    ensures { IfOk result (λ r. r ≡ behind before (open_term tree)) }
 {
-    Found { sort, before, tree }
+    let made = boxed(alloc, Made { sort, before, tree })?;
+    Ok(Found { made })
+}
+
+// A value.
+fn whole(alloc: Global, sort: Sort, tree: Box<Expr>) -> Result<Found, Memory>
+    requires sort_is { sort ≡ sort_of (term_of tree.value) }
+    requires is_no_place { sorts.is_place (term_of tree.value) ≡ false }
+    ensures { IfOk result (λ r. r ≡ term_of tree.value) }
+{
+    held(alloc, None, sort, Open::Value(tree))
+}
+
+// Its parts.
+fn opened(found: Found) -> Made
+    ensures term { behind result.before (open_term result.tree) ≡ found }
+    ensures sort { result.sort ≡ sort_of found }
+    ensures place { is_open result.tree ≡ sorts.is_place found }
+{
+    Box::into_inner(found.made)
 }
 
 // ---- what stands alone
 
 impl Found {
-    pub fn int(n: i32) -> Found
-        ensures { result ≡ leaf (sign.Int n) }
+    pub fn int(alloc: Global, n: i32) -> Result<Found, Memory>
+        ensures { IfOk result (λ r. r ≡ leaf (sign.Int n)) }
     {
-        Found {
-            sort: Sort::Of(Kind::Int),
-            before: None,
-            tree: Open::Value(Expr::Int(n)),
-        }
+        let tree = boxed(alloc, Expr::Int(n))?;
+        whole(alloc, Sort::Of(Kind::Int), tree)
     }
 
-    pub fn long(n: i64) -> Found
-        ensures { result ≡ leaf (sign.Long n) }
+    pub fn long(alloc: Global, n: i64) -> Result<Found, Memory>
+        ensures { IfOk result (λ r. r ≡ leaf (sign.Long n)) }
     {
-        Found {
-            sort: Sort::Of(Kind::Long),
-            before: None,
-            tree: Open::Value(Expr::Long(n)),
-        }
+        let tree = boxed(alloc, Expr::Long(n))?;
+        whole(alloc, Sort::Of(Kind::Long), tree)
     }
 
     /// 0 false, 1 true, 2 null.
-    pub fn truth(t: u8) -> Found
-        ensures { result ≡ leaf (sign.Bool t) }
+    pub fn truth(alloc: Global, t: u8) -> Result<Found, Memory>
+        ensures { IfOk result (λ r. r ≡ leaf (sign.Bool t)) }
     {
-        Found {
-            sort: Sort::Of(Kind::Bool),
-            before: None,
-            tree: Open::Value(Expr::Bool(t)),
-        }
+        let tree = boxed(alloc, Expr::Bool(t))?;
+        whole(alloc, Sort::Of(Kind::Bool), tree)
     }
 
     /// `null`, before its place gives it a kind.
-    pub fn nothing() -> Found
-        ensures { result ≡ leaf sign.Nothing }
+    pub fn nothing(alloc: Global) -> Result<Found, Memory>
+        ensures { IfOk result (λ r. r ≡ leaf sign.Nothing) }
     {
-        Found {
-            sort: Sort::Nothing,
-            before: None,
-            tree: Open::Nothing,
-        }
+        held(alloc, None, Sort::Nothing, Open::Nothing)
     }
 
     /// `null` in a place of this kind.
-    pub fn null(kind: Kind) -> Found
-        ensures { result ≡ leaf (sign.Null kind) }
+    pub fn null(alloc: Global, kind: Kind) -> Result<Found, Memory>
+        ensures { IfOk result (λ r. r ≡ leaf (sign.Null kind)) }
     {
-        Found {
-            sort: Sort::Of(kind),
-            before: None,
-            tree: Open::Value(Expr::Null(kind)),
-        }
+        let tree = boxed(alloc, Expr::Null(kind))?;
+        whole(alloc, Sort::Of(kind), tree)
     }
 
-    pub fn text(number: u16) -> Found
-        ensures { result ≡ leaf (sign.Text number) }
+    pub fn text(alloc: Global, number: u16) -> Result<Found, Memory>
+        ensures { IfOk result (λ r. r ≡ leaf (sign.Text number)) }
     {
-        Found {
-            sort: Sort::Of(Kind::Text),
-            before: None,
-            tree: Open::Value(Expr::Text(number)),
-        }
+        let tree = boxed(alloc, Expr::Text(number))?;
+        whole(alloc, Sort::Of(Kind::Text), tree)
     }
 
-    pub fn this(class: TypeNo) -> Found
-        ensures { result ≡ leaf (sign.This class) }
+    pub fn this(alloc: Global, class: TypeNo) -> Result<Found, Memory>
+        ensures { IfOk result (λ r. r ≡ leaf (sign.This class)) }
     {
-        Found {
-            sort: Sort::Of(Kind::Object(class)),
-            before: None,
-            tree: Open::Value(Expr::This(class)),
-        }
+        let tree = boxed(alloc, Expr::This(class))?;
+        whole(alloc, Sort::Of(Kind::Object(class)), tree)
     }
 
-    pub fn local(kind: Kind, number: u8) -> Found
-        ensures { result ≡ leaf (sign.Local kind number) }
+    pub fn local(alloc: Global, kind: Kind, number: u8) -> Result<Found, Memory>
+        ensures { IfOk result (λ r. r ≡ leaf (sign.Local kind number)) }
     {
-        Found {
-            sort: Sort::Of(kind),
-            before: None,
-            tree: Open::Local(kind, number),
-        }
+        held(alloc, None, Sort::Of(kind), Open::Local(kind, number))
     }
 
-    pub fn static_field(prim: Prim, number: u16) -> Found
-        ensures { result ≡ leaf (sign.Static prim number) }
+    pub fn static_field(alloc: Global, prim: Prim, number: u16) -> Result<Found, Memory>
+        ensures { IfOk result (λ r. r ≡ leaf (sign.Static prim number)) }
     {
-        Found {
-            sort: Sort::Of(read_kind(prim)),
-            before: None,
-            tree: Open::Static(prim, number),
-        }
+        held(
+            alloc,
+            None,
+            Sort::Of(read_kind(prim)),
+            Open::Static(prim, number),
+        )
     }
 
-    pub fn static_part(kind: Kind, number: u16) -> Found
-        ensures { result ≡ leaf (sign.StaticPart kind number) }
+    pub fn static_part(alloc: Global, kind: Kind, number: u16) -> Result<Found, Memory>
+        ensures { IfOk result (λ r. r ≡ leaf (sign.StaticPart kind number)) }
     {
-        Found {
-            sort: Sort::Of(kind),
-            before: None,
-            tree: Open::Value(Expr::StaticPart(kind, number)),
-        }
+        let tree = boxed(alloc, Expr::StaticPart(kind, number))?;
+        whole(alloc, Sort::Of(kind), tree)
     }
 
-    pub fn static_array(prim: Prim, count: u16, number: u16) -> Found
-        ensures { result ≡ leaf (sign.StaticArray prim count number) }
+    pub fn static_array(alloc: Global, prim: Prim, count: u16, number: u16) -> Result<Found, Memory>
+        ensures { IfOk result (λ r. r ≡ leaf (sign.StaticArray prim count number)) }
     {
-        Found {
-            sort: Sort::Array(prim),
-            before: None,
-            tree: Open::StaticArray(prim, count, number),
-        }
+        held(
+            alloc,
+            None,
+            Sort::Array(prim),
+            Open::StaticArray(prim, count, number),
+        )
     }
 
     /// The moment of the last tick.
-    pub fn ticks() -> Found
-        ensures { result ≡ leaf sign.Ticks }
+    pub fn ticks(alloc: Global) -> Result<Found, Memory>
+        ensures { IfOk result (λ r. r ≡ leaf sign.Ticks) }
     {
-        Found {
-            sort: Sort::Of(Kind::Long),
-            before: None,
-            tree: Open::Value(Expr::Ticks),
-        }
+        let tree = boxed(alloc, Expr::Ticks)?;
+        whole(alloc, Sort::Of(Kind::Long), tree)
     }
 }
 
@@ -190,7 +188,7 @@ impl Found {
     pub fn sort(&self) -> Sort
         ensures { result ≡ sort_of self.now }
     {
-        self.sort
+        self.made.sort
     }
 
     /// The kind of a value; void where it is none.
@@ -198,14 +196,14 @@ impl Found {
     pub fn kind(&self) -> Kind
         ensures { result ≡ sorts.term_kind self.now }
     {
-        kind_in(self.sort)
+        kind_in(self.made.sort)
     }
 
     /// Whether it may be assigned to.
     pub fn is_place(&self) -> bool
         ensures { result ≡ sorts.is_place self.now }
     {
-        match &self.tree {
+        match &self.made.tree {
             Open::Local(_, _) | Open::Static(_, _) | Open::StaticElement(_, _, _, _) => true,
             Open::Field(_, _, _) | Open::Element(_, _, _, _, _) => true,
             Open::Value(_) | Open::Nothing | Open::Array(_, _, _, _) | Open::StaticArray(_, _, _) =>
@@ -216,23 +214,25 @@ impl Found {
 
     /// The expression.
     #[tactic(auto, using(crate::proofs::Values::value_behind))]
-    pub fn into_expr(self, alloc: Global) -> Result<Expr, Memory>
+    pub fn into_expr(self, alloc: Global) -> Result<Box<Expr>, Memory>
         requires { is_value self ≡ true }
-        ensures { IfOk result (λ e. term_of e ≡ self) }
+        ensures { IfOk result (λ e. term_of e.value ≡ self) }
     {
-        let e = closed(alloc, self.tree)?;
-        put_behind(alloc, self.before, e)
+        let made = opened(self);
+        let e = closed(alloc, made.tree)?;
+        put_behind(alloc, made.before, e)
     }
 }
 
 impl Found {
     /// What is evaluated of it where its value is not used; nothing, where it names only an array or a Buf without a receiver.
     #[tactic(auto, using(crate::proofs::Discarded::discarded_behind))]
-    pub fn into_evaluated(self, alloc: Global) -> Result<Option<Expr>, Memory>
-        ensures { IfOk result (λ e. optional_term e ≡ forms.discarded self) }
+    pub fn into_evaluated(self, alloc: Global) -> Result<Option<Box<Expr>>, Memory>
+        ensures { IfOk result (λ e. optional_boxed e ≡ forms.discarded self) }
     {
-        let part = evaluated_part(alloc, self.tree)?;
-        evaluated(alloc, self.before, part)
+        let made = opened(self);
+        let part = evaluated_part(alloc, made.tree)?;
+        evaluated(alloc, made.before, part)
     }
 }
 
@@ -244,12 +244,8 @@ impl Found {
         ensures { IfOk result (λ r. r ≡ Node (sign.Unary op) operand Absent) }
     {
         let operand = operand.into_expr(alloc)?;
-        let operand = Box::new(alloc, operand)?;
-        Ok(Found {
-            sort: Sort::Of(unary_kind(op)),
-            before: None,
-            tree: Open::Value(Expr::Unary(op, operand)),
-        })
+        let tree = boxed(alloc, Expr::Unary(op, operand))?;
+        whole(alloc, Sort::Of(unary_kind(op)), tree)
     }
 
     pub fn binary(alloc: Global, op: Binary, left: Found, right: Found) -> Result<Found, Memory>
@@ -259,12 +255,9 @@ impl Found {
     {
         let left = left.into_expr(alloc)?;
         let right = right.into_expr(alloc)?;
-        let tree = with_link(alloc, left, Link::Binary(op, right))?;
-        Ok(Found {
-            sort: Sort::Of(binary_kind(op)),
-            before: None,
-            tree: Open::Value(tree),
-        })
+        let link = binary_link(alloc, op, right)?;
+        let tree = with_link(alloc, left, link)?;
+        whole(alloc, Sort::Of(binary_kind(op)), tree)
     }
 
     pub fn and(alloc: Global, left: Found, right: Found) -> Result<Found, Memory>
@@ -274,12 +267,9 @@ impl Found {
     {
         let left = left.into_expr(alloc)?;
         let right = right.into_expr(alloc)?;
-        let tree = with_link(alloc, left, Link::And(right))?;
-        Ok(Found {
-            sort: Sort::Of(Kind::Bool),
-            before: None,
-            tree: Open::Value(tree),
-        })
+        let link = and_link(alloc, right)?;
+        let tree = with_link(alloc, left, link)?;
+        whole(alloc, Sort::Of(Kind::Bool), tree)
     }
 
     pub fn or(alloc: Global, left: Found, right: Found) -> Result<Found, Memory>
@@ -289,12 +279,9 @@ impl Found {
     {
         let left = left.into_expr(alloc)?;
         let right = right.into_expr(alloc)?;
-        let tree = with_link(alloc, left, Link::Or(right))?;
-        Ok(Found {
-            sort: Sort::Of(Kind::Bool),
-            before: None,
-            tree: Open::Value(tree),
-        })
+        let link = or_link(alloc, right)?;
+        let tree = with_link(alloc, left, link)?;
+        whole(alloc, Sort::Of(Kind::Bool), tree)
     }
 
     /// `? :`.
@@ -308,13 +295,7 @@ impl Found {
         let test = test.into_expr(alloc)?;
         let left = left.into_expr(alloc)?;
         let right = right.into_expr(alloc)?;
-        let test = Box::new(alloc, test)?;
-        let left = Box::new(alloc, left)?;
-        let right = Box::new(alloc, right)?;
-        Ok(Found {
-            sort: Sort::Of(kind),
-            before: None,
-            tree: Open::Value(Expr::Choose(test, left, right)),
-        })
+        let tree = boxed(alloc, Expr::Choose(test, left, right))?;
+        whole(alloc, Sort::Of(kind), tree)
     }
 }

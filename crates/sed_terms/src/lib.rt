@@ -8,6 +8,7 @@
 #![tactic(auto)]
 
 pub mod arguments;
+pub mod boxes;
 pub mod found;
 pub mod judged;
 mod kinds;

@@ -6,21 +6,21 @@ use sed_value::Prim;
 /// An expression whose last access is not yet put behind it, so that it may become a place or be indexed.
 #[derive(Drop)]
 pub enum Open {
-    Value(Expr),
+    Value(Box<Expr>),
     /// `null`, whose kind its place gives.
     Nothing,
     Local(Kind, u8),
     Static(Prim, u16),
     /// An element of a static array: elements, their number, the static, and the index.
-    StaticElement(Prim, u16, u16, Expr),
-    Field(Prim, Expr, u16),
+    StaticElement(Prim, u16, u16, Box<Expr>),
+    Field(Prim, Box<Expr>, u16),
     /// An element of an object's array: elements, their number, the object, the field, and the index.
-    Element(Prim, u16, Expr, u16, Expr),
+    Element(Prim, u16, Box<Expr>, u16, Box<Expr>),
     /// An array of an object: elements, their number, the object, and the field.
-    Array(Prim, u16, Expr, u16),
+    Array(Prim, u16, Box<Expr>, u16),
     StaticArray(Prim, u16, u16),
     /// A Buf of an object.
-    Buf(Expr, u16),
+    Buf(Box<Expr>, u16),
     /// `bytes` of a Buf of an object.
-    Bytes(Expr, u16),
+    Bytes(Box<Expr>, u16),
 }

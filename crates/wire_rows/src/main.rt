@@ -1,29 +1,112 @@
-//! The rows of the crates that spell and read what goes over the network, and of records of it.
+//! The rows of what goes over the network, and of compiled code: values, messages, requests and records as bytes, users
+//! and sessions, links, clocks, files and sinks, and images.
 //!
 //! Each table of data/ is run through the public calls of its crate. A row of which something else comes than what is
-//! wanted is printed, and of each table how many rows it has and how many differ.
+//! wanted is printed, and of each table how many rows it has and how many differ. Each file says what its columns are.
 #![tactic(auto)]
 
-mod generated;
-mod inputs;
+mod files;
+mod images;
+mod live;
 mod messages;
-mod reading;
+mod outside;
 mod records;
 mod replies;
-mod requests;
-mod sweeps;
-mod writing;
+mod sessions;
+mod told;
+mod values;
+mod windows;
 
-use rows::run;
+use rows::{Case, CaseFault, run};
 use std::io;
 
+// The tables, in the order in which they run.
+const TABLES: [&str; 27] = [
+    "reading",
+    "writing",
+    "messages",
+    "requests",
+    "sweeps",
+    "replies",
+    "records",
+    "generated",
+    "users",
+    "digests",
+    "receiving",
+    "against",
+    "sending",
+    "sessions",
+    "links",
+    "rounds",
+    "clocks",
+    "wakes",
+    "outside",
+    "files",
+    "system_files",
+    "sinks",
+    "writers",
+    "decoding",
+    "images",
+    "verifying",
+    "values",
+];
+
 fn main(rt: HostRuntime) -> io::Result<()> {
-    run(&rt, &reading::Reading)?;
-    run(&rt, &writing::Writing)?;
-    run(&rt, &messages::Messages)?;
-    run(&rt, &requests::Requests)?;
-    run(&rt, &replies::Replies)?;
-    run(&rt, &records::RecordRows)?;
-    run(&rt, &sweeps::Sweeps)?;
-    run(&rt, &generated::Generated)
+    for name in TABLES {
+        run(
+            &rt,
+            name,
+            |name: &str, case: &mut Case| of_bytes(&rt, name, case),
+        )?;
+    }
+    Ok(())
+}
+
+fn of_bytes(rt: &HostRuntime, name: &str, case: &mut Case) {
+    match name {
+        "reading" => values::reading(case),
+        "writing" => values::writing(case),
+        "messages" => messages::messages(case),
+        "requests" => messages::requests(case),
+        "sweeps" => messages::sweeps(case),
+        "replies" => replies::replies(case),
+        "records" => records::records(case),
+        "generated" => records::generated(case),
+        _ => of_sessions(rt, name, case),
+    }
+}
+
+fn of_sessions(rt: &HostRuntime, name: &str, case: &mut Case) {
+    match name {
+        "users" => sessions::users(case),
+        "digests" => sessions::digests(case),
+        "receiving" => windows::receiving(case),
+        "against" => windows::against(case),
+        "sending" => windows::sending(case),
+        "sessions" => sessions::sessions(case),
+        "links" | "rounds" | "clocks" => live::lives(case),
+        "wakes" => live::wakes(case),
+        _ => of_the_outside(rt, name, case),
+    }
+}
+
+fn of_the_outside(rt: &HostRuntime, name: &str, case: &mut Case) {
+    match name {
+        "outside" => outside::outside(case, rt),
+        "files" => files::files(case),
+        "system_files" => files::system_files(case, rt),
+        "sinks" => files::sinks(case),
+        "writers" => files::writers(case),
+        _ => of_images(name, case),
+    }
+}
+
+fn of_images(name: &str, case: &mut Case) {
+    match name {
+        "decoding" => images::decoding(case),
+        "images" => images::images(case),
+        "verifying" => images::verifying(case),
+        "values" => images::values(case),
+        _ => case.fail(CaseFault::BadInput),
+    }
 }

@@ -1,104 +1,68 @@
-//! The table of messages: bytes, and the message that they are.
-use crate::inputs::{bytes_of, word};
-use dasp_msg::{Malformed, Msg, MsgKind, read_msg};
-use rows::Table;
-use std::alloc::Global;
-use std::io::{self, Write};
+//! Messages and requests as bytes.
+use dasp_msg::read_msg;
+use replay_log::Records;
+use rows::Case;
+use sox_msg::{number_of, read_request};
 
-pub struct Messages;
+/// The message that a datagram is.
+pub fn messages(case: &mut Case) {
+    let bytes = case.bytes();
+    case.show(&read_msg(bytes.as_slice()));
+}
 
-impl Table for Messages {
-    const NAME: &'static str = "messages";
+/// The number that the reply to a payload carries, and the request that it is.
+pub fn requests(case: &mut Case) {
+    let payload = case.bytes();
+    case.say(&number_of(payload.as_slice()));
+    case.put(b" ");
+    case.show(&read_request(payload.as_slice()));
+}
 
-    const INPUTS: usize = 1;
-
-    ghost INPUTS = { 1 };
-
-    fn outcome(&self, alloc: Global, inputs: &[Vec<u8>], out: &mut Vec<u8>) -> io::Result<()> {
-        let bytes = bytes_of(alloc, inputs[0].as_slice())?;
-        match read_msg(bytes.as_slice()) {
-            Ok(msg) => write_words(alloc, &msg, out),
-            Err(Malformed) => write!(out, "malformed"),
+/// The lengths at which a front of bytes is read, and for each of their places how many of the 255 other bytes are read
+/// there.
+pub fn sweeps(case: &mut Case) {
+    let form = case.text();
+    let mut bytes = case.bytes();
+    case.put(b"fronts");
+    for count in 0..bytes.len() {
+        if is_read(form.as_str(), &bytes[..count]) {
+            case.put(b" ");
+            case.say(&count);
         }
     }
-}
-
-// The message in words: its kind, receiver and number, and then what it says.
-fn write_words(alloc: Global, msg: &Msg<'_>, out: &mut Vec<u8>) -> io::Result<()> {
-    let kind = kind_word(msg.kind);
-    let to = msg.to;
-    let number = msg.sequence;
-    write!(out, "{kind} to {to}, number {number}")?;
-    write_greeting(alloc, msg, out)?;
-    write_window(alloc, msg, out)?;
-    if msg.payload.is_empty() {
-        return Ok(());
-    }
-    write_bytes(alloc, "payload", Some(msg.payload), out)
-}
-
-fn kind_word(kind: MsgKind) -> &'static str {
-    match kind {
-        MsgKind::Hello => "hello",
-        MsgKind::Challenge => "challenge",
-        MsgKind::Authenticate => "authenticate",
-        MsgKind::Welcome => "welcome",
-        MsgKind::KeepAlive => "keepAlive",
-        MsgKind::Datagram => "datagram",
-        MsgKind::Close => "close",
+    case.put(b"; changes");
+    for place in 0..bytes.len() {
+        case.put(b" ");
+        case.say(&count_changes(form.as_str(), bytes.as_mut_slice(), place));
     }
 }
 
-// What serves to take up a session.
-fn write_greeting(alloc: Global, msg: &Msg<'_>, out: &mut Vec<u8>) -> io::Result<()> {
-    write_number("version", msg.version, out)?;
-    write_number("remote id", msg.remote_id, out)?;
-    write_text("algorithm", msg.algorithm, out)?;
-    write_bytes(alloc, "nonce", msg.nonce, out)?;
-    write_text("username", msg.username, out)?;
-    write_bytes(alloc, "digest", msg.digest, out)
-}
-
-// What serves to keep one up and to end it.
-fn write_window(alloc: Global, msg: &Msg<'_>, out: &mut Vec<u8>) -> io::Result<()> {
-    write_number("ideal max", msg.ideal_max, out)?;
-    write_number("abs max", msg.abs_max, out)?;
-    write_number("ack", msg.ack, out)?;
-    write_bytes(alloc, "ack more", msg.ack_more, out)?;
-    write_number("receive max", msg.receive_max, out)?;
-    write_number("receive timeout", msg.receive_timeout, out)?;
-    write_number("error code", msg.error_code, out)?;
-    write_text("platform", msg.platform_id, out)
-}
-
-fn write_number(name: &str, number: Option<u16>, out: &mut Vec<u8>) -> io::Result<()> {
-    match number {
-        Some(number) => write!(out, ", {name} {number}"),
-        None => Ok(()),
+fn is_read(form: &str, bytes: &[u8]) -> bool {
+    match form {
+        "message" => read_msg(bytes).is_ok(),
+        "request" => read_request(bytes).is_ok(),
+        _ => Records::open(bytes).is_ok(),
     }
 }
 
-fn write_text(name: &str, text: Option<&[u8]>, out: &mut Vec<u8>) -> io::Result<()> {
-    match text {
-        Some(text) => {
-            let text = word(text);
-            write!(out, ", {name} <{text}>")
+// How many of the other bytes are read at a place, which is left as it was.
+fn count_changes(form: &str, bytes: &mut [u8], place: usize) -> u8 {
+    let right = put_byte(bytes, place, 0);
+    let mut count = 0u8;
+    for byte in 0..=255u8 {
+        put_byte(bytes, place, byte);
+        if byte != right && is_read(form, bytes) {
+            count = count.saturating_add(1);
         }
-        None => Ok(()),
     }
+    put_byte(bytes, place, right);
+    count
 }
 
-fn write_bytes(
-    alloc: Global,
-    name: &str,
-    bytes: Option<&[u8]>,
-    out: &mut Vec<u8>,
-) -> io::Result<()> {
-    match bytes {
-        Some(bytes) => {
-            let bytes = hex::encode(alloc, bytes)?;
-            write!(out, ", {name} <{bytes}>")
-        }
-        None => Ok(()),
+/// Puts a byte into a place, if there is such a place, and gives the one that stood there.
+pub fn put_byte(bytes: &mut [u8], place: usize, byte: u8) -> u8 {
+    match bytes.get_mut(place) {
+        Some(slot) => std::mem::replace(slot, byte),
+        None => 0,
     }
 }

@@ -8,8 +8,9 @@ ghost use Rattle.sed_parser.specs.Next as next;
 ghost use Rattle.sed_parser.specs.Statements as statements;
 ghost use Rattle.sed_parser.specs.Halts.{Gives, Makes};
 
+use crate::boxed::{Boxed, push};
 use crate::halt::Halt;
-use crate::parser::Parser;
+use crate::parser::{Parser, made_classes as made};
 use sed_units::{
     Class, Facet, Init, Member, MemberForm, Modifier, ModifierWord, Param, Stmt, TypeName,
 };
@@ -30,7 +31,7 @@ trait Item: Drop {
     fn goes(parser: &Parser) -> bool
         ensures { result ≡ goes_at parser.now };
 
-    fn read(alloc: Global, parser: &mut Parser) -> Result<Self, Halt>
+    fn read(alloc: Global, parser: &mut Parser) -> Result<Boxed<Self>, Halt>
         ensures { Gives result parser.new (item_at parser.old) };
 }
 
@@ -43,7 +44,7 @@ impl Item for Facet {
         parser.is_mark(b"@")
     }
 
-    fn read(alloc: Global, parser: &mut Parser) -> Result<Facet, Halt> {
+    fn read(alloc: Global, parser: &mut Parser) -> Result<Boxed<Facet>, Halt> {
         parser.facet(alloc)
     }
 }
@@ -57,8 +58,8 @@ impl Item for Modifier {
         parser.peek::<ModifierWord>().is_some()
     }
 
-    fn read(_: Global, parser: &mut Parser) -> Result<Modifier, Halt> {
-        parser.modifier()
+    fn read(alloc: Global, parser: &mut Parser) -> Result<Boxed<Modifier>, Halt> {
+        parser.modifier(alloc)
     }
 }
 
@@ -71,7 +72,7 @@ impl Item for Param {
         parser.is_mark(b",")
     }
 
-    fn read(alloc: Global, parser: &mut Parser) -> Result<Param, Halt> {
+    fn read(alloc: Global, parser: &mut Parser) -> Result<Boxed<Param>, Halt> {
         parser.next_param(alloc)
     }
 }
@@ -85,7 +86,7 @@ impl Item for Stmt {
         parser.is_statement()
     }
 
-    fn read(alloc: Global, parser: &mut Parser) -> Result<Stmt, Halt> {
+    fn read(alloc: Global, parser: &mut Parser) -> Result<Boxed<Stmt>, Halt> {
         parser.statement(alloc, MOST_NESTING)
     }
 }
@@ -99,7 +100,7 @@ impl Item for Member {
         !parser.is_mark(b"}")
     }
 
-    fn read(alloc: Global, parser: &mut Parser) -> Result<Member, Halt> {
+    fn read(alloc: Global, parser: &mut Parser) -> Result<Boxed<Member>, Halt> {
         parser.member(alloc)
     }
 }
@@ -113,7 +114,7 @@ impl Item for Class {
         !parser.is_end()
     }
 
-    fn read(alloc: Global, parser: &mut Parser) -> Result<Class, Halt> {
+    fn read(alloc: Global, parser: &mut Parser) -> Result<Boxed<Class>, Halt> {
         parser.class(alloc)
     }
 }
@@ -129,7 +130,7 @@ fn all<T: Item>(alloc: Global, parser: &mut Parser) -> Result<Items<T>, Halt>
             return Ok(Items::new(items));
         }
         let next = T::read(alloc, parser)?;
-        items.push(next)?;
+        push(&mut items, next)?;
     }
     if !T::goes(parser) {
         return Ok(Items::new(items));
@@ -137,13 +138,13 @@ fn all<T: Item>(alloc: Global, parser: &mut Parser) -> Result<Items<T>, Halt>
     Err(Halt::Fault)
 }
 
-// The first parameter, in front of the others.
-fn with_first(alloc: Global, first: Param, others: Items<Param>) -> Result<Items<Param>, Halt>
+// The first item, in front of the others.
+fn with_first<T: Drop>(first: Boxed<T>, others: Items<T>) -> Result<Items<T>, Halt>
     ensures { Makes result (first ∷ others) }
 {
-    let mut params = others.into_vec();
-    params.insert(0, first)?;
-    Ok(Items::new(params))
+    let mut items = others.into_vec();
+    items.insert(0, first.into_inner())?;
+    Ok(Items::new(items))
 }
 
 impl<'a> Parser<'a> {
@@ -162,7 +163,7 @@ impl<'a> Parser<'a> {
     }
 
     #[tactic(auto, unfolding(crate::specs::Classes::next_param))]
-    fn next_param(&mut self, alloc: Global) -> Result<Param, Halt>
+    fn next_param(&mut self, alloc: Global) -> Result<Boxed<Param>, Halt>
         ensures { Gives result self.new (grammar.next_param.reads self.old) }
     {
         self.mark(b",")?;
@@ -188,7 +189,7 @@ impl<'a> Parser<'a> {
         let first = self.param(alloc)?;
         let others = self.more_params(alloc)?;
         self.mark(b")")?;
-        with_first(alloc, first, others)
+        with_first(first, others)
     }
 
     #[tactic(auto, unfolding(crate::specs::Classes::own_statements, crate::specs::Statements::statements))]
@@ -213,16 +214,16 @@ impl<'a> Parser<'a> {
     }
 
     #[tactic(auto, unfolding(crate::specs::Classes::method))]
-    fn method(&mut self, alloc: Global) -> Result<MemberForm, Halt>
+    fn method(&mut self, alloc: Global) -> Result<Boxed<MemberForm>, Halt>
         ensures { Gives result self.new (grammar.method.reads self.old) }
     {
         let params = self.params(alloc)?;
         let body = self.body(alloc)?;
-        Ok(MemberForm::Method(params, body))
+        made::method(alloc, params, body)
     }
 
     #[tactic(auto, unfolding(crate::specs::Classes::field_value))]
-    fn field_value(&mut self, alloc: Global) -> Result<Option<Init>, Halt>
+    fn field_value(&mut self, alloc: Global) -> Result<Option<Boxed<Init>>, Halt>
         ensures { Gives result self.new (grammar.field_value.reads self.old) }
     {
         if !self.is_mark(b"=") {
@@ -234,7 +235,7 @@ impl<'a> Parser<'a> {
     }
 
     #[tactic(auto, unfolding(crate::specs::Classes::member_form))]
-    fn member_form(&mut self, alloc: Global) -> Result<MemberForm, Halt>
+    fn member_form(&mut self, alloc: Global) -> Result<Boxed<MemberForm>, Halt>
         ensures { Gives result self.new (grammar.member_form.reads self.old) }
     {
         if self.is_mark(b"(") {
@@ -242,11 +243,11 @@ impl<'a> Parser<'a> {
         }
         let value = self.field_value(alloc)?;
         self.end()?;
-        Ok(MemberForm::Field(value))
+        made::field(alloc, value)
     }
 
     #[tactic(auto, unfolding(crate::specs::Classes::member))]
-    fn member(&mut self, alloc: Global) -> Result<Member, Halt>
+    fn member(&mut self, alloc: Global) -> Result<Boxed<Member>, Halt>
         ensures { Gives result self.new (grammar.member.reads self.old) }
     {
         let at = self.start();
@@ -255,14 +256,7 @@ impl<'a> Parser<'a> {
         let kind = self.type_of(alloc)?;
         let name = self.ident(alloc)?;
         let form = self.member_form(alloc)?;
-        Ok(Member {
-            at,
-            facets,
-            modifiers,
-            kind,
-            name,
-            form,
-        })
+        made::member(alloc, at, facets, modifiers, kind, name, form)
     }
 
     #[tactic(auto, unfolding(crate::specs::Classes::members))]
@@ -273,7 +267,7 @@ impl<'a> Parser<'a> {
     }
 
     #[tactic(auto, unfolding(crate::specs::Classes::base))]
-    fn base(&mut self, alloc: Global) -> Result<Option<TypeName>, Halt>
+    fn base(&mut self, alloc: Global) -> Result<Option<Boxed<TypeName>>, Halt>
         ensures { Gives result self.new (grammar.base.reads self.old) }
     {
         if !self.is_key(b"extends") {
@@ -281,11 +275,12 @@ impl<'a> Parser<'a> {
         }
         self.key(b"extends")?;
         let name = self.type_name(alloc)?;
-        Ok(Some(name))
+        let base = Boxed::new(alloc, name)?;
+        Ok(Some(base))
     }
 
     #[tactic(auto, unfolding(crate::specs::Classes::class))]
-    fn class(&mut self, alloc: Global) -> Result<Class, Halt>
+    fn class(&mut self, alloc: Global) -> Result<Boxed<Class>, Halt>
         ensures { Gives result self.new (grammar.class.reads self.old) }
     {
         let at = self.start();
@@ -297,14 +292,7 @@ impl<'a> Parser<'a> {
         self.mark(b"{")?;
         let members = self.members(alloc)?;
         self.mark(b"}")?;
-        Ok(Class {
-            at,
-            facets,
-            modifiers,
-            name,
-            base,
-            members,
-        })
+        made::class(alloc, at, facets, modifiers, name, base, members)
     }
 
     #[tactic(auto, unfolding(crate::specs::Classes::classes))]

@@ -1,13 +1,12 @@
 // Expressions.
 ghost use Rattle.std.specs.Prelude.{◌≡◌, ◌≤◌, ◌<◌, ◌-◌};
 ghost use Rattle.sed_parser.specs.Expressions as grammar;
-ghost use Rattle.sed_units.specs.Tree as tree;
-ghost use Rattle.sed_units.specs.declared.label.Label.TheVariants as label;
-ghost use Rattle.sed_parser.specs.Halts.{Gives, Makes};
+ghost use Rattle.sed_parser.specs.Halts.{Gives};
 
+use crate::boxed::{Boxed, push};
 use crate::halt::Halt;
-use crate::parser::Parser;
-use sed_units::{AssignOp, Expr, Link, Node, PrefixOp, Step, UpdateOp};
+use crate::parser::{Parser, made_expressions as made};
+use sed_units::{AssignOp, Expr, Link, PrefixOp, UpdateOp};
 use sed_value::{Items, Prim};
 use std::alloc::Global;
 
@@ -18,83 +17,6 @@ const CONDITIONAL: usize = 12;
 
 const PREFIX: usize = 1;
 
-fn chain(alloc: Global, at: usize, first: Expr, links: Items<Link>) -> Result<Expr, Halt>
-    ensures { Makes result (grammar.chain at first links) }
-{
-    let links = links.into_vec();
-    if links.is_empty() {
-        return Ok(first);
-    }
-    let first = Box::new(alloc, first)?;
-    Ok(Expr {
-        at,
-        node: Node::Chain(first, links),
-    })
-}
-
-fn paren(alloc: Global, at: usize, e: Expr) -> Result<Expr, Halt>
-    ensures { Makes result (tree.Part (label.Paren at) e tree.Absent) }
-{
-    let e = Box::new(alloc, e)?;
-    Ok(Expr {
-        at,
-        node: Node::Paren(e),
-    })
-}
-
-fn prefix(alloc: Global, at: usize, op: PrefixOp, e: Expr) -> Result<Expr, Halt>
-    ensures { Makes result (tree.Part (label.Prefix at op) e tree.Absent) }
-{
-    let e = Box::new(alloc, e)?;
-    Ok(Expr {
-        at,
-        node: Node::Prefix(op, e),
-    })
-}
-
-fn cast(alloc: Global, at: usize, kind: Prim, e: Expr) -> Result<Expr, Halt>
-    ensures { Makes result (tree.Part (label.Cast at kind) e tree.Absent) }
-{
-    let e = Box::new(alloc, e)?;
-    Ok(Expr {
-        at,
-        node: Node::Cast(kind, e),
-    })
-}
-
-fn update(alloc: Global, at: usize, op: UpdateOp, e: Expr) -> Result<Expr, Halt>
-    ensures { Makes result (tree.Part (label.Update at op) e tree.Absent) }
-{
-    let e = Box::new(alloc, e)?;
-    Ok(Expr {
-        at,
-        node: Node::Update(op, e),
-    })
-}
-
-fn choice(alloc: Global, at: usize, c: Expr, a: Expr, b: Expr) -> Result<Expr, Halt>
-    ensures { Makes result (tree.Part (label.Conditional at) c (tree.Part label.Both a b)) }
-{
-    let c = Box::new(alloc, c)?;
-    let a = Box::new(alloc, a)?;
-    let b = Box::new(alloc, b)?;
-    Ok(Expr {
-        at,
-        node: Node::Conditional(c, a, b),
-    })
-}
-
-fn assign(alloc: Global, at: usize, op: AssignOp, target: Expr, value: Expr) -> Result<Expr, Halt>
-    ensures { Makes result (tree.Part (label.Assign at op) target value) }
-{
-    let target = Box::new(alloc, target)?;
-    let value = Box::new(alloc, value)?;
-    Ok(Expr {
-        at,
-        node: Node::Assign(op, target, value),
-    })
-}
-
 impl<'a> Parser<'a> {
     /// An expression one construct deeper, where there is room.
     #[cycle(parsing)]
@@ -104,7 +26,7 @@ impl<'a> Parser<'a> {
         room: usize,
         level: usize,
         inside: bool,
-    ) -> Result<Expr, Halt>
+    ) -> Result<Boxed<Expr>, Halt>
         requires { level ≤ 13 }
         ensures { Gives result self.new ((grammar.deeper room level inside).reads self.old) }
     {
@@ -122,7 +44,7 @@ impl<'a> Parser<'a> {
         room: usize,
         level: usize,
         inside: bool,
-    ) -> Result<Expr, Halt>
+    ) -> Result<Boxed<Expr>, Halt>
         requires { level ≤ 13 }
         ensures { Gives result self.new ((grammar.expression room level inside).reads self.old) }
     {
@@ -143,7 +65,7 @@ impl<'a> Parser<'a> {
 
     #[cycle(parsing)]
     #[tactic(auto, unfolding(crate::specs::Expressions::assigned))]
-    fn assigned(&mut self, alloc: Global, room: usize, inside: bool) -> Result<Expr, Halt>
+    fn assigned(&mut self, alloc: Global, room: usize, inside: bool) -> Result<Boxed<Expr>, Halt>
         ensures { Gives result self.new
             ((grammar.assigned (grammar.deeper room) inside (grammar.expression room 12 inside)).reads self.old) }
     {
@@ -154,12 +76,12 @@ impl<'a> Parser<'a> {
         }
         let op = self.take::<AssignOp>()?;
         let value = self.deeper(alloc, room, WHOLE, inside)?;
-        assign(alloc, at, op, target, value)
+        made::assign(alloc, at, op, target, value)
     }
 
     #[cycle(parsing)]
     #[tactic(auto, unfolding(crate::specs::Expressions::conditional))]
-    fn conditional(&mut self, alloc: Global, room: usize, inside: bool) -> Result<Expr, Halt>
+    fn conditional(&mut self, alloc: Global, room: usize, inside: bool) -> Result<Boxed<Expr>, Halt>
         ensures { Gives result self.new
             ((grammar.conditional (grammar.deeper room) inside (grammar.expression room 11 inside)).reads self.old) }
     {
@@ -172,12 +94,12 @@ impl<'a> Parser<'a> {
         let second = self.deeper(alloc, room, WHOLE, inside)?;
         self.mark(b":")?;
         let third = self.deeper(alloc, room, CONDITIONAL, inside)?;
-        choice(alloc, at, first, second, third)
+        made::choice(alloc, at, first, second, third)
     }
 
     #[cycle(parsing)]
     #[tactic(auto, unfolding(crate::specs::Expressions::prefixed))]
-    fn prefixed(&mut self, alloc: Global, room: usize, inside: bool) -> Result<Expr, Halt>
+    fn prefixed(&mut self, alloc: Global, room: usize, inside: bool) -> Result<Boxed<Expr>, Halt>
         ensures { Gives result self.new
             ((grammar.prefixed (grammar.deeper room) inside (grammar.expression room 0 inside)).reads self.old) }
     {
@@ -186,7 +108,7 @@ impl<'a> Parser<'a> {
             let op = self.take::<PrefixOp>()?;
             self.onward(inside)?;
             let e = self.deeper(alloc, room, PREFIX, inside)?;
-            return prefix(alloc, at, op, e);
+            return made::prefix(alloc, at, op, e);
         }
         if self.is_mark(b"(") && self.is_second_prim() {
             self.mark(b"(")?;
@@ -194,7 +116,7 @@ impl<'a> Parser<'a> {
             self.mark(b")")?;
             self.onward(inside)?;
             let e = self.deeper(alloc, room, PREFIX, inside)?;
-            return cast(alloc, at, kind, e);
+            return made::cast(alloc, at, kind, e);
         }
         self.expression(alloc, room, 0, inside)
     }
@@ -207,7 +129,7 @@ impl<'a> Parser<'a> {
         room: usize,
         level: usize,
         inside: bool,
-    ) -> Result<Expr, Halt>
+    ) -> Result<Boxed<Expr>, Halt>
         requires above { 1 < level }
         requires below { level < 12 }
         ensures { Gives result self.new
@@ -216,7 +138,7 @@ impl<'a> Parser<'a> {
         let at = self.start();
         let first = self.expression(alloc, room, level - 1, inside)?;
         let links = self.operand_links(alloc, room, level, inside)?;
-        chain(alloc, at, first, links)
+        made::chain(alloc, at, first, links)
     }
 
     #[cycle(parsing)]
@@ -239,7 +161,7 @@ impl<'a> Parser<'a> {
                 return Ok(Items::new(links));
             }
             let next = self.operand(alloc, room, level, inside)?;
-            links.push(next)?;
+            push(&mut links, next)?;
         }
         if !self.is_operand(inside, level) {
             return Ok(Items::new(links));
@@ -255,7 +177,7 @@ impl<'a> Parser<'a> {
         room: usize,
         level: usize,
         inside: bool,
-    ) -> Result<Link, Halt>
+    ) -> Result<Boxed<Link>, Halt>
         requires above { 1 < level }
         requires below { level < 12 }
         ensures { Gives result self.new
@@ -264,15 +186,12 @@ impl<'a> Parser<'a> {
         let at = self.start();
         let op = self.binary_op(level)?;
         let e = self.expression(alloc, room, level - 1, inside)?;
-        Ok(Link {
-            at,
-            step: Step::Operand(op, e),
-        })
+        made::operand_step(alloc, at, op, e)
     }
 
     #[cycle(parsing)]
     #[tactic(auto, unfolding(crate::specs::Expressions::postfix))]
-    fn postfix(&mut self, alloc: Global, room: usize, inside: bool) -> Result<Expr, Halt>
+    fn postfix(&mut self, alloc: Global, room: usize, inside: bool) -> Result<Boxed<Expr>, Halt>
         ensures { Gives result self.new ((grammar.postfix (grammar.deeper room) inside).reads self.old) }
     {
         let at = self.start();
@@ -280,10 +199,10 @@ impl<'a> Parser<'a> {
         let links = self.access_links(alloc, room, inside)?;
         if self.goes(inside) && self.peek::<UpdateOp>().is_some() {
             let op = self.take::<UpdateOp>()?;
-            let e = chain(alloc, at, first, links)?;
-            return update(alloc, at, op, e);
+            let e = made::chain(alloc, at, first, links)?;
+            return made::update(alloc, at, op, e);
         }
-        chain(alloc, at, first, links)
+        made::chain(alloc, at, first, links)
     }
 
     #[cycle(parsing)]
@@ -302,7 +221,7 @@ impl<'a> Parser<'a> {
                 return Ok(Items::new(links));
             }
             let next = self.access(alloc, room, inside)?;
-            links.push(next)?;
+            push(&mut links, next)?;
         }
         if !self.is_access(inside) {
             return Ok(Items::new(links));
@@ -312,7 +231,7 @@ impl<'a> Parser<'a> {
 
     #[cycle(parsing)]
     #[tactic(auto, unfolding(crate::specs::Expressions::access))]
-    fn access(&mut self, alloc: Global, room: usize, inside: bool) -> Result<Link, Halt>
+    fn access(&mut self, alloc: Global, room: usize, inside: bool) -> Result<Boxed<Link>, Halt>
         ensures { Gives result self.new ((grammar.access (grammar.deeper room) inside).reads self.old) }
     {
         let at = self.start();
@@ -320,30 +239,21 @@ impl<'a> Parser<'a> {
             self.mark(b"[")?;
             let e = self.deeper(alloc, room, WHOLE, true)?;
             self.mark(b"]")?;
-            return Ok(Link {
-                at,
-                step: Step::Index(e),
-            });
+            return made::index_step(alloc, at, e);
         }
         self.mark(b".")?;
         self.onward(inside)?;
         let name = self.ident(alloc)?;
         if self.goes_mark(inside, b"(") {
             let args = self.arguments(alloc, room)?;
-            return Ok(Link {
-                at,
-                step: Step::Method(name, args.into_vec()),
-            });
+            return made::method_step(alloc, at, name, args);
         }
-        Ok(Link {
-            at,
-            step: Step::Member(name),
-        })
+        made::member_step(alloc, at, name)
     }
 
     #[cycle(parsing)]
     #[tactic(auto, unfolding(crate::specs::Expressions::primary))]
-    fn primary(&mut self, alloc: Global, room: usize, inside: bool) -> Result<Expr, Halt>
+    fn primary(&mut self, alloc: Global, room: usize, inside: bool) -> Result<Boxed<Expr>, Halt>
         ensures { Gives result self.new ((grammar.primary (grammar.deeper room) inside).reads self.old) }
     {
         let at = self.start();
@@ -354,46 +264,33 @@ impl<'a> Parser<'a> {
             self.mark(b"(")?;
             let e = self.deeper(alloc, room, WHOLE, true)?;
             self.mark(b")")?;
-            return paren(alloc, at, e);
+            return made::paren(alloc, at, e);
         }
         if self.is_key(b"super") {
             let name = self.super_name(alloc, inside)?;
             let args = self.arguments(alloc, room)?;
-            return Ok(Expr {
-                at,
-                node: Node::Super(name, args.into_vec()),
-            });
+            return made::super_call(alloc, at, name, args);
         }
         self.named(alloc, room, inside)
     }
 
     #[cycle(parsing)]
     #[tactic(auto, unfolding(crate::specs::Expressions::named))]
-    fn named(&mut self, alloc: Global, room: usize, inside: bool) -> Result<Expr, Halt>
+    fn named(&mut self, alloc: Global, room: usize, inside: bool) -> Result<Boxed<Expr>, Halt>
         ensures { Gives result self.new ((grammar.named (grammar.deeper room) inside).reads self.old) }
     {
         let first = self.ident(alloc)?;
-        let at = first.at;
         if self.goes_mark(inside, b"::") {
             self.mark(b"::")?;
             self.onward(inside)?;
             let second = self.ident(alloc)?;
-            return Ok(Expr {
-                at,
-                node: Node::Of(first, second),
-            });
+            return made::name_of_kit(alloc, first, second);
         }
         if self.goes_mark(inside, b"(") {
             let args = self.arguments(alloc, room)?;
-            return Ok(Expr {
-                at,
-                node: Node::Call(first, args.into_vec()),
-            });
+            return made::call(alloc, first, args);
         }
-        Ok(Expr {
-            at,
-            node: Node::Name(first),
-        })
+        made::name(alloc, first)
     }
 
     #[cycle(parsing)]
@@ -417,19 +314,19 @@ impl<'a> Parser<'a> {
         &mut self,
         alloc: Global,
         room: usize,
-        first: Expr,
+        first: Boxed<Expr>,
     ) -> Result<Items<Expr>, Halt>
         ensures { Gives result self.new ((grammar.more_arguments (grammar.deeper room) first).reads self.old) }
     {
         let mut args = Vec::new(alloc);
-        args.push(first)?;
+        push(&mut args, first)?;
         let most = self.left();
         for _ in 0..most {
             if !self.is_mark(b",") {
                 return Ok(Items::new(args));
             }
             let next = self.next_argument(alloc, room)?;
-            args.push(next)?;
+            push(&mut args, next)?;
         }
         if !self.is_mark(b",") {
             return Ok(Items::new(args));
@@ -439,7 +336,7 @@ impl<'a> Parser<'a> {
 
     #[cycle(parsing)]
     #[tactic(auto, unfolding(crate::specs::Expressions::next_argument))]
-    fn next_argument(&mut self, alloc: Global, room: usize) -> Result<Expr, Halt>
+    fn next_argument(&mut self, alloc: Global, room: usize) -> Result<Boxed<Expr>, Halt>
         ensures { Gives result self.new ((grammar.next_argument (grammar.deeper room)).reads self.old) }
     {
         self.mark(b",")?;

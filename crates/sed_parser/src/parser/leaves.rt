@@ -3,8 +3,9 @@ ghost use Rattle.std.specs.Prelude.{◌≡◌};
 ghost use Rattle.sed_parser.specs.Leaves as grammar;
 ghost use Rattle.sed_parser.specs.Halts.{Gives};
 
+use crate::boxed::Boxed;
 use crate::halt::Halt;
-use crate::parser::Parser;
+use crate::parser::{Parser, made_classes as made};
 use sed_units::{
     Base, Facet, Init, InitValue, Literal, LiteralKind, Modifier, ModifierWord, Param, Size,
     TypeName, TypeRef,
@@ -51,48 +52,50 @@ impl<'a> Parser<'a> {
     }
 
     #[tactic(auto, unfolding(crate::specs::Leaves::base_of_type))]
-    fn base_of_type(&mut self, alloc: Global) -> Result<Base, Halt>
+    fn base_of_type(&mut self, alloc: Global) -> Result<Boxed<Base>, Halt>
         ensures { Gives result self.new (grammar.base_of_type.reads self.old) }
     {
         if self.peek::<Prim>().is_some() {
             let word = self.take::<Prim>()?;
-            return Ok(Base::Primitive(word));
+            return Boxed::new(alloc, Base::Primitive(word));
         }
         if self.is_key(b"void") {
             self.key(b"void")?;
-            return Ok(Base::Void);
+            return Boxed::new(alloc, Base::Void);
         }
         let name = self.type_name(alloc)?;
-        Ok(Base::Named(name))
+        Boxed::new(alloc, Base::Named(name))
     }
 
     #[tactic(auto, unfolding(crate::specs::Leaves::size_of_type))]
-    fn size_of_type(&mut self, alloc: Global) -> Result<Option<Size>, Halt>
+    fn size_of_type(&mut self, alloc: Global) -> Result<Option<Boxed<Size>>, Halt>
         ensures { Gives result self.new (grammar.size_of_type.reads self.old) }
     {
         if self.is_mark(b"(") {
             self.mark(b"(")?;
             let n = self.integer(alloc)?;
             self.mark(b")")?;
-            return Ok(Some(Size::Parens(n)));
+            let size = Boxed::new(alloc, Size::Parens(n))?;
+            return Ok(Some(size));
         }
         if self.is_mark(b"[") {
             self.mark(b"[")?;
             let n = self.integer(alloc)?;
             self.mark(b"]")?;
-            return Ok(Some(Size::Brackets(n)));
+            let size = Boxed::new(alloc, Size::Brackets(n))?;
+            return Ok(Some(size));
         }
         Ok(None)
     }
 
     #[tactic(auto, unfolding(crate::specs::Leaves::type_of))]
-    pub fn type_of(&mut self, alloc: Global) -> Result<TypeRef, Halt>
+    pub fn type_of(&mut self, alloc: Global) -> Result<Boxed<TypeRef>, Halt>
         ensures { Gives result self.new (grammar.type_of.reads self.old) }
     {
         let at = self.start();
         let base = self.base_of_type(alloc)?;
         let size = self.size_of_type(alloc)?;
-        Ok(TypeRef { at, base, size })
+        made::type_ref(alloc, at, base, size)
     }
 
     #[tactic(auto, unfolding(crate::specs::Leaves::facet_value))]
@@ -108,58 +111,64 @@ impl<'a> Parser<'a> {
     }
 
     #[tactic(auto, unfolding(crate::specs::Leaves::facet))]
-    pub fn facet(&mut self, alloc: Global) -> Result<Facet, Halt>
+    pub fn facet(&mut self, alloc: Global) -> Result<Boxed<Facet>, Halt>
         ensures { Gives result self.new (grammar.facet.reads self.old) }
     {
         let at = self.start();
         self.mark(b"@")?;
         let name = self.ident(alloc)?;
         let value = self.facet_value(alloc)?;
-        Ok(Facet { at, name, value })
+        Boxed::new(alloc, Facet { at, name, value })
     }
 
     #[tactic(auto, unfolding(crate::specs::Leaves::modifier))]
-    pub fn modifier(&mut self) -> Result<Modifier, Halt>
+    pub fn modifier(&mut self, alloc: Global) -> Result<Boxed<Modifier>, Halt>
         ensures { Gives result self.new (grammar.modifier.reads self.old) }
     {
         let at = self.start();
         let word = self.take::<ModifierWord>()?;
-        Ok(Modifier { at, word })
+        Boxed::new(alloc, Modifier { at, word })
     }
 
     #[tactic(auto, unfolding(crate::specs::Leaves::param))]
-    pub fn param(&mut self, alloc: Global) -> Result<Param, Halt>
+    pub fn param(&mut self, alloc: Global) -> Result<Boxed<Param>, Halt>
         ensures { Gives result self.new (grammar.param.reads self.old) }
     {
         let at = self.start();
         let kind = self.type_of(alloc)?;
         let name = self.ident(alloc)?;
-        Ok(Param { at, kind, name })
+        made::param(alloc, at, kind, name)
     }
 
     #[tactic(auto, unfolding(crate::specs::Leaves::init_value))]
-    fn init_value(&mut self, alloc: Global) -> Result<InitValue, Halt>
+    fn init_value(&mut self, alloc: Global) -> Result<Boxed<InitValue>, Halt>
         ensures { Gives result self.new (grammar.init_value.reads self.old) }
     {
         if self.is_mark(b"-") {
             self.mark(b"-")?;
             let value = self.literal(alloc)?;
-            return Ok(InitValue::Minus(value));
+            return Boxed::new(alloc, InitValue::Minus(value));
         }
         if self.peek::<LiteralKind>().is_some() {
             let value = self.literal(alloc)?;
-            return Ok(InitValue::Literal(value));
+            return Boxed::new(alloc, InitValue::Literal(value));
         }
         let name = self.ident(alloc)?;
-        Ok(InitValue::Name(name))
+        Boxed::new(alloc, InitValue::Name(name))
     }
 
     #[tactic(auto, unfolding(crate::specs::Leaves::initial))]
-    pub fn initial(&mut self, alloc: Global) -> Result<Init, Halt>
+    pub fn initial(&mut self, alloc: Global) -> Result<Boxed<Init>, Halt>
         ensures { Gives result self.new (grammar.initial.reads self.old) }
     {
         let at = self.start();
         let value = self.init_value(alloc)?;
-        Ok(Init { at, value })
+        Boxed::new(
+            alloc,
+            Init {
+                at,
+                value: value.into_inner(),
+            },
+        )
     }
 }

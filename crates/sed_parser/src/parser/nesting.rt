@@ -1,37 +1,19 @@
 // Statements with others within them.
 ghost use Rattle.std.specs.Prelude.{◌≡◌};
 ghost use Rattle.sed_parser.specs.Statements as grammar;
-ghost use Rattle.sed_units.specs.Tree as tree;
-ghost use Rattle.sed_units.specs.declared.label.Label.TheVariants as label;
 ghost use Rattle.sed_parser.specs.Halts.{Gives};
 
-use crate::boxed::Boxed;
+use crate::boxed::{Boxed, push};
 use crate::halt::Halt;
-use crate::parser::Parser;
-use sed_units::{Case, Expr, Form, Stmt};
+use crate::parser::{Parser, made_statements as made};
+use sed_units::{Case, Stmt};
 use sed_value::Items;
 use std::alloc::Global;
-
-fn choice(at: usize, c: Expr, s: Boxed<Stmt>, other: Option<Boxed<Stmt>>) -> Stmt
-    ensures { result ≡ tree.Part (label.If at) c (tree.Part label.Both s (tree.optional other)) }
-{
-    let s = s.into_box();
-    match other {
-        Some(t) => Stmt {
-            at,
-            form: Form::IfElse(c, s, t.into_box()),
-        },
-        None => Stmt {
-            at,
-            form: Form::If(c, s),
-        },
-    }
-}
 
 impl<'a> Parser<'a> {
     // A statement within another one, where there is room.
     #[cycle(nesting)]
-    fn inner(&mut self, alloc: Global, room: usize) -> Result<Stmt, Halt>
+    fn inner(&mut self, alloc: Global, room: usize) -> Result<Boxed<Stmt>, Halt>
         ensures { Gives result self.new ((grammar.inner room).reads self.old) }
     {
         if room == 0 {
@@ -40,19 +22,10 @@ impl<'a> Parser<'a> {
         self.statement(alloc, room - 1)
     }
 
-    // The same, in a place of its own.
-    #[cycle(nesting)]
-    fn within(&mut self, alloc: Global, room: usize) -> Result<Boxed<Stmt>, Halt>
-        ensures { Gives result self.new ((grammar.inner room).reads self.old) }
-    {
-        let s = self.inner(alloc, room)?;
-        Boxed::new(alloc, s)
-    }
-
     /// A statement in which so many constructs may be opened.
     #[cycle(nesting)]
     #[tactic(auto, unfolding(crate::specs::Statements::statement_of))]
-    pub fn statement(&mut self, alloc: Global, room: usize) -> Result<Stmt, Halt>
+    pub fn statement(&mut self, alloc: Global, room: usize) -> Result<Boxed<Stmt>, Halt>
         ensures { Gives result self.new ((grammar.statement room).reads self.old) }
     {
         if self.is_mark(b"{") {
@@ -66,7 +39,7 @@ impl<'a> Parser<'a> {
 
     #[cycle(nesting)]
     #[tactic(auto, unfolding(crate::specs::Statements::looped))]
-    fn looped(&mut self, alloc: Global, room: usize) -> Result<Stmt, Halt>
+    fn looped(&mut self, alloc: Global, room: usize) -> Result<Boxed<Stmt>, Halt>
         ensures { Gives result self.new ((grammar.looped room (grammar.inner room)).reads self.old) }
     {
         if self.is_key(b"while") {
@@ -86,17 +59,14 @@ impl<'a> Parser<'a> {
 
     #[cycle(nesting)]
     #[tactic(auto, unfolding(crate::specs::Statements::block))]
-    fn block(&mut self, alloc: Global, room: usize) -> Result<Stmt, Halt>
+    fn block(&mut self, alloc: Global, room: usize) -> Result<Boxed<Stmt>, Halt>
         ensures { Gives result self.new ((grammar.block (grammar.inner room)).reads self.old) }
     {
         let at = self.start();
         self.mark(b"{")?;
         let ss = self.inner_statements(alloc, room)?;
         self.mark(b"}")?;
-        Ok(Stmt {
-            at,
-            form: Form::Block(ss.into_vec()),
-        })
+        made::block(alloc, at, ss)
     }
 
     #[cycle(nesting)]
@@ -110,7 +80,7 @@ impl<'a> Parser<'a> {
                 return Ok(Items::new(all));
             }
             let next = self.inner(alloc, room)?;
-            all.push(next)?;
+            push(&mut all, next)?;
         }
         if !self.is_statement() {
             return Ok(Items::new(all));
@@ -120,15 +90,15 @@ impl<'a> Parser<'a> {
 
     #[cycle(nesting)]
     #[tactic(auto, unfolding(crate::specs::Statements::if_else))]
-    fn if_else(&mut self, alloc: Global, room: usize) -> Result<Stmt, Halt>
+    fn if_else(&mut self, alloc: Global, room: usize) -> Result<Boxed<Stmt>, Halt>
         ensures { Gives result self.new ((grammar.if_else room (grammar.inner room)).reads self.old) }
     {
         let at = self.start();
         self.key(b"if")?;
         let c = self.condition(alloc, room)?;
-        let s = self.within(alloc, room)?;
+        let s = self.inner(alloc, room)?;
         let other = self.other(alloc, room)?;
-        Ok(choice(at, c, s, other))
+        made::choice(alloc, at, c, s, other)
     }
 
     #[cycle(nesting)]
@@ -140,59 +110,50 @@ impl<'a> Parser<'a> {
             return Ok(None);
         }
         self.key(b"else")?;
-        let s = self.within(alloc, room)?;
+        let s = self.inner(alloc, room)?;
         Ok(Some(s))
     }
 
     #[cycle(nesting)]
     #[tactic(auto, unfolding(crate::specs::Statements::while_do))]
-    fn while_do(&mut self, alloc: Global, room: usize) -> Result<Stmt, Halt>
+    fn while_do(&mut self, alloc: Global, room: usize) -> Result<Boxed<Stmt>, Halt>
         ensures { Gives result self.new ((grammar.while_do room (grammar.inner room)).reads self.old) }
     {
         let at = self.start();
         self.key(b"while")?;
         let c = self.condition(alloc, room)?;
-        let s = self.within(alloc, room)?;
-        Ok(Stmt {
-            at,
-            form: Form::While(c, s.into_box()),
-        })
+        let s = self.inner(alloc, room)?;
+        made::while_do(alloc, at, c, s)
     }
 
     #[cycle(nesting)]
     #[tactic(auto, unfolding(crate::specs::Statements::do_while))]
-    fn do_while(&mut self, alloc: Global, room: usize) -> Result<Stmt, Halt>
+    fn do_while(&mut self, alloc: Global, room: usize) -> Result<Boxed<Stmt>, Halt>
         ensures { Gives result self.new ((grammar.do_while room (grammar.inner room)).reads self.old) }
     {
         let at = self.start();
         self.key(b"do")?;
-        let s = self.within(alloc, room)?;
+        let s = self.inner(alloc, room)?;
         self.key(b"while")?;
         let c = self.condition(alloc, room)?;
         self.end()?;
-        Ok(Stmt {
-            at,
-            form: Form::DoWhile(s.into_box(), c),
-        })
+        made::do_while(alloc, at, s, c)
     }
 
     #[cycle(nesting)]
     #[tactic(auto, unfolding(crate::specs::Statements::for_do))]
-    fn for_do(&mut self, alloc: Global, room: usize) -> Result<Stmt, Halt>
+    fn for_do(&mut self, alloc: Global, room: usize) -> Result<Boxed<Stmt>, Halt>
         ensures { Gives result self.new ((grammar.for_do room (grammar.inner room)).reads self.old) }
     {
         let at = self.start();
         let head = self.for_head(alloc, room)?;
-        let s = self.within(alloc, room)?;
-        Ok(Stmt {
-            at,
-            form: Form::For(head, s.into_box()),
-        })
+        let s = self.inner(alloc, room)?;
+        made::for_do(alloc, at, head, s)
     }
 
     #[cycle(nesting)]
     #[tactic(auto, unfolding(crate::specs::Statements::switch))]
-    fn switch(&mut self, alloc: Global, room: usize) -> Result<Stmt, Halt>
+    fn switch(&mut self, alloc: Global, room: usize) -> Result<Boxed<Stmt>, Halt>
         ensures { Gives result self.new ((grammar.switch room (grammar.inner room)).reads self.old) }
     {
         let at = self.start();
@@ -201,10 +162,7 @@ impl<'a> Parser<'a> {
         self.mark(b"{")?;
         let cases = self.cases(alloc, room)?;
         self.mark(b"}")?;
-        Ok(Stmt {
-            at,
-            form: Form::Switch(e, cases.into_vec()),
-        })
+        made::switch(alloc, at, e, cases)
     }
 
     #[cycle(nesting)]
@@ -218,7 +176,7 @@ impl<'a> Parser<'a> {
                 return Ok(Items::new(all));
             }
             let next = self.case_of(alloc, room)?;
-            all.push(next)?;
+            push(&mut all, next)?;
         }
         if !self.is_case() {
             return Ok(Items::new(all));
@@ -228,17 +186,13 @@ impl<'a> Parser<'a> {
 
     #[cycle(nesting)]
     #[tactic(auto, unfolding(crate::specs::Statements::case_of))]
-    fn case_of(&mut self, alloc: Global, room: usize) -> Result<Case, Halt>
+    fn case_of(&mut self, alloc: Global, room: usize) -> Result<Boxed<Case>, Halt>
         ensures { Gives result self.new ((grammar.case_of room (grammar.inner room)).reads self.old) }
     {
         let at = self.start();
         let label = self.case_label(alloc, room)?;
         self.mark(b":")?;
         let body = self.inner_statements(alloc, room)?;
-        Ok(Case {
-            at,
-            label,
-            body: body.into_vec(),
-        })
+        made::case(alloc, at, label, body)
     }
 }

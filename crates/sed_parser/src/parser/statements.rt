@@ -5,9 +5,10 @@ ghost use Rattle.sed_parser.specs.Expressions as expressions;
 ghost use Rattle.sed_parser.specs.Reading.{as_far};
 ghost use Rattle.sed_parser.specs.Halts.{Gives};
 
+use crate::boxed::Boxed;
 use crate::halt::Halt;
-use crate::parser::Parser;
-use sed_units::{Expr, ForFirst, ForHead, Form, Ident, Local, Stmt};
+use crate::parser::{Parser, made_statements as made};
+use sed_units::{Expr, ForFirst, ForHead, Ident, Local, Stmt};
 use std::alloc::Global;
 
 // The level of any expression.
@@ -34,7 +35,7 @@ impl<'a> Parser<'a> {
     }
 
     #[tactic(auto, unfolding(crate::specs::Statements::local_value))]
-    fn local_value(&mut self, alloc: Global, room: usize) -> Result<Option<Expr>, Halt>
+    fn local_value(&mut self, alloc: Global, room: usize) -> Result<Option<Boxed<Expr>>, Halt>
         ensures { Gives result self.new ((grammar.local_value (expressions.expression room 13 false)).reads self.old) }
     {
         if !self.is_mark(b"=") {
@@ -46,7 +47,7 @@ impl<'a> Parser<'a> {
     }
 
     #[tactic(auto, unfolding(crate::specs::Statements::local))]
-    fn local(&mut self, alloc: Global, room: usize) -> Result<Local, Halt>
+    fn local(&mut self, alloc: Global, room: usize) -> Result<Boxed<Local>, Halt>
         ensures { Gives result self.new ((grammar.local (expressions.expression room 13 false)).reads self.old) }
     {
         let at = self.start();
@@ -54,17 +55,12 @@ impl<'a> Parser<'a> {
         self.on_line()?;
         let name = self.ident(alloc)?;
         let value = self.local_value(alloc, room)?;
-        Ok(Local {
-            at,
-            kind,
-            name,
-            value,
-        })
+        made::local(alloc, at, kind, name, value)
     }
 
     // The same within brackets.
     #[tactic(auto, unfolding(crate::specs::Statements::local_value))]
-    fn inner_value(&mut self, alloc: Global, room: usize) -> Result<Option<Expr>, Halt>
+    fn inner_value(&mut self, alloc: Global, room: usize) -> Result<Option<Boxed<Expr>>, Halt>
         ensures { Gives result self.new ((grammar.local_value (expressions.deeper room 13 true)).reads self.old) }
     {
         if !self.is_mark(b"=") {
@@ -76,7 +72,7 @@ impl<'a> Parser<'a> {
     }
 
     #[tactic(auto, unfolding(crate::specs::Statements::local))]
-    fn inner_local(&mut self, alloc: Global, room: usize) -> Result<Local, Halt>
+    fn inner_local(&mut self, alloc: Global, room: usize) -> Result<Boxed<Local>, Halt>
         ensures { Gives result self.new ((grammar.local (expressions.deeper room 13 true)).reads self.old) }
     {
         let at = self.start();
@@ -84,16 +80,11 @@ impl<'a> Parser<'a> {
         self.on_line()?;
         let name = self.ident(alloc)?;
         let value = self.inner_value(alloc, room)?;
-        Ok(Local {
-            at,
-            kind,
-            name,
-            value,
-        })
+        made::local(alloc, at, kind, name, value)
     }
 
     #[tactic(auto, unfolding(crate::specs::Statements::return_value))]
-    fn return_value(&mut self, alloc: Global, room: usize) -> Result<Option<Expr>, Halt>
+    fn return_value(&mut self, alloc: Global, room: usize) -> Result<Option<Boxed<Expr>>, Halt>
         ensures { Gives result self.new ((grammar.return_value room).reads self.old) }
     {
         if self.is_mark(b";") || self.may_end() {
@@ -104,46 +95,42 @@ impl<'a> Parser<'a> {
     }
 
     #[tactic(auto, unfolding(crate::specs::Statements::return_statement))]
-    fn return_statement(&mut self, alloc: Global, room: usize) -> Result<Stmt, Halt>
+    fn return_statement(&mut self, alloc: Global, room: usize) -> Result<Boxed<Stmt>, Halt>
         ensures { Gives result self.new ((grammar.return_statement room).reads self.old) }
     {
         let at = self.start();
         self.key(b"return")?;
         let value = self.return_value(alloc, room)?;
         self.end()?;
-        Ok(Stmt {
-            at,
-            form: Form::Return(value),
-        })
+        made::give_back(alloc, at, value)
     }
 
     #[tactic(auto, unfolding(crate::specs::Statements::local_statement))]
-    fn local_statement(&mut self, alloc: Global, room: usize) -> Result<Stmt, Halt>
+    fn local_statement(&mut self, alloc: Global, room: usize) -> Result<Boxed<Stmt>, Halt>
         ensures { Gives result self.new ((grammar.local_statement room).reads self.old) }
     {
         let local = self.local(alloc, room)?;
         self.end()?;
-        Ok(Stmt {
-            at: local.at,
-            form: Form::Local(local),
-        })
+        made::local_statement(alloc, local)
     }
 
     #[tactic(auto, unfolding(crate::specs::Statements::expression_statement))]
-    fn expression_statement(&mut self, alloc: Global, room: usize) -> Result<Stmt, Halt>
+    fn expression_statement(&mut self, alloc: Global, room: usize) -> Result<Boxed<Stmt>, Halt>
         ensures { Gives result self.new ((grammar.expression_statement room).reads self.old) }
     {
         let at = self.start();
         let e = self.expression(alloc, room, WHOLE, false)?;
         self.end()?;
-        Ok(Stmt {
-            at,
-            form: Form::Evaluate(e),
-        })
+        made::evaluate(alloc, at, e)
     }
 
     // An expression where no local stands, since the head of one gets stuck at the other parser's place.
-    fn no_local(&mut self, alloc: Global, room: usize, ahead: &Parser<'a>) -> Result<Stmt, Halt>
+    fn no_local(
+        &mut self,
+        alloc: Global,
+        room: usize,
+        ahead: &Parser<'a>,
+    ) -> Result<Boxed<Stmt>, Halt>
         ensures { Gives result self.new (as_far ahead.now ((grammar.expression_statement room).reads self.old)) }
     {
         match self.expression_statement(alloc, room) {
@@ -157,7 +144,7 @@ impl<'a> Parser<'a> {
     }
 
     #[tactic(auto, unfolding(crate::specs::Statements::valued))]
-    fn valued(&mut self, alloc: Global, room: usize) -> Result<Stmt, Halt>
+    fn valued(&mut self, alloc: Global, room: usize) -> Result<Boxed<Stmt>, Halt>
         ensures { Gives result self.new ((grammar.valued room).reads self.old) }
     {
         if self.is_key(b"return") {
@@ -172,38 +159,29 @@ impl<'a> Parser<'a> {
     }
 
     #[tactic(auto, unfolding(crate::specs::Statements::plain))]
-    pub fn plain(&mut self, alloc: Global, room: usize) -> Result<Stmt, Halt>
+    pub fn plain(&mut self, alloc: Global, room: usize) -> Result<Boxed<Stmt>, Halt>
         ensures { Gives result self.new ((grammar.plain room).reads self.old) }
     {
         let at = self.start();
         if self.is_mark(b";") {
             self.mark(b";")?;
-            return Ok(Stmt {
-                at,
-                form: Form::Empty,
-            });
+            return made::empty(alloc, at);
         }
         if self.is_key(b"break") {
             self.key(b"break")?;
             self.end()?;
-            return Ok(Stmt {
-                at,
-                form: Form::Break,
-            });
+            return made::break_out(alloc, at);
         }
         if self.is_key(b"continue") {
             self.key(b"continue")?;
             self.end()?;
-            return Ok(Stmt {
-                at,
-                form: Form::Continue,
-            });
+            return made::go_on(alloc, at);
         }
         self.valued(alloc, room)
     }
 
     #[tactic(auto, unfolding(crate::specs::Statements::condition))]
-    pub fn condition(&mut self, alloc: Global, room: usize) -> Result<Expr, Halt>
+    pub fn condition(&mut self, alloc: Global, room: usize) -> Result<Boxed<Expr>, Halt>
         ensures { Gives result self.new ((grammar.condition room).reads self.old) }
     {
         self.mark(b"(")?;
@@ -213,21 +191,21 @@ impl<'a> Parser<'a> {
     }
 
     #[tactic(auto, unfolding(crate::specs::Statements::for_local))]
-    fn for_local(&mut self, alloc: Global, room: usize) -> Result<ForFirst, Halt>
+    fn for_local(&mut self, alloc: Global, room: usize) -> Result<Boxed<ForFirst>, Halt>
         ensures { Gives result self.new ((grammar.for_local room).reads self.old) }
     {
         let local = self.inner_local(alloc, room)?;
         self.mark(b";")?;
-        Ok(ForFirst::Local(local))
+        made::first_local(alloc, local)
     }
 
     #[tactic(auto, unfolding(crate::specs::Statements::for_evaluate))]
-    fn for_evaluate(&mut self, alloc: Global, room: usize) -> Result<ForFirst, Halt>
+    fn for_evaluate(&mut self, alloc: Global, room: usize) -> Result<Boxed<ForFirst>, Halt>
         ensures { Gives result self.new ((grammar.for_evaluate room).reads self.old) }
     {
         let e = self.deeper(alloc, room, WHOLE, true)?;
         self.mark(b";")?;
-        Ok(ForFirst::Evaluate(e))
+        made::first_evaluate(alloc, e)
     }
 
     // The same as `no_local` in the head of a `for`.
@@ -236,7 +214,7 @@ impl<'a> Parser<'a> {
         alloc: Global,
         room: usize,
         ahead: &Parser<'a>,
-    ) -> Result<ForFirst, Halt>
+    ) -> Result<Boxed<ForFirst>, Halt>
         ensures { Gives result self.new (as_far ahead.now ((grammar.for_evaluate room).reads self.old)) }
     {
         match self.for_evaluate(alloc, room) {
@@ -250,12 +228,12 @@ impl<'a> Parser<'a> {
     }
 
     #[tactic(auto, unfolding(crate::specs::Statements::for_first))]
-    fn for_first(&mut self, alloc: Global, room: usize) -> Result<ForFirst, Halt>
+    fn for_first(&mut self, alloc: Global, room: usize) -> Result<Boxed<ForFirst>, Halt>
         ensures { Gives result self.new ((grammar.for_first room).reads self.old) }
     {
         if self.is_mark(b";") {
             self.mark(b";")?;
-            return Ok(ForFirst::Nothing);
+            return made::no_first(alloc);
         }
         let mut ahead = self.again();
         match ahead.local_head(alloc) {
@@ -266,7 +244,7 @@ impl<'a> Parser<'a> {
     }
 
     #[tactic(auto, unfolding(crate::specs::Statements::for_start))]
-    fn for_start(&mut self, alloc: Global, room: usize) -> Result<ForFirst, Halt>
+    fn for_start(&mut self, alloc: Global, room: usize) -> Result<Boxed<ForFirst>, Halt>
         ensures { Gives result self.new ((grammar.for_start room).reads self.old) }
     {
         self.key(b"for")?;
@@ -275,7 +253,12 @@ impl<'a> Parser<'a> {
     }
 
     #[tactic(auto, unfolding(crate::specs::Statements::perhaps))]
-    fn perhaps(&mut self, alloc: Global, room: usize, stop: &[u8]) -> Result<Option<Expr>, Halt>
+    fn perhaps(
+        &mut self,
+        alloc: Global,
+        room: usize,
+        stop: &[u8],
+    ) -> Result<Option<Boxed<Expr>>, Halt>
         ensures { Gives result self.new ((grammar.perhaps room stop.now).reads self.old) }
     {
         if self.is_mark(stop) {
@@ -286,7 +269,12 @@ impl<'a> Parser<'a> {
     }
 
     #[tactic(auto, unfolding(crate::specs::Statements::for_part))]
-    fn for_part(&mut self, alloc: Global, room: usize, stop: &[u8]) -> Result<Option<Expr>, Halt>
+    fn for_part(
+        &mut self,
+        alloc: Global,
+        room: usize,
+        stop: &[u8],
+    ) -> Result<Option<Boxed<Expr>>, Halt>
         ensures { Gives result self.new ((grammar.for_part room stop.now).reads self.old) }
     {
         let e = self.perhaps(alloc, room, stop)?;
@@ -295,21 +283,17 @@ impl<'a> Parser<'a> {
     }
 
     #[tactic(auto, unfolding(crate::specs::Statements::for_head))]
-    pub fn for_head(&mut self, alloc: Global, room: usize) -> Result<ForHead, Halt>
+    pub fn for_head(&mut self, alloc: Global, room: usize) -> Result<Boxed<ForHead>, Halt>
         ensures { Gives result self.new ((grammar.for_head room).reads self.old) }
     {
         let first = self.for_start(alloc, room)?;
         let condition = self.for_part(alloc, room, b";")?;
         let last = self.for_part(alloc, room, b")")?;
-        Ok(ForHead {
-            first,
-            condition,
-            last,
-        })
+        made::for_head(alloc, first, condition, last)
     }
 
     #[tactic(auto, unfolding(crate::specs::Statements::case_label))]
-    pub fn case_label(&mut self, alloc: Global, room: usize) -> Result<Option<Expr>, Halt>
+    pub fn case_label(&mut self, alloc: Global, room: usize) -> Result<Option<Boxed<Expr>>, Halt>
         ensures { Gives result self.new ((grammar.case_label room).reads self.old) }
     {
         if self.is_key(b"case") {

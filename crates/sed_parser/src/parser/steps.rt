@@ -3,9 +3,10 @@ ghost use Rattle.std.specs.Prelude.{◌≡◌};
 ghost use Rattle.sed_parser.specs.Expressions as grammar;
 ghost use Rattle.sed_parser.specs.Halts.{Gives};
 
+use crate::boxed::Boxed;
 use crate::halt::Halt;
-use crate::parser::Parser;
-use sed_units::{Expr, Ident, LiteralKind, Node};
+use crate::parser::{Parser, made_expressions as made};
+use sed_units::{Expr, Ident, LiteralKind};
 use std::alloc::Global;
 
 impl<'a> Parser<'a> {
@@ -44,22 +45,16 @@ impl<'a> Parser<'a> {
     }
 
     #[tactic(auto, unfolding(crate::specs::Expressions::leaf))]
-    pub fn leaf(&mut self, alloc: Global) -> Result<Expr, Halt>
+    pub fn leaf(&mut self, alloc: Global) -> Result<Boxed<Expr>, Halt>
         ensures { Gives result self.new (grammar.leaf.reads self.old) }
     {
         if self.peek::<LiteralKind>().is_some() {
             let literal = self.literal(alloc)?;
-            return Ok(Expr {
-                at: literal.at,
-                node: Node::Literal(literal),
-            });
+            return made::literal(alloc, literal);
         }
         let at = self.start();
         self.key(b"this")?;
-        Ok(Expr {
-            at,
-            node: Node::This,
-        })
+        made::this(alloc, at)
     }
 
     #[tactic(auto, unfolding(crate::specs::Expressions::super_name))]

@@ -7,7 +7,8 @@ ghost use Rattle.sed_terms.specs.Seen.{term_of};
 ghost use Rattle.sed_terms.specs.Sorts.{is_place, is_value, sort_of};
 ghost use Rattle.sed_terms.specs.Term.{Absent, Node};
 
-use crate::found::{Found, held};
+use super::{Found, held, opened, whole};
+use crate::boxes::boxed;
 use crate::kinds::read_kind;
 use crate::links::with_link;
 use crate::open::Open;
@@ -25,11 +26,12 @@ impl Found {
         ensures { IfOk result (λ r. r ≡ Node (sign.Field prim number) object Absent) }
     {
         let object = object.into_expr(alloc)?;
-        Ok(Found {
-            sort: Sort::Of(read_kind(prim)),
-            before: None,
-            tree: Open::Field(prim, object, number),
-        })
+        held(
+            alloc,
+            None,
+            Sort::Of(read_kind(prim)),
+            Open::Field(prim, object, number),
+        )
     }
 
     /// An inline object or a Str.
@@ -38,12 +40,9 @@ impl Found {
         ensures { IfOk result (λ r. r ≡ Node (sign.Part kind number) object Absent) }
     {
         let object = object.into_expr(alloc)?;
-        let tree = with_link(alloc, object, Link::Part(kind, number))?;
-        Ok(Found {
-            sort: Sort::Of(kind),
-            before: None,
-            tree: Open::Value(tree),
-        })
+        let link = boxed(alloc, Link::Part(kind, number))?;
+        let tree = with_link(alloc, object, link)?;
+        whole(alloc, Sort::Of(kind), tree)
     }
 
     /// An array of so many elements.
@@ -58,11 +57,12 @@ impl Found {
         ensures { IfOk result (λ r. r ≡ Node (sign.Array prim count number) object Absent) }
     {
         let object = object.into_expr(alloc)?;
-        Ok(Found {
-            sort: Sort::Array(prim),
-            before: None,
-            tree: Open::Array(prim, count, object, number),
-        })
+        held(
+            alloc,
+            None,
+            Sort::Array(prim),
+            Open::Array(prim, count, object, number),
+        )
     }
 
     pub fn buf(alloc: Global, object: Found, number: u16) -> Result<Found, Memory>
@@ -70,11 +70,7 @@ impl Found {
         ensures { IfOk result (λ r. r ≡ Node (sign.Buf number) object Absent) }
     {
         let object = object.into_expr(alloc)?;
-        Ok(Found {
-            sort: Sort::Buf,
-            before: None,
-            tree: Open::Buf(object, number),
-        })
+        held(alloc, None, Sort::Buf, Open::Buf(object, number))
     }
 }
 
@@ -88,17 +84,24 @@ impl Found {
         ensures { IfOk result (λ r. r ≡ Node sign.After instance member) }
     {
         let instance = instance.into_expr(alloc)?;
-        put_after(instance, member.sort, member.before, member.tree)
+        let member = opened(member);
+        put_after(alloc, instance, member.sort, member.before, member.tree)
     }
 }
 
-fn put_after(instance: Expr, sort: Sort, before: Option<Expr>, tree: Open) -> Result<Found, Memory>
+fn put_after(
+    alloc: Global,
+    instance: Box<Expr>,
+    sort: Sort,
+    before: Option<Box<Expr>>,
+    tree: Open,
+) -> Result<Found, Memory>
     requires sort_is { sort ≡ sort_of (behind before (open_term tree)) }
     requires place_is { is_open tree ≡ is_place (behind before (open_term tree)) }
-    ensures { IfOk result (λ r. r ≡ Node sign.After (term_of instance) (behind before (open_term tree))) }
+    ensures { IfOk result (λ r. r ≡ Node sign.After (term_of instance.value) (behind before (open_term tree))) }
 {
     match before {
-        None => Ok(held(Some(instance), sort, tree)),
+        None => held(alloc, Some(instance), sort, tree),
         Some(_) => Err(Memory),
     }
 }

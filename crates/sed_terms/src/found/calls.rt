@@ -4,11 +4,11 @@ ghost use Rattle.sed_terms.specs.declared.sign.Sign.TheVariants as sign;
 ghost use Rattle.sed_terms.specs.Sorts.{is_value};
 ghost use Rattle.sed_terms.specs.Term.{Absent, Node};
 
-use super::Found;
+use super::{Found, whole};
 use crate::arguments::Arguments;
+use crate::boxes::boxed;
 use crate::kinds::text_kind;
 use crate::links::with_link;
-use crate::open::Open;
 use crate::sort::Sort;
 use sed_typed::{Expr, Kind, Link, TextCall};
 use sed_value::Memory;
@@ -17,26 +17,30 @@ use std::alloc::Global;
 impl Found {
     /// A call of a static method.
     #[tactic(auto, using(crate::proofs::Rows::args_row))]
-    pub fn call(kind: Kind, method: u16, arguments: Arguments) -> Found
-        ensures { result ≡ Node (sign.Call kind method) arguments Absent }
+    pub fn call(
+        alloc: Global,
+        kind: Kind,
+        method: u16,
+        arguments: Arguments,
+    ) -> Result<Found, Memory>
+        ensures { IfOk result (λ r. r ≡ Node (sign.Call kind method) arguments Absent) }
     {
-        Found {
-            sort: Sort::Of(kind),
-            before: None,
-            tree: Open::Value(Expr::Call(kind, method, arguments.into_items())),
-        }
+        let tree = boxed(alloc, Expr::Call(kind, method, arguments.into_items()))?;
+        whole(alloc, Sort::Of(kind), tree)
     }
 
     /// `super.m(..)`.
     #[tactic(auto, using(crate::proofs::Rows::args_row))]
-    pub fn super_call(kind: Kind, method: u16, arguments: Arguments) -> Found
-        ensures { result ≡ Node (sign.Super kind method) arguments Absent }
+    pub fn super_call(
+        alloc: Global,
+        kind: Kind,
+        method: u16,
+        arguments: Arguments,
+    ) -> Result<Found, Memory>
+        ensures { IfOk result (λ r. r ≡ Node (sign.Super kind method) arguments Absent) }
     {
-        Found {
-            sort: Sort::Of(kind),
-            before: None,
-            tree: Open::Value(Expr::Super(kind, method, arguments.into_items())),
-        }
+        let tree = boxed(alloc, Expr::Super(kind, method, arguments.into_items()))?;
+        whole(alloc, Sort::Of(kind), tree)
     }
 
     /// A call of a method of an object.
@@ -52,16 +56,9 @@ impl Found {
         ensures { IfOk result (λ r. r ≡ Node (sign.Invoke kind method) object arguments) }
     {
         let object = object.into_expr(alloc)?;
-        let tree = with_link(
-            alloc,
-            object,
-            Link::Invoke(kind, method, arguments.into_items()),
-        )?;
-        Ok(Found {
-            sort: Sort::Of(kind),
-            before: None,
-            tree: Open::Value(tree),
-        })
+        let link = boxed(alloc, Link::Invoke(kind, method, arguments.into_items()))?;
+        let tree = with_link(alloc, object, link)?;
+        whole(alloc, Sort::Of(kind), tree)
     }
 
     /// A call of a Str.
@@ -76,11 +73,8 @@ impl Found {
         ensures { IfOk result (λ r. r ≡ Node (sign.TextCall call) text arguments) }
     {
         let text = text.into_expr(alloc)?;
-        let tree = with_link(alloc, text, Link::TextCall(call, arguments.into_items()))?;
-        Ok(Found {
-            sort: Sort::Of(text_kind(call)),
-            before: None,
-            tree: Open::Value(tree),
-        })
+        let link = boxed(alloc, Link::TextCall(call, arguments.into_items()))?;
+        let tree = with_link(alloc, text, link)?;
+        whole(alloc, Sort::Of(text_kind(call)), tree)
     }
 }

@@ -10,9 +10,10 @@ ghost use Rattle.sed_terms.specs.Sorts as sorts;
 ghost use Rattle.sed_terms.specs.Sorts.{is_value, sort_of, term_kind};
 ghost use Rattle.sed_terms.specs.Term.{Term};
 
-use super::{Found, held};
+use super::{Found, held, opened};
+use crate::boxes::boxed;
 use crate::kinds::read_kind;
-use crate::links::{placed, with_link};
+use crate::links::{byte_link, placed, with_link};
 use crate::open::Open;
 use crate::sort::Sort;
 use sed_typed::{Arithmetic, Expr, Gives, Kind, Link, Update, Width};
@@ -27,15 +28,17 @@ impl Found {
         ensures { IfOk result (λ r. r ≡ forms.indexed array index) }
     {
         let index = index.into_expr(alloc)?;
+        let array = opened(array);
         element(alloc, array.before, array.tree, index)
     }
 
     /// `bytes` of a Buf.
-    pub fn bytes(buf: Found) -> Result<Found, Memory>
+    pub fn bytes(alloc: Global, buf: Found) -> Result<Found, Memory>
         requires { sort_of buf ≡ sorted.Buf }
         ensures { IfOk result (λ r. r ≡ forms.bytes_of buf) }
     {
-        bytes_in(buf.before, buf.tree)
+        let buf = opened(buf);
+        bytes_in(alloc, buf.before, buf.tree)
     }
 
     /// `size` of a Buf.
@@ -43,6 +46,7 @@ impl Found {
         requires { sort_of buf ≡ sorted.Buf }
         ensures { IfOk result (λ r. r ≡ forms.size_of buf) }
     {
+        let buf = opened(buf);
         size_in(alloc, buf.before, buf.tree)
     }
 
@@ -55,6 +59,7 @@ impl Found {
     {
         let kind = target.kind();
         let value = value.into_expr(alloc)?;
+        let target = opened(target);
         stored(alloc, kind, target.before, target.tree, value)
     }
 
@@ -73,6 +78,7 @@ impl Found {
     {
         let kind = target.kind();
         let operand = operand.into_expr(alloc)?;
+        let target = opened(target);
         updated(alloc, update, kind, target.before, target.tree, operand)
     }
 
@@ -93,54 +99,68 @@ impl Found {
             width,
             gives: Gives::Old,
         };
-        let one = one_in(width);
+        let one = boxed(alloc, one_in(width))?;
+        let target = opened(target);
         updated(alloc, update, kind, target.before, target.tree, one)
     }
 }
 
 #[tactic(auto, using(crate::proofs::Behind::indexed_behind))]
-fn element(alloc: Global, before: Option<Expr>, array: Open, index: Expr) -> Result<Found, Memory>
-    ensures { IfOk result (λ r. r ≡ forms.indexed (behind before (open_term array)) (term_of index)) }
+fn element(
+    alloc: Global,
+    before: Option<Box<Expr>>,
+    array: Open,
+    index: Box<Expr>,
+) -> Result<Found, Memory>
+    ensures { IfOk result (λ r. r ≡ forms.indexed (behind before (open_term array)) (term_of index.value)) }
 {
     match array {
         Open::Array(prim, count, e, number) => {
             let sort = Sort::Of(read_kind(prim));
-            Ok(held(before, sort, Open::Element(prim, count, e, number, index)))
+            held(
+                alloc,
+                before,
+                sort,
+                Open::Element(prim, count, e, number, index),
+            )
         }
         Open::StaticArray(prim, count, number) => {
             let sort = Sort::Of(read_kind(prim));
-            Ok(held(
+            held(
+                alloc,
                 before,
                 sort,
                 Open::StaticElement(prim, count, number, index),
-            ))
+            )
         }
         Open::Bytes(e, number) => {
-            let tree = with_link(alloc, e, Link::Byte(number, index))?;
-            Ok(held(before, Sort::Of(Kind::Int), Open::Value(tree)))
+            let link = byte_link(alloc, number, index)?;
+            let tree = with_link(alloc, e, link)?;
+            held(alloc, before, Sort::Of(Kind::Int), Open::Value(tree))
         }
         _ => Err(Memory),
     }
 }
 
 #[tactic(auto, using(crate::proofs::Behind::bytes_behind))]
-fn bytes_in(before: Option<Expr>, buf: Open) -> Result<Found, Memory>
+fn bytes_in(alloc: Global, before: Option<Box<Expr>>, buf: Open) -> Result<Found, Memory>
     ensures { IfOk result (λ r. r ≡ forms.bytes_of (behind before (open_term buf))) }
 {
     match buf {
-        Open::Buf(e, number) => Ok(held(before, Sort::Bytes, Open::Bytes(e, number))),
+        Open::Buf(e, number) => held(alloc, before, Sort::Bytes, Open::Bytes(e, number)),
         _ => Err(Memory),
     }
 }
 
 #[tactic(auto, using(crate::proofs::Behind::size_behind))]
-fn size_in(alloc: Global, before: Option<Expr>, buf: Open) -> Result<Found, Memory>
+fn size_in(alloc: Global, before: Option<Box<Expr>>, buf: Open) -> Result<Found, Memory>
     ensures { IfOk result (λ r. r ≡ forms.size_of (behind before (open_term buf))) }
 {
     match buf {
         Open::Buf(e, number) => {
-            let tree = with_link(alloc, e, Link::Size(number))?;
-            Ok(held(before, Sort::Of(Kind::Int), Open::Value(tree)))
+            let link = boxed(alloc, Link::Size(number))?;
+            let tree = with_link(alloc, e, link)?;
+            held(alloc, before, Sort::Of(Kind::Int), Open::Value(tree))
         }
         _ => Err(Memory),
     }
@@ -150,17 +170,17 @@ fn size_in(alloc: Global, before: Option<Expr>, buf: Open) -> Result<Found, Memo
 fn stored(
     alloc: Global,
     kind: Kind,
-    before: Option<Expr>,
+    before: Option<Box<Expr>>,
     place: Open,
-    value: Expr,
+    value: Box<Expr>,
 ) -> Result<Found, Memory>
     requires is_place { is_open place ≡ true }
     requires kind_is { kind ≡ term_kind (open_term place) }
-    ensures { IfOk result (λ r. r ≡ forms.stored (behind before (open_term place)) (term_of value)) }
+    ensures { IfOk result (λ r. r ≡ forms.stored (behind before (open_term place)) (term_of value.value)) }
 {
-    let value = Box::new(alloc, value)?;
-    let place = placed(alloc, place)?;
-    Ok(held(before, Sort::Of(kind), Open::Value(Expr::Set(place, value))))
+    let place = placed(place)?;
+    let tree = boxed(alloc, Expr::Set(place, value))?;
+    held(alloc, before, Sort::Of(kind), Open::Value(tree))
 }
 
 #[tactic(auto, using(crate::proofs::Behind::updated_open))]
@@ -168,22 +188,18 @@ fn updated(
     alloc: Global,
     update: Update,
     kind: Kind,
-    before: Option<Expr>,
+    before: Option<Box<Expr>>,
     place: Open,
-    operand: Expr,
+    operand: Box<Expr>,
 ) -> Result<Found, Memory>
     requires is_place { is_open place ≡ true }
     requires kind_is { kind ≡ term_kind (open_term place) }
-    requires operand_is { operand_term update.gives operand (term_of operand) ≡ term_of operand }
-    ensures { IfOk result (λ r. r ≡ forms.updated update (behind before (open_term place)) (term_of operand)) }
+    requires operand_is { operand_term update.gives operand.value (term_of operand.value) ≡ term_of operand.value }
+    ensures { IfOk result (λ r. r ≡ forms.updated update (behind before (open_term place)) (term_of operand.value)) }
 {
-    let operand = Box::new(alloc, operand)?;
-    let place = placed(alloc, place)?;
-    Ok(held(
-        before,
-        Sort::Of(kind),
-        Open::Value(Expr::Update(update, place, operand)),
-    ))
+    let place = placed(place)?;
+    let tree = boxed(alloc, Expr::Update(update, place, operand))?;
+    held(alloc, before, Sort::Of(kind), Open::Value(tree))
 }
 
 // The 1 of a width.

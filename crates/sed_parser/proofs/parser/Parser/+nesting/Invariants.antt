@@ -8,9 +8,6 @@ use Rattle.sed_parser.proofs.parser.Parser.+nesting.Given as goal
 abbrev pub decreases-inner : goal.decreases-inner
 decreases-inner l = 10 * l.room
 
-abbrev pub decreases-within : goal.decreases-within
-decreases-within l = 10 * l.room + 1
-
 abbrev pub decreases-inner_statements : goal.decreases-inner_statements
 decreases-inner_statements l = 10 * l.room + 1
 

@@ -106,7 +106,8 @@ operand_links-returns t c =
 
 pub more_arguments-returns-then-not-is_mark : goal.more_arguments-returns-then-not-is_mark
 more_arguments-returns-then-not-is_mark t c =
-    let first : c.push.new.self.items ≡ c.args.first ∷ [] = rw c.new-args.ensures.items at c.in_ok-push.ensures.items in
+    let first : c.push.new.items.items ≡ c.args.first ∷ [] =
+    rw c.new-args.ensures.items at c.in_ok-push.ensures.items in
     rw (c.new.ensures, more_arguments_are)
     (last (next_mark (codes ",")) (next_argument (deeper c.args.room)).reads c.loop.args.items
     (c.left-most.result - c.loop.counter) c.loop.self _ (sym c.if-not-is_mark.ensures)
@@ -114,7 +115,8 @@ more_arguments-returns-then-not-is_mark t c =
 
 pub more_arguments-returns-in_err-next : goal.more_arguments-returns-in_err-next
 more_arguments-returns-in_err-next t c =
-    let first : c.push.new.self.items ≡ c.args.first ∷ [] = rw c.new-args.ensures.items at c.in_ok-push.ensures.items in
+    let first : c.push.new.items.items ≡ c.args.first ∷ [] =
+    rw c.new-args.ensures.items at c.in_ok-push.ensures.items in
     let p = err_from_is_err_and c.from_residual-in_err-next.result c.from_residual-in_err-next.ensures.1 in
     rw (p.1, p.2, more_arguments_are)
     (refused (next_mark (codes ",")) (next_argument (deeper c.args.room)).reads c.in_err-next.field-0.0 _
@@ -130,7 +132,8 @@ more_arguments-loop-preserved t c =
 
 pub more_arguments-returns-then-not-is_mark-2 : goal.more_arguments-returns-then-not-is_mark-2
 more_arguments-returns-then-not-is_mark-2 t c =
-    let first : c.push.new.self.items ≡ c.args.first ∷ [] = rw c.new-args.ensures.items at c.in_ok-push.ensures.items in
+    let first : c.push.new.items.items ≡ c.args.first ∷ [] =
+    rw c.new-args.ensures.items at c.in_ok-push.ensures.items in
     rw (c.new-then-not-is_mark-2.ensures, more_arguments_are)
     (last (next_mark (codes ",")) (next_argument (deeper c.args.room)).reads c.loop.args.items
     (c.left-most.result - c.loop.counter) c.loop.self _ (sym c.if-not-is_mark-2.ensures)
@@ -138,7 +141,8 @@ more_arguments-returns-then-not-is_mark-2 t c =
 
 pub more_arguments-returns : goal.more_arguments-returns
 more_arguments-returns t c =
-    let first : c.push.new.self.items ≡ c.args.first ∷ [] = rw c.new-args.ensures.items at c.in_ok-push.ensures.items in
+    let first : c.push.new.items.items ≡ c.args.first ∷ [] =
+    rw c.new-args.ensures.items at c.in_ok-push.ensures.items in
     rw more_arguments_are
     (too_many (next_mark (codes ",")) (next_argument (deeper c.args.room)).reads c.loop.args.items
     c.left-most.result c.loop.counter c.loop.self _ c.loop-test.false (sym c.if-not-is_mark-2.ensures)

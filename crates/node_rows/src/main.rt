@@ -1,0 +1,69 @@
+//! The rows of applications and of what keeps them: requests, cycles, marks and events over the walker on real kits,
+//! and over an engine that wants memory; what is printed; the bytes of files; and the store on a disk.
+#![tactic(auto)]
+
+mod files;
+mod kits;
+mod scripts;
+mod stores;
+
+use rows::{Case, CaseFault, run};
+use std::io;
+
+// The tables, in the order in which they run.
+const TABLES: [&str; 17] = [
+    "scripts",
+    "tiny",
+    "requests",
+    "cycles",
+    "events",
+    "printed",
+    "datagrams",
+    "summaries",
+    "files",
+    "places",
+    "prefixes",
+    "changes",
+    "runs",
+    "crashes",
+    "saves",
+    "news",
+    "system",
+];
+
+fn main(rt: HostRuntime) -> io::Result<()> {
+    for name in TABLES {
+        run(
+            &rt,
+            name,
+            |name: &str, case: &mut Case| of_scripts(&rt, name, case),
+        )?;
+    }
+    Ok(())
+}
+
+fn of_scripts(rt: &HostRuntime, name: &str, case: &mut Case) {
+    match name {
+        "scripts" | "tiny" | "requests" | "cycles" | "events" | "printed" => scripts::scripts(
+            case, rt,
+        ),
+        "datagrams" => scripts::datagrams(case),
+        "summaries" => scripts::summaries(case),
+        "files" => files::files(case, rt),
+        "places" => files::places(case, rt),
+        "prefixes" => files::prefixes(case, rt),
+        "changes" => files::changes(case, rt),
+        _ => of_stores(rt, name, case),
+    }
+}
+
+fn of_stores(rt: &HostRuntime, name: &str, case: &mut Case) {
+    match name {
+        "runs" => stores::runs(case),
+        "crashes" => stores::crashes(case),
+        "saves" => stores::saves(case),
+        "news" => stores::news(case),
+        "system" => stores::system(case, rt),
+        _ => case.fail(CaseFault::BadInput),
+    }
+}
