@@ -15,6 +15,7 @@ use Rattle.sed_engine.specs.Code.{Meaning, Object, Question, asked_of, is_creata
 use Rattle.sed_engine.specs.Fits.{Fits}
 use Rattle.sed_engine.specs.Root.{RootEnd}
 use Rattle.sed_engine.specs.Whole.{EndsWell, IsObject, IsWhole}
+use Rattle.sed_engine.proofs.MaskedCodes.{whole_leaves}
 use Rattle.link_table.specs.Link.{Link}
 use Rattle.comp_tree.specs.Application.{Application, Component, object_of, value_at}
 use Rattle.comp_tree.specs.Calls.{ended, fault_by, not_run, run_at, with_end}
@@ -36,7 +37,7 @@ module _ (m : Meaning) (code : IsWhole m) where
       by_end (Done left) is = subst (λ (e : CallEnd). fault_by e ≤ 5) (sym is) (omega arith)
       by_end (Trap n) is = subst (λ (e : CallEnd). fault_by e ≤ 5) (sym is) (elim (cases_lt 5 n) [
         | inl lt ↦
-            let not_asked = code.unasked q (λ ask. let well = subst (EndsWell q.turns) is ((code.ends q).0 ask) in let few = well.1 in omega arith) in
+            let not_asked = code.unasked q (λ ask. let well = subst (EndsWell q.turns) is (code.answers q ask).end in let few = well.1 in omega arith) in
             let none : Trap n ≡ Trap 0 = sym is ∙ ap (λ (e : RootEnd). e.end) not_asked in
             no_trap n none
         | inr le ↦ le
@@ -118,7 +119,7 @@ module _ (m : Meaning) (code : IsWhole m) where
       ran c there false = whole
       ran c there true =
           let q : Question = asked_of (object_of c) a.components.statics which argument turns moment in
-          let fits = code.roots q (here (λ (c : Component). Fits m.fields (m.fields c.class) (m.initial c.class) c.contents) (map.get a.components.by_id id) c there (whole.values id)) whole.statics in
+          let fits = whole_leaves m code q (here (λ (c : Component). Fits m.fields (m.fields c.class) (m.initial c.class) c.contents) (map.get a.components.by_id id) c there (whole.values id)) whole.statics in
           whole_put m a whole id c (with_end c (m.root q)) there refl refl refl refl fits.0 (fault_fits q) (m.root q).statics fits.1
 
       ran_if : (r : Option Component) → map.get a.components.by_id id ≡ r

@@ -32,7 +32,7 @@ fn fault_of(end: CallEnd) -> u8
 /// Makes a component of a component type that is not abstract.
 ///
 /// `DataFull` comes exactly where the data sizes of what the engine keeps and of the new component pass its limit, `Memory`
-/// only where the engine is not fixed. A refusal changes nothing.
+/// only where the engine is not fixed. A refusal changes nothing, and limit and `fixed` stay in any case.
 pub fn add_component<E: Engine>(engine: &mut E, class: TypeNo) -> Result<Component, AddRefusal>
     requires creatable { IsTrue (is_creatable (E.meaning engine.old) class.0) }
     requires few { map.len (E.live engine.old) < 4096 }
@@ -42,6 +42,8 @@ pub fn add_component<E: Engine>(engine: &mut E, class: TypeNo) -> Result<Compone
     ensures stays { OnErr result (E.live engine.new ≡ E.live engine.old) }
     ensures statics { E.statics engine.new ≡ E.statics engine.old }
     ensures meaning { E.meaning engine.new ≡ E.meaning engine.old }
+    ensures limit { E.limit engine.new ≡ E.limit engine.old }
+    ensures fixed { E.fixed engine.new ≡ E.fixed engine.old }
 {
     match engine.add(class) {
         Ok(place) => Ok(Component {

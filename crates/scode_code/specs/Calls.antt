@@ -3,7 +3,6 @@ use Rattle.std.specs.Prelude.{ℕ, ◌+◌, ◌==◌, ◌%◌, pos, Bool, List, 
 use Rattle.std.specs.Option.{option_and_then}
 use Rattle.sed_typed.specs.declared.operators.TextCall.{TextCall}
 use Rattle.sed_typed.specs.declared.operators.TextCall.TheVariants as text
-use Rattle.sed_typed.specs.declared.program.Program.{Program}
 use Rattle.sed_engine.specs.Expressions as language
 use Rattle.sed_engine.specs.State.{State, End, gives, answers, then_do}
 use Rattle.sed_engine.specs.Steps.{take_turn}
@@ -12,7 +11,6 @@ use Rattle.sed_engine.specs.Values.{Val, Nothing, Truth, Int, Long, Null, Spot, 
 use Rattle.scode_image.specs.declared.image.Image.{Image}
 use Rattle.scode_image.specs.declared.image.ImageKind.{ImageKind}
 use Rattle.scode_image.specs.declared.image.ImageMethod.{ImageMethod}
-use Rattle.scode_code.specs.Tables.{schema_of}
 use Rattle.scode_code.specs.Fields.{Setting, class_of}
 use Rattle.scode_code.specs.Machine.{Move, Enter}
 use Rattle.scode_code.specs.Effect.{taken, push, no_push, on_top, on_two, on_three, int_cell, reference_cell}
@@ -75,18 +73,8 @@ virtual_call w class place stack s =
 
 -- ---- Strs
 
--- the language's calls of Strs ask a program for its texts alone
-abbrev pub texts_of : Image → Program
-texts_of image = record { schema = schema_of image; methods = []; fields = []; statics = []; texts = image.texts }
-
 abbrev pub text_call : Setting → TextCall → Val → List Val → State → End Val
-text_call w which v args s =
-    language.text_call (record {
-      program = texts_of w.image;
-      class = w.class;
-      calls =
-          λ method frame shared. record { result = Err Untyped; shared = shared };
-    }) which v args s
+text_call w which v args s = language.text_call w.image.texts which v args s
 
 abbrev pub str_length : Setting → List Val → State → End Move
 str_length w stack s = on_top stack (λ v rest s1. push rest (text_call w text.Length v [] s1)) s

@@ -1,7 +1,7 @@
 -- The object that a reference leads to, and its field of a form, offset and n.
-use Rattle.std.specs.Prelude.{ℕ, List, [], ◌∷◌, position, ◌==◌, ◌&&◌, slice_get, Option, Some, None}
+use Rattle.std.specs.Prelude.{ℕ, List, [], position, ◌==◌, ◌&&◌, Option, Some, None}
 use Rattle.sed_typed.specs.Contents.{Path}
-use Rattle.sed_typed.specs.Objects.{form_class}
+use Rattle.sed_typed.specs.Objects.{object_in, static_object_in}
 use Rattle.sed_engine.specs.Stops.{there}
 use Rattle.sed_engine.specs.Values.{Val, Base, Component, Statics, Spot, spot_of}
 use Rattle.sed_engine.specs.State.{State, End, answers, gives, then_do}
@@ -15,26 +15,13 @@ pub record Setting : Type 0 where
   pub image : Image
   pub class : ℕ
 
--- the class of the object in a field
-abbrev pub field_class : Option ImageField → Option ℕ
-field_class None = None
-field_class (Some f) = form_class (form_of f)
-
--- the class of the object at a path from an object of this class, if one is there
-abbrev pub object_class : Image → Path → Option ℕ → Option ℕ
-object_class image path None = None
-object_class image [] (Some class) = Some class
-object_class image (i ∷ path) (Some class) =
-    object_class image path (field_class (slice_get (class_fields image class) i))
-
 -- the class of an object; the static block has none
 abbrev pub class_of : Setting → Spot → Option ℕ
 class_of w spot = class_from w spot.base spot.path
   where
     class_from : Setting → Base → Path → Option ℕ
-    class_from w Component path = object_class w.image path (Some w.class)
-    class_from w Statics [] = None
-    class_from w Statics (i ∷ path) = object_class w.image path (field_class (slice_get w.image.static_fields i))
+    class_from w Component path = object_in form_of (class_fields w.image) path (Some w.class)
+    class_from w Statics path = static_object_in form_of (class_fields w.image) w.image.static_fields path
 
 -- the fields of an object or of the static block; of what is neither there are none
 abbrev pub fields_from : Setting → Base → Path → Option ℕ → List ImageField

@@ -14,7 +14,7 @@ use Rattle.sed_engine.specs.Asked.{MayAsk, masked, may_ask, unasked}
 use Rattle.sed_engine.specs.Code.{Meaning, Question, slot_path, slot_type}
 use Rattle.sed_engine.specs.Fits.{Fits}
 use Rattle.sed_engine.specs.Root.{RootEnd}
-use Rattle.sed_engine.specs.Whole.{EndsWell, FollowsBase, HasTables, MarksComponents, NamesTypes, SaysNothing, field_form}
+use Rattle.sed_engine.specs.Whole.{FollowsBase, HasTables, MarksComponents, NamesTypes, SaysNothing, field_form}
 use Rattle.sed_engine.proofs.Asking.{may_from}
 use Rattle.sed_engine.proofs.FirstPaths.{IsLeaf, value_there}
 use Rattle.sed_engine.proofs.MaskedCodes.{to_masked}
@@ -185,19 +185,8 @@ unasked_masked m q h = elim (cases_Bool (may_ask m q)) [
   | inr e ↦ other (may_ask m q) (m.root q) (unasked q) e
 ]
 
-asked_masked : (m : Meaning) (q : Question) → EndsWell q.turns ((masked m).root q).end → MayAsk (masked m) q
-asked_masked m q h = elim (cases_Bool (may_ask m q)) [
-  | inl e ↦ to_masked m q (may_from m q e)
-  | inr e ↦
-      let by_0 : EndsWell q.turns (unasked q).end =
-      subst (λ (x : RootEnd). EndsWell q.turns x.end) (other (may_ask m q) (m.root q) (unasked q) e) h in
-      let some : 1 ≤ 0 = by_0.0 in
-      absurd (omega (arith, some))
-]
-
 pub whole_but_for_roots : (image : Image) → IsVerified image → IsWholeButForRoots (meaning_of image)
 whole_but_for_roots image h = record {
   tables = tables_masked (code_of image) (tables_of image (agrees image (first_rule image h)));
   unasked = unasked_masked (code_of image);
-  asked = asked_masked (code_of image);
 }

@@ -79,7 +79,6 @@ body_is units program typed few e m means h t kept all body from is tree =
       typed = b.typed;
       depth = few (names_of units e.owned.kit) (enclosing_of units e) (form_params e.owned.member.form) all body
           tree.0 (shallow_body e.owned.member.form all kept.shallow from);
-      height = tree.1;
     }
 
 has_body : (units : List KitUnits) (program : Program) → AreTyped program → NestFew → (e : MethodAt) (m : Method) →

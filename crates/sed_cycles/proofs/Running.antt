@@ -5,7 +5,8 @@ use Rattle.sed_engine.specs.Code.{Meaning}
 use Rattle.component_run.specs.Alone.{Alone, after_cycles, begun, component_text}
 use Rattle.sed_typed.specs.declared.program.Program.{Program}
 use Rattle.sed_engine.specs.Program.{meaning_of}
-use Rattle.sed_cycles.specs.Cycles.{component_after, first_class, printed, text_after, turns}
+use Rattle.sed_engine.specs.Runnable.{first_class}
+use Rattle.sed_cycles.specs.Cycles.{component_after, printed, text_after, turns}
 
 -- The meaning is the same before and behind each call.
 pub printed_as : (m m0 m1 m2 : Meaning) (class cycles fault : ℕ) (s s0 : Contents) (a : Alone) (text : List ℕ)

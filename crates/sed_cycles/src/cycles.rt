@@ -4,29 +4,28 @@ ghost use Rattle.sed_typed.specs.Typed.{Typed};
 ghost use Rattle.sed_typed.specs.declared.program.Program.{Program as TheProgram};
 ghost use Rattle.sed_engine.specs.Code.{is_creatable};
 ghost use Rattle.sed_engine.specs.Program.{meaning_of};
+ghost use Rattle.sed_engine.specs.Runnable.{is_first as is_first_class, IsRunnable};
 ghost use Rattle.sed_cycles.specs.Cycles as meaning;
 
 use component_run::{add_component, component_text, run_cycles};
 use sed_typed::{ClassInfo, Program, Schema, TypeNo};
 use sed_value::Memory;
+use sed_value::limits::MOST_DATA;
 use sed_walker::Walker;
 use std::alloc::Global;
 
 // The turns that each execution may take.
 const TURNS: u32 = 10_000;
 
-// The most bytes of data that an application may have. One object has at most 65,535.
-const LIMIT: u32 = 4_194_304;
-
 fn is_first(class: &ClassInfo) -> bool
-    ensures { result ≡ meaning.is_first class.now }
+    ensures { result ≡ is_first_class class.now }
 {
     class.kit == 1 && class.number == 0
 }
 
 // The place of the first class of the first kit behind `sys`.
 fn first_place(classes: &[ClassInfo]) -> Option<usize>
-    ensures { result ≡ position meaning.is_first classes.now }
+    ensures { result ≡ position is_first_class classes.now }
 {
     classes.iter().position(is_first)
 }
@@ -38,7 +37,7 @@ fn text_of(alloc: Global, program: Program, class: TypeNo, cycles: u32) -> Resul
     requires most_cycles { cycles ≤ 1000000 }
     ensures { IfOk result (λ text. text.items ≡ meaning.printed (meaning_of program) (meaning.component_after program cycles class.0)) }
 {
-    let mut walker = Walker::new(alloc, program, LIMIT)?;
+    let mut walker = Walker::new(alloc, program, MOST_DATA)?;
     let Ok(mut component) = add_component(&mut walker, class) else {
         return Err(Memory);
     };
@@ -54,7 +53,7 @@ fn text_of(alloc: Global, program: Program, class: TypeNo, cycles: u32) -> Resul
 /// refusal.
 pub fn cycles_text(alloc: Global, program: Program, cycles: u32) -> Result<Vec<u8>, Memory>
     requires typed { Typed program }
-    requires runnable { meaning.IsRunnable program }
+    requires runnable { IsRunnable program }
     requires most_cycles { cycles ≤ 1000000 }
     ensures { IfOk result (λ text. text.items ≡ meaning.text_after program cycles) }
 {

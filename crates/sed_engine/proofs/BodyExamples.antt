@@ -15,7 +15,6 @@ use Rattle.sed_typed.specs.declared.tree.Link.TheVariants as link
 use Rattle.sed_typed.specs.declared.tree.Place.TheVariants as place
 use Rattle.sed_typed.specs.Depth.{depth_of, place_depth, stmt_depth}
 use Rattle.sed_typed.specs.Height.{height_of, place_height, stmt_height}
-use Rattle.sed_typed.specs.Kinds.{kind_of}
 use Rattle.sed_typed.specs.Typed.{IsBody, IsMethod, IsStorable, locals_of}
 use Rattle.sed_typed.specs.TypedExpr.{Context, IsExpr}
 use Rattle.sed_typed.specs.TypedStmt.{Around, IsStmt}
@@ -86,7 +85,6 @@ blocks_are_typed p = record {
   most_locals = lit≤ tt;
   typed = blocks_are_statements 65 p (in_ramp p) (record { breaks = false; continues = false });
   depth = lit≤ tt;
-  height = lit≤ tt;
 }
 
 one_block_more : (p : Pointer) → IsBody (ramp p) (void_method 5 (codes "f") (blocks 66 p)) (blocks 66 p) → ⊥
@@ -133,43 +131,14 @@ static_place_height p = refl
 loop_height : (p : Pointer) → stmt_height (stmt.While' (expr.Bool 1) p (stmt.If' (expr.Bool 1) p stmt.Break p stmt.Empty)) ≡ 3
 loop_height p = refl
 
--- a head of a head of a head, and an operand of an operand: nothing nests, and the tree is high
+-- a head of a head of a head: nothing nests, however high the tree is
 heads : ℕ → Pointer → Expr
 heads zero p = int 1
 heads (suc n) p = chain p (heads n p) (by op.Add (int 1))
 
-operands : ℕ → Pointer → Expr
-operands zero p = int 1
-operands (suc n) p = chain p (int 1) (by op.Add (operands n p))
-
 heads_nest_nowhere : (p : Pointer) → depth_of (heads 2080 p) ≡ 0
 unfolding heads
 heads_nest_nowhere p = refl
-
-too_high : (p : Pointer) → IsBody (ramp p) (void_method 5 (codes "f") (stmt.Do (heads 2079 p))) (stmt.Do (heads 2079 p)) → ⊥
-unfolding heads
-too_high p is = let most : 2081 ≤ 2080 = is.height in omega (arith, most)
-
-operands_too_high : (p : Pointer) → IsBody (ramp p) (void_method 5 (codes "f") (stmt.Do (operands 2079 p))) (stmt.Do (operands 2079 p)) → ⊥
-unfolding operands
-operands_too_high p is = let most : 2081 ≤ 2080 = is.height in omega (arith, most)
-
-heads_are_expressions : (n : ℕ) (p : Pointer) (c : Context) → IsExpr c (heads n p) × (kind_of (heads n p) ≡ kind.Int)
-unfolding heads
-heads_are_expressions zero p c = (refl, refl)
-heads_are_expressions (suc n) p c = let head = heads_are_expressions n p c in ((head.0, ((refl, (head.1, refl)), tt)), refl)
-
--- one head less is typed
-not_too_high : (p : Pointer) → IsBody (ramp p) (void_method 5 (codes "f") (stmt.Do (heads 2078 p))) (stmt.Do (heads 2078 p))
-unfolding heads
-not_too_high p = record {
-  storable = all_of (IsStorable (ramp p)) (kind.Object (record { 0 = 5 }) ∷ []) (lit< tt, tt);
-  numbered = tt;
-  most_locals = lit≤ tt;
-  typed = (heads_are_expressions 2078 p (in_ramp p)).0;
-  depth = lit≤ tt;
-  height = lit≤ tt;
-}
 
 -- ---- locals
 
@@ -196,7 +165,6 @@ declaring_is_typed p = record {
   most_locals = lit≤ tt;
   typed = ((refl, tt, omits), ((tt, (refl, (refl, refl), omits), tt, tt, ((refl, tt, omits), tt)), (((refl, tt, omits), tt), tt)));
   depth = lit≤ tt;
-  height = lit≤ tt;
 }
   where
     omits : {n : ℕ} → false ≡ false → suc n ≢ 0

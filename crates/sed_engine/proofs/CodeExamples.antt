@@ -171,8 +171,8 @@ well_of : (end : CallEnd) (p : Pointer) → IsWhole (masked (ends_as end p)) →
 unfolding ends_as may_ask
 well_of end p whole =
     let a : MayAsk (meaning_of (ramp p)) (new_ramp p) = ramp_asked p in
-    (whole.ends (new_ramp p)).0
-    (record { creatable = a.creatable; contents = a.contents; statics = a.statics; argument = a.argument; some_turns = a.some_turns; most_turns = a.most_turns; moment = a.moment })
+    (whole.answers (new_ramp p)
+    (record { creatable = a.creatable; contents = a.contents; statics = a.statics; argument = a.argument; some_turns = a.some_turns; most_turns = a.most_turns; moment = a.moment })).end
 
 -- a trap that there is not, and more turns left than the 10 that were given
 by_trap_77 : (p : Pointer) → IsWhole (masked (ends_as (Trap 77) p)) → ⊥

@@ -1,14 +1,10 @@
 -- Frames whose locals hold values of their kinds.
 use Rattle.std.proofs.Common.{◌≡◌, ◌<◌, ◌≤◌, ℕ, zero, suc, List, [], ◌∷◌, ◌++◌, length, replicate, Some, refl, sym, ap, subst, arith}
-use Rattle.std.specs.Prelude.{All, not, true, slice_get, slice_set}
-use Rattle.std.proofs.lemmas.Bool.{and_from}
-use Rattle.std.proofs.lemmas.List.Elements.{All-head, All-tail}
+use Rattle.std.specs.Prelude.{slice_get, slice_set}
 use Rattle.std.proofs.lemmas.Option.{same_Some}
 use Rattle.sed_typed.specs.declared.kind.Kind.{Kind}
-use Rattle.sed_typed.specs.declared.kind.Kind.TheVariants as kind
 use Rattle.sed_typed.specs.declared.program.Program.{Program}
-use Rattle.sed_typed.specs.Typed.{IsStorable}
-use Rattle.sed_engine.specs.Values.{Val, Nothing, is_begun, are_begun}
+use Rattle.sed_engine.specs.Values.{Val, Nothing}
 use Rattle.sed_engine.proofs.Below.{absent}
 use Rattle.sed_engine.proofs.Kinded.{HasKind, Held, held, zero_is}
 
@@ -66,15 +62,3 @@ module _ (program : Program) (class : ℕ) where
   frame_runs [] others vs h room = others_held others vs h room
   frame_runs (k ∷ ks) others [] h room = absurd h
   frame_runs (k ∷ ks) others (v ∷ vs) h room = (held program class k v h.0, frame_runs ks others vs h.1 (omega (arith, room)))
-
-  begun_is : (k : Kind) (v : Val) → IsStorable program k → HasKind program class k v → is_begun v ≡ true
-  begun_is kind.Void Nothing s h = absurd s
-  begun_is k Nothing s h = absurd h
-  begun_is k v s h = refl
-
-  -- a new frame begins with as many locals as it has kinds
-  pub frame_begins : (ks : List Kind) (vs : List Val) → FrameHas ks vs → All (IsStorable program) ks → are_begun (length ks) vs ≡ true
-  frame_begins [] [] h s = refl
-  frame_begins [] (v ∷ vs) h s = and_from (not (is_begun v)) (are_begun 0 vs) (ap (λ (u : Val). not (is_begun u)) h.0) (frame_begins [] vs h.1 s)
-  frame_begins (k ∷ ks) [] h s = absurd h
-  frame_begins (k ∷ ks) (v ∷ vs) h s = and_from (is_begun v) (are_begun (length ks) vs) (begun_is k v (All-head (IsStorable program) k ks s) h.0) (frame_begins ks vs h.1 (All-tail (IsStorable program) k ks s))

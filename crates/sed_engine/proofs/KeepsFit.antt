@@ -24,7 +24,7 @@ use Rattle.sed_engine.specs.State.{Shared, State, End, answers, after, then_do}
 use Rattle.sed_engine.specs.Steps.{contents_of, replace, store_over, written_at}
 use Rattle.sed_engine.specs.Expressions.{Setting, Calls}
 use Rattle.sed_engine.specs.Statements.{Flow, Round, Again, Over, Answer, after_round, loop}
-use Rattle.sed_engine.specs.Root.{untyped, is_frame_of, run_body, run_method, calls_with}
+use Rattle.sed_engine.specs.Root.{run_body, run_method, calls_with}
 use Rattle.sed_engine.proofs.Related.{Closed, of_stmt}
 
 both : (a b : Bool) → a ≡ true → b ≡ true → (a && b) ≡ true
@@ -196,11 +196,7 @@ body_fits forms w calls kind (Some x) frame s fits = (of_stmt (KeepsFit forms) w
 
 method_fits : (forms : Forms) (w : Setting) → CallsFit forms w.calls → (m : Option Method) (frame : List Val) (s : Shared) → FitsNow forms s → FitsNow forms (run_method w m frame s).shared
 method_fits forms w calls None frame s fits = fits
-method_fits forms w calls (Some m) frame s fits = go (is_frame_of m frame)
-  where
-    go : (b : Bool) → FitsNow forms ((if b then run_body w m.result m.body else untyped) frame s).shared
-    go true = body_fits forms w calls m.result m.body frame s fits
-    go false = fits
+method_fits forms w calls (Some m) frame s fits = body_fits forms w calls m.result m.body frame s fits
 
 -- calls leave what fits, where what they were given fits
 pub calls_fit : (forms : Forms) (program : Program) (class frames : ℕ) → CallsFit forms (calls_with program class frames)

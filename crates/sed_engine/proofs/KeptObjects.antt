@@ -23,6 +23,7 @@ use Rattle.sed_engine.specs.Fits.{Fits, form_at, form_below, form_of, is_kept as
 use Rattle.sed_engine.specs.Whole.{IsObject, IsWhole, field_form}
 use Rattle.sed_engine.proofs.Below.{no}
 use Rattle.sed_engine.proofs.KeepsFit.{all_kept-with_value}
+use Rattle.sed_engine.proofs.MaskedCodes.{whole_leaves}
 use Rattle.sed_engine.proofs.Within.{paths-changed_at}
 
 -- ---- a new object, and what a root call leaves
@@ -40,7 +41,7 @@ new_is_object m whole class h = record { creatable = h; fits = whole.tables.firs
 pub called_is_object : (m : Meaning) → IsWhole m → (o : Object) → IsObject m o → (statics : Contents) → Fits m.fields m.static_fields m.initial_statics statics → (which : Root) (argument : Value) (turns : ℕ) (moment : ℤ) →
     IsObject m (called o (root_of m o statics which argument turns moment)) × Fits m.fields m.static_fields m.initial_statics (root_of m o statics which argument turns moment).statics
 called_is_object m whole o is statics fit which argument turns moment =
-    let left = whole.roots (asked_of o statics which argument turns moment) is.fits fit in
+    let left = whole_leaves m whole (asked_of o statics which argument turns moment) is.fits fit in
     (record { creatable = is.creatable; fits = left.0 }, left.1)
 
 -- ---- what is stored is of the type

@@ -1,11 +1,11 @@
 -- A code that answers well whatever it may be asked is whole once it is masked.
 use Rattle.std.proofs.Common.{◌≡◌, ◌≤◌, inl, inr, Bool, true, false, if◌then◌else◌, sym, ap, subst, ◌∙◌, arith}
-use Rattle.std.proofs.lemmas.Bool.{cases_Bool}
+use Rattle.std.proofs.lemmas.Bool.{cases_Bool, both_ways}
 use Rattle.sed_engine.specs.Asked.{MayAsk, may_ask, unasked, masked}
 use Rattle.sed_engine.specs.Code.{Meaning, Question}
 use Rattle.sed_engine.specs.Fits.{Fits}
 use Rattle.sed_engine.specs.Root.{RootEnd}
-use Rattle.sed_engine.specs.Whole.{AnswersWell, EndsWell, HasTables, IsWhole, FollowsBase, SaysNothing, RootFits, RootEnds}
+use Rattle.sed_engine.specs.Whole.{AnswersWell, EndsWell, HasTables, IsWhole, FollowsBase, SaysNothing}
 use Rattle.sed_engine.proofs.Asking.{may_from, may_then, masked_asks}
 
 -- ---- what a masked code answers
@@ -51,31 +51,29 @@ module _ (m : Meaning) (well : (q : Question) → MayAsk m q → AnswersWell m q
     | inr e ↦ other (may_ask m q) (m.root q) (unasked q) e
   ]
 
-  fits_masked : RootFits (masked m)
-  fits_masked q given given_statics = elim (cases_Bool (may_ask m q)) [
-    | inl e ↦
-        let a : AnswersWell m q = well q (may_from m q e) in
-        subst (λ (x : RootEnd). Fits m.fields (m.fields q.class) (m.initial q.class) x.contents × Fits m.fields m.static_fields m.initial_statics x.statics)
-        (sym (own (may_ask m q) (m.root q) (unasked q) e)) (a.contents, a.statics)
-    | inr e ↦
-        subst (λ (x : RootEnd). Fits m.fields (m.fields q.class) (m.initial q.class) x.contents × Fits m.fields m.static_fields m.initial_statics x.statics)
-        (sym (other (may_ask m q) (m.root q) (unasked q) e)) (given, given_statics)
-  ]
-
-  ends_masked : RootEnds (masked m)
-  ends_masked q = (ends, asks)
-    where
-      ends : MayAsk (masked m) q → EndsWell q.turns ((masked m).root q).end
-      ends h = let a : MayAsk m q = from_masked m q h in subst (λ (x : RootEnd). EndsWell q.turns x.end) (sym (answer_is m q a)) (well q a).end
-
-      asks : EndsWell q.turns ((masked m).root q).end → MayAsk (masked m) q
-      asks h = elim (cases_Bool (may_ask m q)) [
-        | inl e ↦ to_masked m q (may_from m q e)
-        | inr e ↦
-            let by_0 : EndsWell q.turns (unasked q).end = subst (λ (x : RootEnd). EndsWell q.turns x.end) (other (may_ask m q) (m.root q) (unasked q) e) h in
-            let some : 1 ≤ 0 = by_0.0 in
-            absurd (omega (arith, some))
-      ]
+  answers_masked : (q : Question) → MayAsk (masked m) q → AnswersWell (masked m) q
+  answers_masked q h =
+      let may : MayAsk m q = from_masked m q h in
+      let same : m.root q ≡ (masked m).root q = sym (answer_is m q may) in
+      let a : AnswersWell m q = well q may in
+      record {
+        contents = subst (λ (x : RootEnd). Fits m.fields (m.fields q.class) (m.initial q.class) x.contents) same a.contents;
+        statics = subst (λ (x : RootEnd). Fits m.fields m.static_fields m.initial_statics x.statics) same a.statics;
+        end = subst (λ (x : RootEnd). EndsWell q.turns x.end) same a.end;
+      }
 
   pub masked_whole : HasTables m → IsWhole (masked m)
-  masked_whole tables = record { tables = tables_masked m tables; unasked = unasked_masked; roots = fits_masked; ends = ends_masked }
+  masked_whole tables = record { tables = tables_masked m tables; unasked = unasked_masked; answers = answers_masked }
+
+-- ---- what a whole code leaves
+
+-- whatever it is asked, also what it may not be asked
+pub whole_leaves : (m : Meaning) → IsWhole m → (q : Question) → Fits m.fields (m.fields q.class) (m.initial q.class) q.contents →
+    Fits m.fields m.static_fields m.initial_statics q.statics →
+    Fits m.fields (m.fields q.class) (m.initial q.class) (m.root q).contents × Fits m.fields m.static_fields m.initial_statics (m.root q).statics
+whole_leaves m whole q given given_statics = elim (cases_Bool (may_ask m q)) [
+  | inl e ↦ let a : AnswersWell m q = whole.answers q (may_from m q e) in (a.contents, a.statics)
+  | inr e ↦
+      subst (λ (x : RootEnd). Fits m.fields (m.fields q.class) (m.initial q.class) x.contents × Fits m.fields m.static_fields m.initial_statics x.statics)
+      (sym (whole.unasked q (λ h. both_ways (may_ask m q) e (may_then m q h)))) (given, given_statics)
+]

@@ -13,7 +13,7 @@ use Rattle.sed_engine.specs.State.{Shared, State, End, gives, answers, after, th
 use Rattle.sed_engine.specs.Steps.{contents_of, load, replace, store, written_at, turn_of, take_turn}
 use Rattle.sed_engine.specs.Expressions.{Setting, Called, Calls, back}
 use Rattle.sed_engine.specs.Statements.{Flow, Round, Again, Over, Answer, after_round, loop, rounds, exec}
-use Rattle.sed_engine.specs.Root.{called, answered, untyped, is_frame_of, run_body, run_method, calls_with}
+use Rattle.sed_engine.specs.Root.{called, answered, run_body, run_method, calls_with}
 use Rattle.sed_engine.proofs.Related.{Closed, of_stmt}
 
 -- the same with k turns more
@@ -160,13 +160,7 @@ body_same k w calls kind (Some x) frame s u =
 method_same : (k : ℕ) (w : Setting) → CallsSame k w.calls → (m : Option Method) (frame : List Val) (s : Shared) → Unspent (run_method w m frame s).result →
     run_method w m frame (more_shared k s) ≡ record { result = (run_method w m frame s).result; shared = more_shared k (run_method w m frame s).shared }
 method_same k w calls None frame s u = refl
-method_same k w calls (Some m) frame s u = go (is_frame_of m frame) u
-  where
-    go : (b : Bool) → Unspent ((if b then run_body w m.result m.body else untyped) frame s).result →
-        (if b then run_body w m.result m.body else untyped) frame (more_shared k s)
-        ≡ record { result = ((if b then run_body w m.result m.body else untyped) frame s).result; shared = more_shared k ((if b then run_body w m.result m.body else untyped) frame s).shared }
-    go true u = body_same k w calls m.result m.body frame s u
-    go false u = refl
+method_same k w calls (Some m) frame s u = body_same k w calls m.result m.body frame s u
 
 -- a call that did not spend its turns ends the same with k more, and leaves k more
 pub calls_same : (k : ℕ) (program : Program) (class frames : ℕ) → CallsSame k (calls_with program class frames)

@@ -357,18 +357,6 @@ too_deep : (p : Pointer) → Typed (with_body (nested 65) p) → ⊥
 unfolding nested
 too_deep p typed = let most : 65 ≤ 64 = (body_in (nested 65) p typed).depth in omega (arith, most)
 
--- a chain whose head is a chain, and so on 2,080 times, which nests nowhere
-heads : ℕ → Pointer → Expr
-heads zero p = int 1
-heads (suc n) p = chain p (heads n p) (by op.Add (int 1))
-
-high : Pointer → Stmt
-high p = stmt.Do (heads 2080 p)
-
-too_high : (p : Pointer) → Typed (with_body high p) → ⊥
-unfolding heads high
-too_high p typed = let most : 2082 ≤ 2080 = (body_in high p typed).height in omega (arith, most)
-
 -- a declaration that leaves out a number
 leaving_out : Pointer → Stmt
 leaving_out p = stmt.Local kind.Int 2 None

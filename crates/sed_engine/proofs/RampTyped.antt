@@ -324,7 +324,7 @@ pub receiver_is : (program : Program) (class : ℕ) → class < length program.s
 receiver_is program class h = all_of (IsStorable program) (kind.Object (record { 0 = class }) ∷ []) (h, tt)
 
 nothing_is_body : (program : Program) (p : Pointer) (class : ℕ) (name : List ℕ) → class < length program.schema.classes → IsBody program (void_method class name (nothing p)) (nothing p)
-nothing_is_body program p class name h = record { storable = receiver_is program class h; numbered = tt; most_locals = lit≤ tt; typed = tt; depth = lit≤ tt; height = lit≤ tt }
+nothing_is_body program p class name h = record { storable = receiver_is program class h; numbered = tt; most_locals = lit≤ tt; typed = tt; depth = lit≤ tt }
 
 adding_is_body : (p : Pointer) → IsBody (ramp p) (void_method 5 (codes "execute") (adding p)) (adding p)
 adding_is_body p = record {
@@ -333,7 +333,6 @@ adding_is_body p = record {
   most_locals = lit≤ tt;
   typed = (((refl, refl), refl), (((refl, refl), (refl, tt)), ((((refl, refl), (refl, tt)), (refl, refl)), tt)), refl);
   depth = lit≤ tt;
-  height = lit≤ tt;
 }
 
 changed_is_body : (program : Program) (p : Pointer) (class : ℕ) → class < length program.schema.classes → IsBody program (changed_method class (nothing p)) (nothing p)
@@ -343,7 +342,6 @@ changed_is_body program p class h = record {
   most_locals = lit≤ tt;
   typed = tt;
   depth = lit≤ tt;
-  height = lit≤ tt;
 }
 
 pub has_body : {P : Type 0} (body : Stmt) → Some body ≡ None → P
@@ -474,4 +472,4 @@ ramp_asked p = record {
 }
 
 pub ramp_ends : (p : Pointer) → EndsWell 10 ((meaning_of (ramp p)).root (new_ramp p)).end
-ramp_ends p = ((ramp_is_whole p).ends (new_ramp p)).0 (ramp_asked p)
+ramp_ends p = ((ramp_is_whole p).answers (new_ramp p) (ramp_asked p)).end

@@ -126,7 +126,7 @@ module _ (R : (A : Type 0) → (State → End A) → Type 0) (w : Setting) (c : 
   of_part (kind.Object class) spot = c.follow (c.answer (there (class_of w spot))) (λ class. give _)
   of_part k spot = c.answer _
 
-  of_text_bytes : (v : Val) → R (List ℕ) (text_bytes w v)
+  of_text_bytes : (v : Val) → R (List ℕ) (text_bytes w.program.texts v)
   of_text_bytes Nothing = c.follow (c.answer (spot_of Nothing)) of_read_bytes
   of_text_bytes (Truth t) = c.follow (c.answer (spot_of (Truth t))) of_read_bytes
   of_text_bytes (Int n) = c.follow (c.answer (spot_of (Int n))) of_read_bytes
@@ -135,7 +135,7 @@ module _ (R : (A : Type 0) → (State → End A) → Type 0) (w : Setting) (c : 
   of_text_bytes (At spot) = c.follow (c.answer (spot_of (At spot))) of_read_bytes
   of_text_bytes (Literal n) = c.answer _
 
-  of_text_call : (op : TextCall) (v : Val) (args : List Val) → R Val (text_call w op v args)
+  of_text_call : (op : TextCall) (v : Val) (args : List Val) → R Val (text_call w.program.texts op v args)
   of_text_call text.Length v args = c.follow (of_text_bytes v) (λ bytes. give _)
   of_text_call text.Get v args = c.follow (of_text_bytes v) (λ bytes. c.follow (c.answer _) (λ i. give _))
   of_text_call text.Set v args = c.follow (c.answer (changeable v)) (λ spot. c.follow (of_read_bytes spot) (λ bytes. c.follow {A = ℕ} (c.answer (index_of (length {A = ℕ} bytes - 1) (operand args 0))) (λ i. c.follow (c.answer (whole width.Int (operand args 1))) (λ n. of_write_bytes spot (with_character bytes i n)))))

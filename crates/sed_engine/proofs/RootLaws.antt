@@ -5,7 +5,9 @@ use Rattle.sed_engine.specs.Values.{Val}
 use Rattle.sed_engine.specs.State.{Shared}
 use Rattle.sed_engine.specs.Expressions.{Called, Calls}
 use Rattle.sed_engine.specs.Root.{RootEnd, root_end, start_root, end_of, root_frame}
-use Rattle.sed_engine.specs.Turns.{LeavesAtMost, IsDone, with_more}
+use Rattle.sed_engine.specs.declared.call.CallEnd.{CallEnd}
+use Rattle.sed_engine.specs.declared.call.CallEnd.TheVariants.{Done, Trap}
+use Rattle.sed_engine.specs.Turns.{IsDone, with_more}
 use Rattle.sed_engine.proofs.KeepsFit.{Forms, FitsNow, CallsFit}
 use Rattle.sed_engine.proofs.Within.{Within, within_self, CallsKeep}
 use Rattle.sed_engine.proofs.MoreTurns.{more_shared, Unspent, CallsSame}
@@ -15,6 +17,11 @@ started_within calls keep (Ok None) (Ok v) s = within_self s
 started_within calls keep (Ok (Some m)) (Ok v) s = keep.keeps m (root_frame v) s
 started_within calls keep (Ok m) (Err stop) s = within_self s
 started_within calls keep (Err stop) v s = within_self s
+
+-- a call that ended normally left no more turns than these
+abbrev pub LeavesAtMost : CallEnd → ℕ → Type 0
+LeavesAtMost (Done left) turns = left ≤ turns
+LeavesAtMost (Trap number) turns = Unit {0}
 
 left_of : (r : Result Val Stop) (left turns : ℕ) → left ≤ turns → LeavesAtMost (end_of r left) turns
 left_of (Ok v) left turns h = h

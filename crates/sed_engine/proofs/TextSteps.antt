@@ -159,7 +159,7 @@ module _ (program : Program) (typed : Typed program) (class : ℕ) (component : 
       let most : n ≤ 255 = good program typed class spot.base spot.path (form.Str n) e in
       (s.bytes_are, omega (arith, s.long, most))
 
-  text_holds : (v : Val) → Has kind.Text v → Holds G (List ℕ) TextBytes (text_bytes w v)
+  text_holds : (v : Val) → Has kind.Text v → Holds G (List ℕ) TextBytes (text_bytes program.texts v)
   text_holds Null h = record { holds = λ s g. (g, tt) }
   text_holds (Literal n) h = answers_it (map_ok literal_bytes (there (slice_get program.texts n))) (literal_at n h)
   text_holds (At spot) h = weaker (read_str_holds program typed class component m spot h.0 h.1) (λ bytes k. str_text spot h.0 h.1 bytes k)
@@ -181,7 +181,7 @@ module _ (program : Program) (typed : Typed program) (class : ℕ) (component : 
   second_operand j k ks (u ∷ []) h = absurd h.1
   second_operand j k ks (u ∷ v ∷ vs) h = h.1.0
 
-  set_holds : (v : Val) (args : List Val) → Has kind.Text v → FrameHas program class (text_kinds text.Set) args → Holds G Val (λ _. Unit {0}) (text_call w text.Set v args)
+  set_holds : (v : Val) (args : List Val) → Has kind.Text v → FrameHas program class (text_kinds text.Set) args → Holds G Val (λ _. Unit {0}) (text_call program.texts text.Set v args)
   set_holds Null args h a = record { holds = λ s g. (g, tt) }
   set_holds (Literal n) args h a = record { holds = λ s g. (g, tt) }
   set_holds (At spot) args h a =
@@ -192,7 +192,7 @@ module _ (program : Program) (typed : Typed program) (class : ℕ) (component : 
       (str_from h.0 (with_character bytes i c) (set_str h.0 bytes i c (str_of h.0 bytes k) (ltb-true i (length bytes - 1) less))))))
   set_holds v args h a = absurd h
 
-  copy_holds : (v : Val) (args : List Val) → Has kind.Text v → FrameHas program class (text_kinds text.Copy) args → Holds G Val (λ _. Unit {0}) (text_call w text.Copy v args)
+  copy_holds : (v : Val) (args : List Val) → Has kind.Text v → FrameHas program class (text_kinds text.Copy) args → Holds G Val (λ _. Unit {0}) (text_call program.texts text.Copy v args)
   copy_holds Null args h a = record { holds = λ s g. (g, tt) }
   copy_holds (Literal n) args h a =
       then_holds (text_holds (Literal n) h) (λ old _. then_holds (text_holds (operand args 0) (first_operand kind.Text [] args a)) (λ new _. record { holds = λ s g. (g, tt) }))
@@ -204,7 +204,7 @@ module _ (program : Program) (typed : Typed program) (class : ℕ) (component : 
       (str_from h.0 (filled (length old) (characters new)) (subst (λ (n : ℕ). StrBytes n (filled (length old) (characters new))) long (filled_str (length old) (characters new) (chars_of new t).0)))))
   copy_holds v args h a = absurd h
 
-  called_holds : (op : TextCall) (v : Val) (args : List Val) → Has kind.Text v → FrameHas program class (text_kinds op) args → Holds G Val (Has (text_kind op)) (text_call w op v args)
+  called_holds : (op : TextCall) (v : Val) (args : List Val) → Has kind.Text v → FrameHas program class (text_kinds op) args → Holds G Val (Has (text_kind op)) (text_call program.texts op v args)
   called_holds text.Length v args h a = then_holds (text_holds v h) (λ bytes t. gives_it (Int (pos (length (characters bytes)))) (int_of (length (characters bytes)) (chars_of bytes t).1))
   called_holds text.Get v args h a =
       then_holds (text_holds v h) (λ bytes t.
@@ -230,7 +230,7 @@ module _ (program : Program) (typed : Typed program) (class : ℕ) (component : 
   most_two text.Copy = lit≤ tt
 
   pub text_call_holds : (op : TextCall) (v : Val) (ks : List Kind) (fs : List (State → End Val)) → ArgsHold G Has ks fs → Has kind.Text v → ks ≡ text_kinds op →
-      Holds G Val (Has (text_kind op)) (λ s. then_do (put_all 0 fs (replicate 2 Nothing) s) (λ args s1. text_call w op v args s1))
+      Holds G Val (Has (text_kind op)) (λ s. then_do (put_all 0 fs (replicate 2 Nothing) s) (λ args s1. text_call program.texts op v args s1))
   text_call_holds op v ks fs args h e =
       then_holds (args_put program typed class component m [] ks (text_kinds op) fs (replicate 2 Nothing) args (subst (λ (all : List Kind). AllGoTo program all (text_kinds op)) (sym e) (themselves op)) (no_locals program class 2) (most_two op))
       (λ out p. called_holds op v out h p.0)

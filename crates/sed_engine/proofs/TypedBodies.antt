@@ -22,10 +22,10 @@ use Rattle.sed_engine.specs.Values.{Val, Nothing, whole, truth, zero_of}
 use Rattle.sed_engine.specs.State.{Shared, State, End}
 use Rattle.sed_engine.specs.Expressions.{Setting, Calls, eval}
 use Rattle.sed_engine.specs.Statements.{Flow, Next, Break, Continue, Return, Round, Again, Over, Answer, follows, in_order, after_body, round, do_round, after_round, loop, rounds, label_of, leaves, eval_or, exec, execs}
-use Rattle.sed_engine.specs.Root.{answer_of, answered, untyped, run_body, run_method, calls_with}
+use Rattle.sed_engine.specs.Root.{answer_of, answered, run_body, run_method, calls_with}
 use Rattle.sed_engine.proofs.Below.{no, at_place}
 use Rattle.sed_engine.proofs.CallSteps.{CallsSound, weaker}
-use Rattle.sed_engine.proofs.Frames.{FrameHas, local_has, frame_runs, frame_begins}
+use Rattle.sed_engine.proofs.Frames.{FrameHas, local_has, frame_runs}
 use Rattle.sed_engine.proofs.Kinded.{HasKind, goes, truth_is, whole_int, zero_is}
 use Rattle.sed_engine.proofs.Ranges.{Sound}
 use Rattle.sed_engine.proofs.Ready.{Fitting, Ready, Frame, Holds, then_holds, gives_it, answers_it, chooses, turn_holds, write_local_holds}
@@ -221,13 +221,6 @@ module _ (program : Program) (typed : Typed program) (class : ℕ) (component : 
       let run = (of_stmt program typed class component (frame_for x) calls sound x.result b alone is.typed).holds (record { shared = s; locals = frame }) (begins x b is frame s h long fitting) in
       (run.0.fitting, answered_is program class x.result (exec within b (record { shared = s; locals = frame })).result run.1)
 
-storable_of : (program : Program) (x : Method) → IsMethod program x → All (IsStorable program) (receiver_of x ++ x.params)
-storable_of program x is = All-append (IsStorable program) (receiver_of x) x.params (go x.is_static) is.params
-  where
-    go : (b : Bool) → All (IsStorable program) (if b then [] else kind.Object x.class ∷ [])
-    go true = All-nil (IsStorable program)
-    go false = All-cons (IsStorable program) (kind.Object x.class) [] is.class (All-nil (IsStorable program))
-
 -- calls of typed methods are sound, with however many frames left
 pub calls_sound : (program : Program) → Typed program → (class : ℕ) → Concrete program class → (frames : ℕ) → CallsSound program class (calls_with program class frames)
 unfolding calls_with
@@ -236,7 +229,5 @@ calls_sound program typed class component (suc frames) = record {
   sound = λ n x frame s e some h long fitting.
       let w : Setting = record { program = program; class = class; calls = calls_with program class frames } in
       subst (λ (o : Option Method). Fitting program class (run_method w o frame s).shared × Sound (HasKind program class x.result) (run_method w o frame s).result) (sym e)
-      (subst (λ (b : Bool). let c = (if b then run_body w x.result x.body else untyped) frame s in Fitting program class c.shared × Sound (HasKind program class x.result) c.result)
-      (sym (frame_begins program class (receiver_of x ++ x.params) frame h (storable_of program x (at_place (IsMethod program) program.methods n x typed.methods e))))
-      (body_sound program typed class component (calls_with program class frames) (calls_sound program typed class component frames) x x.body frame s (at_place (IsMethod program) program.methods n x typed.methods e).body some h long fitting));
+      (body_sound program typed class component (calls_with program class frames) (calls_sound program typed class component frames) x x.body frame s (at_place (IsMethod program) program.methods n x typed.methods e).body some h long fitting);
 }

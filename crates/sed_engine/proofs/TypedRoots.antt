@@ -33,7 +33,6 @@ use Rattle.sed_engine.specs.Program.{code_of}
 use Rattle.sed_engine.specs.State.{Shared}
 use Rattle.sed_engine.specs.Expressions.{Called, Calls}
 use Rattle.sed_engine.specs.Root.{method_at, callback_method, root_method, argument_of, root_frame, start_root, end_of, most_frames, calls_with}
-use Rattle.sed_engine.specs.Turns.{LeavesAtMost}
 use Rattle.sed_engine.specs.Whole.{EndsWell, NeverGoesWrong}
 use Rattle.sed_engine.proofs.Below.{Below, Itself, below_of, no, of_some, FoundFor, found_below, found_above}
 use Rattle.sed_engine.proofs.CallSteps.{CallsSound}
@@ -41,7 +40,7 @@ use Rattle.sed_engine.proofs.Frames.{FrameHas, no_locals}
 use Rattle.sed_engine.proofs.Kinded.{HasKind}
 use Rattle.sed_engine.proofs.Ranges.{Sound}
 use Rattle.sed_engine.proofs.Ready.{Fitting}
-use Rattle.sed_engine.proofs.RootLaws.{run_leaves}
+use Rattle.sed_engine.proofs.RootLaws.{run_leaves, LeavesAtMost}
 use Rattle.sed_engine.proofs.Spots.{Concrete, found_body}
 use Rattle.sed_engine.proofs.SysMethods.{IsRoot, SysClass, sys_class, root_there}
 use Rattle.sed_engine.proofs.TypedBodies.{calls_sound}

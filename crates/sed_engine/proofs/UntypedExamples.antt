@@ -125,14 +125,6 @@ call_goes_wrong p call m =
 abbrev same : Method
 same = method_of 5 (codes "f") (kind.Int ∷ []) kind.Int (stmt.Return (Some (expr.Local kind.Int 1)))
 
-no_argument : (p : Pointer) → call_goes_wrong p (chain p this (link.Invoke' kind.Int 1 (none p) end_of-Expr)) same
-unfolding calls_with
-no_argument p = refl
-
-no_receiver : (p : Pointer) → call_goes_wrong p (expr.Call' kind.Int 1 (one p) (more_of-Expr (int 7) end_of-Expr)) same
-unfolding calls_with
-no_receiver p = refl
-
 no_method : (p : Pointer) → call_goes_wrong p (chain p this (link.Invoke' kind.Int 2 (none p) end_of-Expr)) same
 unfolding calls_with
 no_method p = refl

@@ -12,7 +12,7 @@ use Rattle.sed_engine.specs.State.{Shared, State, End, answers, after, then_do}
 use Rattle.sed_engine.specs.Steps.{contents_of, replace, store_over, written_at}
 use Rattle.sed_engine.specs.Expressions.{Setting, Calls}
 use Rattle.sed_engine.specs.Statements.{Flow, Round, Again, Over, Answer, after_round, loop}
-use Rattle.sed_engine.specs.Root.{untyped, is_frame_of, run_body, run_method, calls_with}
+use Rattle.sed_engine.specs.Root.{run_body, run_method, calls_with}
 use Rattle.sed_engine.proofs.Related.{Closed, of_stmt}
 
 abbrev pub paths : Contents → List Path
@@ -89,11 +89,7 @@ body_keeps w calls kind (Some x) frame s = (of_stmt Keeps w (closed w calls) x).
 
 method_keeps : (w : Setting) → CallsKeep w.calls → (m : Option Method) (frame : List Val) (s : Shared) → Within s (run_method w m frame s).shared
 method_keeps w calls None frame s = within_self s
-method_keeps w calls (Some m) frame s = go (is_frame_of m frame)
-  where
-    go : (b : Bool) → Within s ((if b then run_body w m.result m.body else untyped) frame s).shared
-    go true = body_keeps w calls m.result m.body frame s
-    go false = within_self s
+method_keeps w calls (Some m) frame s = body_keeps w calls m.result m.body frame s
 
 -- calls leave no more turns than they were given, and keep every path
 pub calls_keep : (program : Program) (class frames : ℕ) → CallsKeep (calls_with program class frames)

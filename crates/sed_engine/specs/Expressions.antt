@@ -92,10 +92,10 @@ abbrev pub invoke : Setting → Val → ℕ → List (State → End Val) → Sta
 invoke w receiver method args s =
     then_do (put_all 1 args (frame_of receiver) s) (λ frame s1. then_do (answers (spot_of receiver) s1) (λ spot s2. then_do (answers (method_for w spot method) s2) (λ m s3. call w m frame s3)))
 
--- the bytes of a Str, or of a text literal as a Str; null traps
-abbrev pub text_bytes : Setting → Val → State → End (List ℕ)
-text_bytes w (Literal n) s = answers (map_ok literal_bytes (there (slice_get w.program.texts n))) s
-text_bytes w v s = then_do (answers (spot_of v) s) (λ spot s1. read_bytes spot s1)
+-- the bytes of a Str, or of one of these text literals as a Str; null traps
+abbrev pub text_bytes : List (List ℕ) → Val → State → End (List ℕ)
+text_bytes texts (Literal n) s = answers (map_ok literal_bytes (there (slice_get texts n))) s
+text_bytes texts v s = then_do (answers (spot_of v) s) (λ spot s1. read_bytes spot s1)
 
 -- a Str that may be changed, which a text literal is not
 abbrev pub changeable : Val → Result Spot Stop
@@ -105,17 +105,17 @@ changeable v = spot_of v
 abbrev pub operand : List Val → ℕ → Val
 operand args i = slice_index_or args i Nothing
 
-abbrev pub text_call : Setting → TextCall-type → Val → List Val → State → End Val
-text_call w text.Length v args s =
-    then_do (text_bytes w v s) (λ bytes s1. gives (Int (pos (length (characters bytes)))) s1)
-text_call w text.Get v args s =
-    then_do (text_bytes w v s) (λ bytes s1. then_do (answers (index_of (length bytes) (operand args 0)) s1) (λ i s2. gives (Int (pos (slice_index bytes i))) s2))
-text_call w text.Set v args s =
+abbrev pub text_call : List (List ℕ) → TextCall-type → Val → List Val → State → End Val
+text_call texts text.Length v args s =
+    then_do (text_bytes texts v s) (λ bytes s1. gives (Int (pos (length (characters bytes)))) s1)
+text_call texts text.Get v args s =
+    then_do (text_bytes texts v s) (λ bytes s1. then_do (answers (index_of (length bytes) (operand args 0)) s1) (λ i s2. gives (Int (pos (slice_index bytes i))) s2))
+text_call texts text.Set v args s =
     then_do (answers (changeable v) s) (λ spot s1. then_do (read_bytes spot s1) (λ bytes s2. then_do (answers (index_of (length bytes - 1) (operand args 0)) s2) (λ i s3. then_do (answers (whole width.Int (operand args 1)) s3) (λ c s4. write_bytes spot (with_character bytes i c) s4))))
-text_call w text.Equals v args s =
-    then_do (text_bytes w v s) (λ a s1. then_do (text_bytes w (operand args 0) s1) (λ b s2. gives (truth (bytes_eq (characters a) (characters b))) s2))
-text_call w text.Copy v args s =
-    then_do (text_bytes w v s) (λ old s1. then_do (text_bytes w (operand args 0) s1) (λ new s2. then_do (answers (changeable v) s2) (λ spot s3. write_bytes spot (filled (length old) (characters new)) s3)))
+text_call texts text.Equals v args s =
+    then_do (text_bytes texts v s) (λ a s1. then_do (text_bytes texts (operand args 0) s1) (λ b s2. gives (truth (bytes_eq (characters a) (characters b))) s2))
+text_call texts text.Copy v args s =
+    then_do (text_bytes texts v s) (λ old s1. then_do (text_bytes texts (operand args 0) s1) (λ new s2. then_do (answers (changeable v) s2) (λ spot s3. write_bytes spot (filled (length old) (characters new)) s3)))
 
 -- `size` and `bytes[i]` of the Buf in a field of an object: null is tested, then the index
 abbrev pub buf_bytes : Val → ℕ → State → End (List ℕ)
@@ -174,7 +174,7 @@ abbrev mutual
   meaning w (link.Size i) v s = buf_size v i s
   meaning w (link.Byte i e) v s = then_do (eval w e s) (λ index s1. buf_byte v i index s1)
   meaning w (link.Invoke' kind m shape args) v s = invoke w v m (evals w args) s
-  meaning w (link.TextCall' op shape args) v s = then_do (put_all 0 (evals w args) (replicate 2 Nothing) s) (λ xs s1. text_call w op v xs s1)
+  meaning w (link.TextCall' op shape args) v s = then_do (put_all 0 (evals w args) (replicate 2 Nothing) s) (λ xs s1. text_call w.program.texts op v xs s1)
   meaning w (link.After e) v s = eval w e s
 
   pub evals : {n : _} → Setting → Row_of-Expr n → List (State → End Val)

@@ -15,4 +15,5 @@ pub mod Asked
 pub mod Whole
 pub mod Carries
 pub mod Program
+pub mod Runnable
 pub mod Turns

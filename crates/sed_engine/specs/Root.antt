@@ -1,5 +1,5 @@
 -- What a root call does.
-use Rattle.std.specs.Prelude.{ℕ, zero, suc, ℤ, Bool, List, [], ◌++◌, codes, length, if◌then◌else◌, is_some, slice_get, slice_set, Option, Some, None, Result, Ok, Err}
+use Rattle.std.specs.Prelude.{ℕ, zero, suc, ℤ, List, [], codes, if◌then◌else◌, is_some, slice_get, slice_set, Option, Some, None, Result, Ok, Err}
 use Rattle.sed_value.specs.declared.value.Value.{Value}
 use Rattle.sed_value.specs.declared.value.Value.TheVariants as kept
 use Rattle.sed_typed.specs.declared.kind.Kind.{Kind}
@@ -10,7 +10,6 @@ use Rattle.sed_typed.specs.Contents.{Contents}
 use Rattle.sed_typed.specs.Classes.{find, slot_name}
 use Rattle.sed_typed.specs.Schemas.{type_at}
 use Rattle.sed_typed.specs.SysTypes.{component_type}
-use Rattle.sed_typed.specs.Typed.{receiver_of}
 use Rattle.sed_engine.specs.declared.trap.Trap.TheVariants.{TooDeep}
 use Rattle.sed_engine.specs.declared.call.Root.{Root as Root-type}
 use Rattle.sed_engine.specs.declared.call.Root.TheVariants.{Execute, Action, Callback}
@@ -19,7 +18,7 @@ use Rattle.sed_engine.specs.declared.call.Callback.TheVariants as callback
 use Rattle.sed_engine.specs.declared.call.CallEnd.{CallEnd}
 use Rattle.sed_engine.specs.declared.call.CallEnd.TheVariants as end
 use Rattle.sed_engine.specs.Stops.{Stop, Traps, Untyped, stop_number, there, map_ok, and_then}
-use Rattle.sed_engine.specs.Values.{Val, Nothing, At, Component, read_as, zero_of, are_begun}
+use Rattle.sed_engine.specs.Values.{Val, Nothing, At, Component, read_as, zero_of}
 use Rattle.sed_engine.specs.State.{Shared, End}
 use Rattle.sed_engine.specs.Expressions.{Setting, Called, Calls, frame_of}
 use Rattle.sed_engine.specs.Statements.{Flow, Next, Break, Continue, Return, exec}
@@ -45,13 +44,9 @@ abbrev pub run_body : Setting → Kind → Option Stmt → List Val → Shared �
 run_body w kind None frame shared = untyped frame shared
 run_body w kind (Some body) frame shared = called kind (exec w body (record { shared = shared; locals = frame }))
 
--- a method begins with its receiver and an argument for each parameter
-abbrev pub is_frame_of : Method → List Val → Bool
-is_frame_of m frame = are_begun (length (receiver_of m ++ m.params)) frame
-
 abbrev pub run_method : Setting → Option Method → List Val → Shared → Called
 run_method w None frame shared = untyped frame shared
-run_method w (Some m) frame shared = (if is_frame_of m frame then run_body w m.result m.body else untyped) frame shared
+run_method w (Some m) frame shared = run_body w m.result m.body frame shared
 
 -- calls with so many frames left
 unfoldable pub calls_with : Program → ℕ → ℕ → Calls

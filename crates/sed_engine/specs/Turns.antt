@@ -1,12 +1,7 @@
 -- More turns.
-use Rattle.std.specs.Prelude.{ℕ, ◌+◌, ◌≤◌}
+use Rattle.std.specs.Prelude.{ℕ, ◌+◌}
 use Rattle.sed_engine.specs.declared.call.CallEnd.{CallEnd}
 use Rattle.sed_engine.specs.declared.call.CallEnd.TheVariants.{Done, Trap}
-
--- a call that ended normally left no more turns than these
-abbrev pub LeavesAtMost : CallEnd → ℕ → Type 0
-LeavesAtMost (Done left) turns = left ≤ turns
-LeavesAtMost (Trap number) turns = Unit {0}
 
 -- a call that ended normally with so many more turns left
 abbrev pub with_more : ℕ → CallEnd → CallEnd

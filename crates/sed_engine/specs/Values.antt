@@ -140,17 +140,6 @@ abbrev pub begun : Kind → Val → Val
 begun kind Nothing = zero_of kind
 begun kind v = v
 
-abbrev pub is_begun : Val → Bool
-is_begun Nothing = false
-is_begun v = true
-
--- the first so many locals are begun, and no others
-abbrev pub are_begun : ℕ → List Val → Bool
-are_begun zero [] = true
-are_begun zero (v ∷ vs) = not (is_begun v) && are_begun zero vs
-are_begun (suc n) [] = false
-are_begun (suc n) (v ∷ vs) = is_begun v && are_begun n vs
-
 -- the receiver, which a typed method that names it has
 abbrev pub receiver : Val → Result Val Stop
 receiver Nothing = Err Untyped

@@ -1,5 +1,5 @@
 -- What everything above a code relies on.
-use Rattle.std.specs.Prelude.{ℕ, ◌≡◌, ◌↔◌, ◌==◌, ◌<◌, ◌≤◌, true, IsTrue, All, IfSome, IsSome, IsSomeAnd, [], length, count_by, slice_get, codes, Some, None}
+use Rattle.std.specs.Prelude.{ℕ, ◌≡◌, ◌==◌, ◌<◌, ◌≤◌, true, IsTrue, All, IfSome, IsSome, IsSomeAnd, [], length, count_by, slice_get, codes, Some, None}
 use Rattle.std.specs.Int.{w64}
 use Rattle.sed_value.specs.Value.{is_signed}
 use Rattle.sed_value.specs.declared.slot_type.SlotType.{SlotType}
@@ -100,22 +100,18 @@ abbrev pub EndsWell : ℕ → CallEnd → Type 0
 EndsWell turns (Done left) = left ≤ turns
 EndsWell turns (Trap number) = (1 ≤ number) × (number ≤ 5)
 
--- it ends well exactly where it may be asked: what may not be asked ends by 0 (`unasked`), which tells of no trap
-abbrev pub RootEnds : Meaning → Type 0
-RootEnds m = (q : Question) → MayAsk m q ↔ EndsWell q.turns (m.root q).end
-
--- a code that may be run: what is said of it in whole
-pub record IsWhole (m : Meaning) : Type 0 where
-  pub tables : HasTables m
-  pub unasked : (q : Question) → (MayAsk m q → ⊥) → m.root q ≡ unasked q
-  pub roots : RootFits m
-  pub ends : RootEnds m
-
--- what a root call comes to, wherever it may be asked
+-- what a root call comes to: it leaves what fits, and ends well
 pub record AnswersWell (m : Meaning) (q : Question) : Type 0 where
   pub contents : Fits m.fields (m.fields q.class) (m.initial q.class) (m.root q).contents
   pub statics : Fits m.fields m.static_fields m.initial_statics (m.root q).statics
   pub end : EndsWell q.turns (m.root q).end
+
+-- A code that may be run: what is said of it in whole. It answers well whatever it may be asked, and all else in one way, by
+-- which nothing changes, and which tells of no trap.
+pub record IsWhole (m : Meaning) : Type 0 where
+  pub tables : HasTables m
+  pub unasked : (q : Question) → (MayAsk m q → ⊥) → m.root q ≡ unasked q
+  pub answers : (q : Question) → MayAsk m q → AnswersWell m q
 
 -- a root call on a component ends well, with any number of turns
 abbrev pub NeverGoesWrong : Meaning → Type 0

@@ -1,8 +1,9 @@
 //! Laws of the meaning of programs and of codes. Each is the contract of a function that does nothing.
-ghost use Rattle.std.specs.Prelude.{◌≡◌, ◌+◌, ℕ, ℤ, IsTrue, map};
+ghost use Rattle.std.specs.Prelude.{◌≡◌, ◌+◌, ◌≤◌, ℕ, ℤ, IsTrue, map};
 ghost use Rattle.sed_value.specs.declared.value.Value.{Value};
 ghost use Rattle.sed_typed.specs.declared.program.Program.{Program};
 ghost use Rattle.sed_typed.specs.Contents.{Contents};
+ghost use Rattle.sed_engine.specs.declared.call.CallEnd.TheVariants.{Done};
 ghost use Rattle.sed_engine.specs.declared.call.Root.{Root as AnyRoot};
 ghost use Rattle.sed_engine.specs.Root.{root};
 ghost use Rattle.sed_engine.specs.Asked.{MayAsk, masked};
@@ -12,14 +13,14 @@ ghost use Rattle.sed_engine.specs.Fits.{Fits};
 ghost use Rattle.sed_engine.specs.Program.{code_of, meaning_of};
 ghost use Rattle.sed_engine.specs.Whole.{AnswersWell, HasTables, IsObject, IsWhole, NeverGoesWrong, RootFits};
 ghost use Rattle.sed_typed.specs.Typed.{Typed};
-ghost use Rattle.sed_engine.specs.Turns.{LeavesAtMost, IsDone, with_more};
+ghost use Rattle.sed_engine.specs.Turns.{IsDone, with_more};
 
 use sed_value::low_bits_are_exact;
 
 /// A root call that ends normally leaves no more turns than it was given.
 pub fn turns_do_not_grow()
     ensures { (program : Program) (class : ℕ) (contents statics : Contents) (which : AnyRoot) (argument : Value) (turns : ℕ) (moment : ℤ) →
-        LeavesAtMost (root program class contents statics which argument turns moment).end turns }
+        (left : ℕ) → (root program class contents statics which argument turns moment).end ≡ Done left → left ≤ turns }
 {}
 
 /// A root call changes values alone: no path of the component or of the statics comes or goes.

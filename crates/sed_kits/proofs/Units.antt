@@ -18,7 +18,7 @@ use Rattle.kit_sources.specs.declared.sources.Sources.{Sources}
 use Rattle.kit_sources.specs.Text.{IsUnit, IsOfBytes, AreOfBytes}
 use Rattle.sed_read.specs.Read.{IsReadUnit, AreRead}
 use Rattle.sed_elaborate.specs.Checked.{faults, IsSpelled}
-use Rattle.sed_cycles.specs.Cycles.{IsRunnable}
+use Rattle.sed_engine.specs.Runnable.{IsRunnable}
 use Rattle.sed_kits.specs.declared.refusal.KitsRefusal.{KitsRefusal}
 use Rattle.sed_kits.specs.Refusals.{is_want}
 use Rattle.sed_kits.specs.Loading.{IsChecked, local}

@@ -3,7 +3,7 @@ ghost use Rattle.std.specs.Prelude.{◌≡◌, ◌≢◌, ◌≤◌, ℕ, List, 
 ghost use Rattle.file_steps.specs.Steps.{Read, UnlessFree};
 ghost use Rattle.file_steps.specs.Reads.{AreKnown, HasReads};
 ghost use Rattle.kit_sources.specs.Sources.{names_of};
-ghost use Rattle.sed_cycles.specs.Cycles.{IsRunnable};
+ghost use Rattle.sed_engine.specs.Runnable.{IsRunnable};
 ghost use Rattle.sed_outside.specs.Cause.{Rose};
 ghost use Rattle.sed_typed.specs.Typed.{Typed};
 ghost use Rattle.sed_typed.specs.declared.program.Program.{Program};

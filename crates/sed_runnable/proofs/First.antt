@@ -13,9 +13,9 @@ use Rattle.sed_classes.specs.Declarations.{Declaration, all_classes, class_at, t
 use Rattle.sed_classes.specs.Faults.{placed_in}
 use Rattle.sed_engine.specs.Program.{meaning_of}
 use Rattle.sed_engine.specs.Code.{is_creatable}
+use Rattle.sed_engine.specs.Runnable.{IsRunnable, first_class}
 use Rattle.sed_first_fault.specs.Faults.{is_runnable, not_runnable}
 use Rattle.sed_order.specs.Ordered.{IsOrdered, number}
-use Rattle.sed_cycles.specs.Cycles.{IsRunnable, first_class}
 
 -- ---- as `cycles` asks
 

@@ -3,7 +3,7 @@ ghost use Rattle.std.specs.Prelude.{◌≡◌, ℕ, true, List, [], ◌∷◌};
 ghost use Rattle.sed_typed.specs.declared.program.Program.{Program};
 ghost use Rattle.sed_units.specs.declared.classes.Unit.{Unit as TheUnit};
 ghost use Rattle.sed_classes.specs.declared.kit_units.KitUnits.{KitUnits};
-ghost use Rattle.sed_cycles.specs.Cycles.{IsRunnable};
+ghost use Rattle.sed_engine.specs.Runnable.{IsRunnable};
 ghost use Rattle.sed_elaborate.specs.Checked.{IsSpelled, faults};
 ghost use Rattle.sed_read.specs.Read.{AreRead};
 

@@ -16,7 +16,6 @@ use Rattle.sed_typed.specs.SysMembers.{HasSysMembers}
 use Rattle.sed_typed.specs.TypedExpr.{IsKindOf}
 use Rattle.sed_typed.specs.TypedStmt.{IsStmt}
 use Rattle.sed_typed.specs.Depth.{body_depth}
-use Rattle.sed_typed.specs.Height.{stmt_height}
 use Rattle.sed_typed.specs.Locals.{Declared, AreNumbered, declared_in}
 
 -- what a parameter or a local may be; a result may be void too
@@ -37,14 +36,13 @@ abbrev pub locals_of : Method → List Kind
 locals_of m = receiver_of m ++ m.params ++ map (λ d. d.kind) (declared_by m)
 
 -- A body of a method. Its declarations are numbered on from the receiver and the parameters, and there are at most 64 locals
--- with the parameters. At most 64 constructs are open at a place, and the tree has at most 32 levels for each nesting from 0 to 64.
+-- with the parameters. At most 64 constructs are open at a place.
 pub record IsBody (program : Program) (m : Method) (body : Stmt) : Type 0 where
   pub storable : All (IsStorable program) (locals_of m)
   pub numbered : AreNumbered (length (receiver_of m ++ m.params)) (declared_by m)
   pub most_locals : length m.params + length (declared_by m) ≤ 64
   pub typed : IsStmt (record { program = program; class = m.class.0; is_static = m.is_static; locals = locals_of m; result = m.result }) (record { breaks = false; continues = false }) body
   pub depth : body_depth body ≤ 64
-  pub height : stmt_height body ≤ 2080
 
 -- a method of a class; only an instance method of a class at or below `Virtual` is virtual, and one without a body is
 pub record IsMethod (program : Program) (m : Method) : Type 0 where

@@ -16,7 +16,7 @@ use Rattle.sed_typed.specs.declared.tree.Expr.{Expr}
 use Rattle.sed_typed.specs.declared.tree.Link.{Link}
 use Rattle.sed_engine.specs.declared.trap.Trap.TheVariants.{TooDeep}
 use Rattle.sed_engine.specs.Stops.{Stop, Traps, Untyped, map_ok, there}
-use Rattle.sed_engine.specs.Values.{Val, begun, whole, is_begun, are_begun}
+use Rattle.sed_engine.specs.Values.{Val, begun, whole}
 use Rattle.walk_steps.specs.declared.word.Word.{Word}
 use Rattle.sed_engine.specs.State.{Shared, State, End, gives, answers, then_do}
 use Rattle.sed_engine.specs.Steps.{with_local, read_local, write_local}
@@ -24,7 +24,7 @@ use Rattle.sed_engine.specs.Operators.{arithmetic_of, given}
 use Rattle.sed_engine.specs.Places.{OfLocal, put}
 use Rattle.sed_engine.specs.Expressions.{Setting, eval, put_all, in_chain}
 use Rattle.sed_engine.specs.Statements.{Flow, Next, Return, Round, Again, Over, Answer, after_round, follows, in_order, loop, exec, switch, label_of, leaves}
-use Rattle.sed_engine.specs.Root.{calls_with, run_method, run_body, untyped, called, is_frame_of}
+use Rattle.sed_engine.specs.Root.{calls_with, run_method, run_body, called}
 use Rattle.sed_walk.specs.Forms.{put_computed, update_local_with}
 
 -- ---- calls
@@ -42,17 +42,12 @@ calls_in program class (suc n) m f s h =
     let e : n ≡ suc n - 1 = omega arith in
     ap (λ (j : ℕ). run_method (record { program = program; class = class; calls = calls_with program class j }) (slice_get program.methods m) f s) e
 
--- a method on a frame, where its body is run, and where it isn't
-module _ (w : Setting) (m : Method) (f : List Val) (s : Shared) (b : Bool) (is : b ≡ is_frame_of m f) where
-  pub frame-fails : b ≡ false → record { result = Err Untyped; shared = s } ≡ run_method w (Some m) f s
-  frame-fails e = ap (λ (c : Bool). (if c then run_body w m.result m.body else untyped) f s) (sym e ∙ is)
-
-  pub body-runs : (body : Stmt) (e : End Flow) → b ≡ true → m.body ≡ Some body → e ≡ exec w body (record { shared = s; locals = f }) →
-      called m.result e ≡ run_method w (Some m) f s
-  body-runs body e fits here ends =
-      ap (called m.result) ends
-      ∙ ap (λ (o : Option Stmt). run_body w m.result o f s) (sym here)
-      ∙ ap (λ (c : Bool). (if c then run_body w m.result m.body else untyped) f s) (sym fits ∙ is)
+-- the body of a method on a frame
+pub body-runs : (w : Setting) (m : Method) (f : List Val) (s : Shared) (body : Stmt) (e : End Flow) → m.body ≡ Some body → e ≡ exec w body (record { shared = s; locals = f }) →
+    called m.result e ≡ run_method w (Some m) f s
+body-runs w m f s body e here ends =
+    ap (called m.result) ends
+    ∙ ap (λ (o : Option Stmt). run_body w m.result o f s) (sym here)
 
 -- ---- switch
 
@@ -169,70 +164,3 @@ module _ (f : Stmt → State → End Flow) (xs : List Stmt) (i : ℕ) (x : Stmt)
   order-goes r e =
       ap (λ (ys : List Stmt). in_order (map f ys) s) (rest-is xs i x h at)
       ∙ ap (λ (q : End Flow). then_do q (λ flow s1. follows flow (in_order (map f (drop (i + 1) xs))) s1)) (sym e)
-
--- ---- frames
-
-differ : (a b : Bool) → not (beq a b) ≡ true → a ≡ not b
-differ true true e = absurd (let never : false ≡ true = e in let no : ⊥ = cc in no)
-differ true false e = refl
-differ false true e = refl
-differ false false e = absurd (let never : false ≡ true = e in let no : ⊥ = cc in no)
-
-agree : (a b : Bool) → not (beq a b) ≡ false → a ≡ b
-agree true true e = refl
-agree true false e = absurd (let never : true ≡ false = e in let no : ⊥ = cc in no)
-agree false true e = absurd (let never : true ≡ false = e in let no : ⊥ = cc in no)
-agree false false e = refl
-
-begun-by : (v : Val) (n m : ℕ) (b : Bool) (rest : List Val) → is_begun v ≡ b → n ≡ (if b then suc m else 0) → m ≡ (if b then m else 0) → are_begun n (v ∷ rest) ≡ are_begun m rest
-begun-by v n m true rest e k z =
-    ap (λ (q : ℕ). are_begun q (v ∷ rest)) k ∙ ap (λ (c : Bool). c && are_begun m rest) e
-begun-by v n m false rest e k z =
-    ap (λ (q : ℕ). are_begun q (v ∷ rest)) k ∙ ap (λ (c : Bool). not c && are_begun 0 rest) e ∙ ap (λ (q : ℕ). are_begun q rest) (sym z)
-
-other-by : (v : Val) (n m : ℕ) (b : Bool) (rest : List Val) → is_begun v ≡ not b → n ≡ (if b then suc m else 0) → are_begun n (v ∷ rest) ≡ false
-other-by v n m true rest e k = ap (λ (q : ℕ). are_begun q (v ∷ rest)) k ∙ ap (λ (c : Bool). c && are_begun m rest) e
-other-by v n m false rest e k = ap (λ (q : ℕ). are_begun q (v ∷ rest)) k ∙ ap (λ (c : Bool). not c && are_begun 0 rest) e
-
-left-is : (i count : ℕ) (b : Bool) → nat_lt i count ≡ b → count - i ≡ (if b then suc (count - (i + 1)) else 0)
-left-is i count true e = let lt : i < count = grind (arith, nat_tests) in omega (arith, lt)
-left-is i count false e = let le : count ≤ i = grind (arith, nat_tests) in omega (arith, le)
-
-less-is : (i count : ℕ) (b : Bool) → nat_lt i count ≡ b → count - (i + 1) ≡ (if b then count - (i + 1) else 0)
-less-is i count true e = refl
-less-is i count false e = let le : count ≤ i = grind (arith, nat_tests) in omega (arith, le)
-
--- one local after the other, each begun just where it is one of the first
-module _ (f : Word → Val) (xs : List Word) (i count : ℕ) (d : Word) (h : i < length xs) (b : Bool) (is : b ≡ is_begun (f (get_or xs i d))) where
-  begun-goes : are_begun (count - i) (map f (drop i xs)) ≡ are_begun (count - i) (f (get_or xs i d) ∷ map f (drop (i + 1) xs))
-  begun-goes = ap (λ (ys : List Word). are_begun (count - i) (map f ys)) (drop_more xs i d h)
-
-  pub begun-next : not (beq b (nat_lt i count)) ≡ false → are_begun (count - i) (map f (drop i xs)) ≡ are_begun (count - (i + 1)) (map f (drop (i + 1) xs))
-  begun-next e =
-      begun-goes
-      ∙ begun-by (f (get_or xs i d)) (count - i) (count - (i + 1)) (nat_lt i count) (map f (drop (i + 1) xs)) (sym is ∙ agree b (nat_lt i count) e)
-      (left-is i count (nat_lt i count) refl) (less-is i count (nat_lt i count) refl)
-
-  pub begun-not : not (beq b (nat_lt i count)) ≡ true → are_begun (count - i) (map f (drop i xs)) ≡ false
-  begun-not e =
-      begun-goes
-      ∙ other-by (f (get_or xs i d)) (count - i) (count - (i + 1)) (nat_lt i count) (map f (drop (i + 1) xs)) (sym is ∙ differ b (nat_lt i count) e)
-      (left-is i count (nat_lt i count) refl)
-
--- past the last local
-begun-all : (count n : ℕ) → nat_le count n ≡ are_begun (count - n) []
-begun-all count n = go (nat_le count n) refl
-  where
-    none : (k : ℕ) → 0 < k → are_begun k [] ≡ false
-    none zero h = absurd (omega arith)
-    none (suc k) h = refl
-
-    go : (b : Bool) → nat_le count n ≡ b → b ≡ are_begun (count - n) []
-    go true e = let le : count ≤ n = grind (arith, nat_tests) in let z : count - n ≡ 0 = omega (arith, le) in ap (λ (k : ℕ). are_begun k []) (sym z)
-    go false e = let lt : n < count = grind (arith, nat_tests) in let p : 0 < count - n = omega (arith, lt) in sym (none (count - n) p)
-
-pub begun-end : (f : Word → Val) (xs : List Word) (i count : ℕ) → i ≡ length xs → nat_le count (length xs) ≡ are_begun (count - i) (map f (drop i xs))
-begun-end f xs i count e =
-    begun-all count (length xs)
-    ∙ ap (λ (ys : List Word). are_begun (count - length xs) (map f ys)) (sym (drop-length xs))
-    ∙ ap (λ (k : ℕ). are_begun (count - k) (map f (drop k xs))) (sym e)

@@ -1,45 +1,16 @@
-//! Bodies of methods: their frames, and the labels of a `switch`.
+//! Bodies of methods: where they stand, and the labels of a `switch`.
 ghost use Rattle.std.specs.Prelude.{◌≡◌, ◌==◌, ◌+◌, ◌++◌, ℕ, drop, length, map, position, slice_get};
 ghost use Rattle.std.specs.Option.{option_copied};
 ghost use Rattle.sed_typed.specs.declared.operators.Width.TheVariants.{Int as IntWidth};
-ghost use Rattle.sed_typed.specs.Typed.{receiver_of};
 ghost use Rattle.sed_typed.specs.TypedStmt.{is_default as is_default_label};
-ghost use Rattle.sed_engine.specs.Root.{is_frame_of as is_frame};
 ghost use Rattle.sed_engine.specs.Statements.{label_of as place_of_label, is_case as is_case_label};
 ghost use Rattle.sed_engine.specs.Stops.{map_ok};
-ghost use Rattle.sed_engine.specs.Values.{are_begun as begun_are, whole};
+ghost use Rattle.sed_engine.specs.Values.{whole};
 ghost use Rattle.sed_cells.specs.Places.{Plan as Planned};
 ghost use Rattle.walk_steps.specs.Seen.{seen, as_it_is};
 
 use sed_typed::{Label, Method, Program, Stmt};
 use walk_steps::{Stop, Word};
-
-/// Whether a frame is one of this method: it has its receiver and an argument for each parameter.
-pub fn is_frame_of(method: &Method, frame: &[Word]) -> bool
-    ensures { (plan : Planned) (class : ℕ) → result ≡ is_frame method.now (map (seen plan class) frame.now) }
-{
-    are_begun(given_to(method), frame)
-}
-
-// How many locals of a method are given to it.
-fn given_to(method: &Method) -> usize
-    ensures { result ≡ length (receiver_of method.now ++ method.now.params) }
-{
-    let params = method.params.as_slice().len();
-    if method.is_static { params } else { params + 1 }
-}
-
-// Whether the first so many locals are begun, and no others.
-fn are_begun(count: usize, frame: &[Word]) -> bool
-    ensures { (plan : Planned) (class : ℕ) → result ≡ begun_are count (map (seen plan class) frame.now) }
-{
-    for (at, word) in frame.iter().enumerate() {
-        if word.is_begun() != (at < count) {
-            return false;
-        }
-    }
-    count <= frame.len()
-}
 
 /// The method of a number.
 pub fn method_of(program: &Program, number: usize) -> Option<&Method>

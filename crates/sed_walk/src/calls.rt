@@ -9,7 +9,7 @@ ghost use Rattle.walk_steps.specs.Targets.{setting_of};
 ghost use Rattle.sed_walk.specs.Forms.{call_from};
 ghost use Rattle.sed_walk.specs.Flows.{came_to};
 
-use crate::bodies::{is_frame_of, method_of};
+use crate::bodies::method_of;
 use crate::ends::answer_of;
 use crate::expressions::eval;
 use crate::statements::exec;
@@ -192,9 +192,6 @@ fn run(
         (shared_of plan.now class store.old) }
     ensures turns { store.new.turns ≤ store.old.turns }
 {
-    if !is_frame_of(method, frame) {
-        return Err(Stop::Untyped);
-    }
     let Some(body) = &method.body else {
         return Err(Stop::Untyped);
     };

@@ -2,7 +2,7 @@
 ghost use Rattle.std.specs.Prelude.{◌≤◌, length, IfOk};
 ghost use Rattle.file_steps.specs.Reads.{HasReads};
 ghost use Rattle.file_steps.specs.Steps.{UnlessFree};
-ghost use Rattle.sed_cycles.specs.Cycles.{IsRunnable};
+ghost use Rattle.sed_engine.specs.Runnable.{IsRunnable};
 ghost use Rattle.sed_kits.specs.Loading.{KitsLoaded, TextLoaded, Told};
 ghost use Rattle.sed_typed.specs.Typed.{Typed};
 ghost use Rattle.sedona_words.specs.Command.{texts};

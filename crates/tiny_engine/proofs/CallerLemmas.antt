@@ -103,5 +103,5 @@ pub ends_well : (m : Meaning) → IsWhole m → (statics : Contents) → Fits m.
 ends_well m whole statics fit which argument turns moment some most long end None object may is = absurd may
 ends_well m whole statics fit which argument turns moment some most long end (Some o) object may is =
     subst (λ (e : CallEnd). EndsWell turns e) (sym is)
-    ((whole.ends (asked_of o statics which argument turns moment)).0
-    (record { creatable = object.creatable; contents = object.fits; statics = fit; argument = may; some_turns = some; most_turns = most; moment = long }))
+    (whole.answers (asked_of o statics which argument turns moment)
+    (record { creatable = object.creatable; contents = object.fits; statics = fit; argument = may; some_turns = some; most_turns = most; moment = long })).end

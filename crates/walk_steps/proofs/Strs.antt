@@ -15,7 +15,7 @@ use Rattle.sed_typed.specs.Contents.{value_at}
 use Rattle.sed_engine.specs.Steps.{contents_of as contents_in, read_bytes, write_bytes}
 use Rattle.std.specs.Borrow.{Bor}
 use Rattle.sed_engine.specs.Texts.{index_of, characters, literal_bytes, with_character, filled}
-use Rattle.sed_engine.specs.Expressions.{Setting, text_bytes, text_call, operand, changeable}
+use Rattle.sed_engine.specs.Expressions.{text_bytes, text_call, operand, changeable}
 use Rattle.walk_steps.specs.declared.word.Stop.{Stop as Own}
 use Rattle.walk_steps.specs.Targets.{lent, text_lent, literal_in, as_text, character_put, put_character, literal_copied, text_copied}
 use Rattle.walk_steps.proofs.Reaches.{bytes-at}
@@ -70,14 +70,14 @@ no-number n e = absurd (let no : ⊥ = cc in no)
 no-literal : {A : Type 0} (n : ℕ) → None ≡ Some n → A
 no-literal n e = absurd (let no : ⊥ = cc in no)
 
-pub text-kept : (w : Setting) (v : Val) (s : State) → literal_in v ≡ None → text_bytes w v s ≡ then_do (answers (spot_of v) s) (λ spot s1. read_bytes spot s1)
-text-kept w Nothing s h = refl
-text-kept w (Truth t) s h = refl
-text-kept w (Int n) s h = refl
-text-kept w (Long n) s h = refl
-text-kept w Null s h = refl
-text-kept w (At spot) s h = refl
-text-kept w (Literal n) s h = no-number n h
+pub text-kept : (texts : List (List ℕ)) (v : Val) (s : State) → literal_in v ≡ None → text_bytes texts v s ≡ then_do (answers (spot_of v) s) (λ spot s1. read_bytes spot s1)
+text-kept texts Nothing s h = refl
+text-kept texts (Truth t) s h = refl
+text-kept texts (Int n) s h = refl
+text-kept texts (Long n) s h = refl
+text-kept texts Null s h = refl
+text-kept texts (At spot) s h = refl
+text-kept texts (Literal n) s h = no-number n h
 
 pub lent-kept : (v : Val) (r : Result (Bor (List ℕ)) Own) → literal_in v ≡ None → text_lent v r ≡ lent r
 lent-kept v (Err stop) h = refl
@@ -89,14 +89,14 @@ lent-kept Null (Ok b) h = refl
 lent-kept (At spot) (Ok b) h = refl
 lent-kept (Literal n) (Ok b) h = no-number n h
 
-pub text-literal : (w : Setting) (v : Val) (s : State) (n : ℕ) → literal_in v ≡ Some n → text_bytes w v s ≡ answers (map_ok literal_bytes (there (slice_get w.program.texts n))) s
-text-literal w (Literal m) s n h = let same : m ≡ n = cc in ap (λ (k : ℕ). answers (map_ok literal_bytes (there (slice_get w.program.texts k))) s) same
-text-literal w Nothing s n h = no-literal n h
-text-literal w (Truth t) s n h = no-literal n h
-text-literal w (Int i) s n h = no-literal n h
-text-literal w (Long i) s n h = no-literal n h
-text-literal w Null s n h = no-literal n h
-text-literal w (At spot) s n h = no-literal n h
+pub text-literal : (texts : List (List ℕ)) (v : Val) (s : State) (n : ℕ) → literal_in v ≡ Some n → text_bytes texts v s ≡ answers (map_ok literal_bytes (there (slice_get texts n))) s
+text-literal texts (Literal m) s n h = let same : m ≡ n = cc in ap (λ (k : ℕ). answers (map_ok literal_bytes (there (slice_get texts k))) s) same
+text-literal texts Nothing s n h = no-literal n h
+text-literal texts (Truth t) s n h = no-literal n h
+text-literal texts (Int i) s n h = no-literal n h
+text-literal texts (Long i) s n h = no-literal n h
+text-literal texts Null s n h = no-literal n h
+text-literal texts (At spot) s n h = no-literal n h
 
 pub lent-literal : (v : Val) (r : Result (Bor (List ℕ)) Own) (n : ℕ) → literal_in v ≡ Some n → text_lent v r ≡ map_ok literal_bytes (lent r)
 lent-literal v (Err stop) n h = refl
@@ -128,12 +128,12 @@ changeable-literal (At spot) n h = no-literal n h
 
 -- ---- calls
 
-module _ (w : Setting) (v : Val) (args : List Val) (s : State) where
-  pub count-goes : (bytes : List ℕ) → answers (Ok bytes) s ≡ text_bytes w v s → gives (Int (pos (length (characters bytes)))) s ≡ text_call w text.Length v args s
+module _ (texts : List (List ℕ)) (v : Val) (args : List Val) (s : State) where
+  pub count-goes : (bytes : List ℕ) → answers (Ok bytes) s ≡ text_bytes texts v s → gives (Int (pos (length (characters bytes)))) s ≡ text_call texts text.Length v args s
   count-goes bytes e = ap (λ (x : End (List ℕ)). then_do x (λ bytes s1. gives (Int (pos (length (characters bytes)))) s1)) e
 
-  pub get-goes : (bytes : List ℕ) (r : Result ℕ Stop) → answers (Ok bytes) s ≡ text_bytes w v s → r ≡ index_of (length bytes) (operand args 0) →
-      answers (map_ok (λ i. Int (pos (slice_index bytes i))) r) s ≡ text_call w text.Get v args s
+  pub get-goes : (bytes : List ℕ) (r : Result ℕ Stop) → answers (Ok bytes) s ≡ text_bytes texts v s → r ≡ index_of (length bytes) (operand args 0) →
+      answers (map_ok (λ i. Int (pos (slice_index bytes i))) r) s ≡ text_call texts text.Get v args s
   get-goes bytes r e i =
       go r
       ∙ ap (λ (q : Result ℕ Stop). then_do (answers q s) (λ i s2. gives (Int (pos (slice_index bytes i))) s2)) i
@@ -143,7 +143,7 @@ module _ (w : Setting) (v : Val) (args : List Val) (s : State) where
       go (Ok i) = refl
       go (Err stop) = refl
 
-  pub set-goes : then_do (answers (changeable v) s) (λ spot s1. put_character spot (operand args 0) (operand args 1) s1) ≡ text_call w text.Set v args s
+  pub set-goes : then_do (answers (changeable v) s) (λ spot s1. put_character spot (operand args 0) (operand args 1) s1) ≡ text_call texts text.Set v args s
   set-goes = go (changeable v)
     where
       put : (spot : Spot) (q : Result ℕ Stop) (c : Result ℤ Stop) (bytes : List ℕ) → then_do (answers (and_then q (λ i. map_ok (λ c. with_character bytes i c) c)) s) (λ new s1. write_bytes spot new s1)
@@ -167,30 +167,30 @@ module _ (w : Setting) (v : Val) (args : List Val) (s : State) where
           ∙ over spot r
           ∙ ap (λ (x : End (List ℕ)). then_do x (λ bytes s2. then_do (answers (index_of (length bytes - 1) (operand args 0)) s2) (λ i s3. then_do (answers (whole width.Int (operand args 1)) s3) (λ c s4. write_bytes spot (with_character bytes i c) s4)))) (sym (bytes-at spot s))
 
-  pub equals-goes : (a : List ℕ) (r : Result (List ℕ) Stop) → answers (Ok a) s ≡ text_bytes w v s → answers r s ≡ text_bytes w (operand args 0) s →
-      answers (map_ok (λ b. truth (bytes_eq (characters a) (characters b))) r) s ≡ text_call w text.Equals v args s
+  pub equals-goes : (a : List ℕ) (r : Result (List ℕ) Stop) → answers (Ok a) s ≡ text_bytes texts v s → answers r s ≡ text_bytes texts (operand args 0) s →
+      answers (map_ok (λ b. truth (bytes_eq (characters a) (characters b))) r) s ≡ text_call texts text.Equals v args s
   equals-goes a r e f =
       go r
       ∙ ap (λ (x : End (List ℕ)). then_do x (λ b s2. gives (truth (bytes_eq (characters a) (characters b))) s2)) f
-      ∙ ap (λ (x : End (List ℕ)). then_do x (λ a s1. then_do (text_bytes w (operand args 0) s1) (λ b s2. gives (truth (bytes_eq (characters a) (characters b))) s2))) e
+      ∙ ap (λ (x : End (List ℕ)). then_do x (λ a s1. then_do (text_bytes texts (operand args 0) s1) (λ b s2. gives (truth (bytes_eq (characters a) (characters b))) s2))) e
     where
       go : (q : Result (List ℕ) Stop) → answers (map_ok (λ b. truth (bytes_eq (characters a) (characters b))) q) s ≡ then_do (answers q s) (λ b s2. gives (truth (bytes_eq (characters a) (characters b))) s2)
       go (Ok b) = refl
       go (Err stop) = refl
 
   -- the other text is read before the first is found to be a literal
-  pub copy-literal : (n : ℕ) → literal_in v ≡ Some n → literal_copied w v (operand args 0) s ≡ text_call w text.Copy v args s
+  pub copy-literal : (n : ℕ) → literal_in v ≡ Some n → literal_copied texts v (operand args 0) s ≡ text_call texts text.Copy v args s
   copy-literal n h =
-      ap (λ (q : Result Spot Stop). then_do (text_bytes w v s) (λ old s1. then_do (text_bytes w (operand args 0) s1) (λ new s2. then_do (answers q s2) (λ spot s3. write_bytes spot (filled (length old) (characters new)) s3)))) (sym (changeable-literal v n h))
+      ap (λ (q : Result Spot Stop). then_do (text_bytes texts v s) (λ old s1. then_do (text_bytes texts (operand args 0) s1) (λ new s2. then_do (answers q s2) (λ spot s3. write_bytes spot (filled (length old) (characters new)) s3)))) (sym (changeable-literal v n h))
 
-  pub copy-kept : literal_in v ≡ None → then_do (answers (spot_of v) s) (λ spot s1. text_copied w spot (operand args 0) s1) ≡ text_call w text.Copy v args s
+  pub copy-kept : literal_in v ≡ None → then_do (answers (spot_of v) s) (λ spot s1. text_copied texts spot (operand args 0) s1) ≡ text_call texts text.Copy v args s
   copy-kept h =
       go (spot_of v)
-      ∙ ap (λ (x : End (List ℕ)). then_do x (λ old s1. then_do (text_bytes w (operand args 0) s1) (λ new s2. then_do (answers (spot_of v) s2) (λ spot s3. write_bytes spot (filled (length old) (characters new)) s3)))) (sym (text-kept w v s h))
-      ∙ ap (λ (q : Result Spot Stop). then_do (text_bytes w v s) (λ old s1. then_do (text_bytes w (operand args 0) s1) (λ new s2. then_do (answers q s2) (λ spot s3. write_bytes spot (filled (length old) (characters new)) s3)))) (sym (changeable-kept v h))
+      ∙ ap (λ (x : End (List ℕ)). then_do x (λ old s1. then_do (text_bytes texts (operand args 0) s1) (λ new s2. then_do (answers (spot_of v) s2) (λ spot s3. write_bytes spot (filled (length old) (characters new)) s3)))) (sym (text-kept texts v s h))
+      ∙ ap (λ (q : Result Spot Stop). then_do (text_bytes texts v s) (λ old s1. then_do (text_bytes texts (operand args 0) s1) (λ new s2. then_do (answers q s2) (λ spot s3. write_bytes spot (filled (length old) (characters new)) s3)))) (sym (changeable-kept v h))
     where
-      go : (q : Result Spot Stop) → then_do (answers q s) (λ spot s1. text_copied w spot (operand args 0) s1)
-          ≡ then_do (then_do (answers q s) (λ spot s1. read_bytes spot s1)) (λ old s1. then_do (text_bytes w (operand args 0) s1) (λ new s2. then_do (answers q s2) (λ spot s3. write_bytes spot (filled (length old) (characters new)) s3)))
+      go : (q : Result Spot Stop) → then_do (answers q s) (λ spot s1. text_copied texts spot (operand args 0) s1)
+          ≡ then_do (then_do (answers q s) (λ spot s1. read_bytes spot s1)) (λ old s1. then_do (text_bytes texts (operand args 0) s1) (λ new s2. then_do (answers q s2) (λ spot s3. write_bytes spot (filled (length old) (characters new)) s3)))
       go (Err stop) = refl
       go (Ok spot) = refl
 
@@ -245,19 +245,19 @@ put-made s spot index character r e =
     ap (λ (x : End (List ℕ)). then_do x (λ new s1. write_bytes spot new s1)) e
     ∙ then-then (read_bytes spot s) (λ bytes s1. answers (character_put bytes index character) s1) (λ new s1. write_bytes spot new s1)
 
-copy-over : (w : Setting) (spot : Spot) (other : Val) (q : Result (List ℕ) Stop) (t : State) →
-    after q t (λ old s1. then_do (then_do (text_bytes w other s1) (λ new s2. gives (filled (length old) (characters new)) s2)) (λ new s1. write_bytes spot new s1))
-    ≡ after q t (λ old s1. then_do (text_bytes w other s1) (λ new s2. write_bytes spot (filled (length old) (characters new)) s2))
-copy-over w spot other (Ok old) t = then-then (text_bytes w other t) (λ new s2. gives (filled (length old) (characters new)) s2) (λ new s1. write_bytes spot new s1)
-copy-over w spot other (Err stop) t = refl
+copy-over : (texts : List (List ℕ)) (spot : Spot) (other : Val) (q : Result (List ℕ) Stop) (t : State) →
+    after q t (λ old s1. then_do (then_do (text_bytes texts other s1) (λ new s2. gives (filled (length old) (characters new)) s2)) (λ new s1. write_bytes spot new s1))
+    ≡ after q t (λ old s1. then_do (text_bytes texts other s1) (λ new s2. write_bytes spot (filled (length old) (characters new)) s2))
+copy-over texts spot other (Ok old) t = then-then (text_bytes texts other t) (λ new s2. gives (filled (length old) (characters new)) s2) (λ new s1. write_bytes spot new s1)
+copy-over texts spot other (Err stop) t = refl
 
-pub copy-made : (w : Setting) (s : State) (spot : Spot) (other : Val) (r : Result (List ℕ) Stop) →
-    answers r s ≡ then_do (read_bytes spot s) (λ old s1. then_do (text_bytes w other s1) (λ new s2. gives (filled (length old) (characters new)) s2)) →
-    then_do (answers r s) (λ new s1. write_bytes spot new s1) ≡ text_copied w spot other s
-copy-made w s spot other r e =
+pub copy-made : (texts : List (List ℕ)) (s : State) (spot : Spot) (other : Val) (r : Result (List ℕ) Stop) →
+    answers r s ≡ then_do (read_bytes spot s) (λ old s1. then_do (text_bytes texts other s1) (λ new s2. gives (filled (length old) (characters new)) s2)) →
+    then_do (answers r s) (λ new s1. write_bytes spot new s1) ≡ text_copied texts spot other s
+copy-made texts s spot other r e =
     ap (λ (x : End (List ℕ)). then_do x (λ new s1. write_bytes spot new s1)) e
-    ∙ then-then (read_bytes spot s) (λ old s1. then_do (text_bytes w other s1) (λ new s2. gives (filled (length old) (characters new)) s2)) (λ new s1. write_bytes spot new s1)
-    ∙ copy-over w spot other (read_bytes spot s).result (read_bytes spot s).state
+    ∙ then-then (read_bytes spot s) (λ old s1. then_do (text_bytes texts other s1) (λ new s2. gives (filled (length old) (characters new)) s2)) (λ new s1. write_bytes spot new s1)
+    ∙ copy-over texts spot other (read_bytes spot s).result (read_bytes spot s).state
 
 -- the characters of a text are those of its bytes
 pub lent-chars : {B : Type 0} (f : List ℕ → B) (v : Val) (r : Result (Bor (List ℕ)) Own) → map_ok (λ b. f (characters b)) (lent r) ≡ map_ok (λ b. f (characters b)) (text_lent v r)

@@ -65,10 +65,10 @@ put_character spot index character s =
     then_do (read_bytes spot s) (λ bytes s1. then_do (answers (character_put bytes index character) s1) (λ new s2. write_bytes spot new s2))
 
 -- a Str with the characters of a text
-abbrev pub text_copied : Setting → val.Spot → val.Val → State → End val.Val
-text_copied w spot other s =
-    then_do (read_bytes spot s) (λ old s1. then_do (text_bytes w other s1) (λ new s2. write_bytes spot (filled (length old) (characters new)) s2))
+abbrev pub text_copied : List (List ℕ) → val.Spot → val.Val → State → End val.Val
+text_copied texts spot other s =
+    then_do (read_bytes spot s) (λ old s1. then_do (text_bytes texts other s1) (λ new s2. write_bytes spot (filled (length old) (characters new)) s2))
 
 -- a literal is not changed
-abbrev pub literal_copied : Setting → val.Val → val.Val → State → End val.Val
-literal_copied w v other s = then_do (text_bytes w v s) (λ old s1. then_do (text_bytes w other s1) (λ new s2. answers (Err (stops.Traps OutOfRange)) s2))
+abbrev pub literal_copied : List (List ℕ) → val.Val → val.Val → State → End val.Val
+literal_copied texts v other s = then_do (text_bytes texts v s) (λ old s1. then_do (text_bytes texts other s1) (λ new s2. answers (Err (stops.Traps OutOfRange)) s2))

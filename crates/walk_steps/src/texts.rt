@@ -15,7 +15,7 @@ ghost use Rattle.sed_typed.specs.declared.operators.Width.TheVariants.{Int as In
 ghost use Rattle.sed_cells.specs.Places.{Plan as Planned, classes_in};
 ghost use Rattle.walk_steps.specs.Seen.{seen, ends, as_it_is, spot_seen, spots_seen};
 ghost use Rattle.walk_steps.specs.Stored.{stepped, shared_of};
-ghost use Rattle.walk_steps.specs.Targets.{setting_of, lent, text_lent, literal_in, as_text};
+ghost use Rattle.walk_steps.specs.Targets.{lent, text_lent, literal_in, as_text};
 
 use crate::places::{index_of, place_of};
 use crate::reach;
@@ -36,8 +36,8 @@ pub fn call(
     store: &mut Store,
 ) -> Result<Word, Stop>
     requires { class ≤ classes_in plan.now }
-    ensures end { (frames : ℕ) (locals : List val.Val) →
-        stepped plan.now class (ends plan.now class result) store.new locals ≡ text_call (setting_of plan.now class frames) op (seen plan.now class value) (map (seen plan.now class) operands.now) (record { shared = shared_of plan.now class store.old; locals = locals }) }
+    ensures end { (locals : List val.Val) →
+        stepped plan.now class (ends plan.now class result) store.new locals ≡ text_call plan.now.program.texts op (seen plan.now class value) (map (seen plan.now class) operands.now) (record { shared = shared_of plan.now class store.old; locals = locals }) }
     ensures turns { store.new.turns ≡ store.old.turns }
 {
     match op {
@@ -72,8 +72,8 @@ fn literal_number(value: Word) -> Option<u16>
 // The bytes of a Str, or the characters of a text literal: null traps.
 fn text<'a>(plan: &'a Plan, class: usize, value: Word, store: &'a Store) -> Result<&'a [u8], Stop>
     requires { class ≤ classes_in plan.now }
-    ensures read { (frames : ℕ) (locals : List val.Val) →
-        stepped plan.now class (text_lent (seen plan.now class value) result) store.now locals ≡ text_bytes (setting_of plan.now class frames) (seen plan.now class value) (record { shared = shared_of plan.now class store.now; locals = locals }) }
+    ensures read { (locals : List val.Val) →
+        stepped plan.now class (text_lent (seen plan.now class value) result) store.now locals ≡ text_bytes plan.now.program.texts (seen plan.now class value) (record { shared = shared_of plan.now class store.now; locals = locals }) }
     ensures few { IfOk result (λ bytes. length bytes.now ≤ 255) }
 {
     match literal_number(value) {
@@ -132,8 +132,8 @@ fn characters(bytes: &[u8]) -> &[u8]
 // How many characters a Str has.
 fn count(plan: &Plan, class: usize, value: Word, store: &Store) -> Result<Word, Stop>
     requires { class ≤ classes_in plan.now }
-    ensures { (frames : ℕ) (operands : List val.Val) (locals : List val.Val) →
-        stepped plan.now class (ends plan.now class result) store.now locals ≡ text_call (setting_of plan.now class frames) TextCall.Length (seen plan.now class value) operands (record { shared = shared_of plan.now class store.now; locals = locals }) }
+    ensures { (operands : List val.Val) (locals : List val.Val) →
+        stepped plan.now class (ends plan.now class result) store.now locals ≡ text_call plan.now.program.texts TextCall.Length (seen plan.now class value) operands (record { shared = shared_of plan.now class store.now; locals = locals }) }
 {
     match text(plan, class, value, store) {
         Ok(bytes) => Ok(char_count(bytes)),
@@ -157,8 +157,8 @@ fn get(
     store: &Store,
 ) -> Result<Word, Stop>
     requires { class ≤ classes_in plan.now }
-    ensures { (frames : ℕ) (locals : List val.Val) →
-        stepped plan.now class (ends plan.now class result) store.now locals ≡ text_call (setting_of plan.now class frames) TextCall.Get (seen plan.now class value) (map (seen plan.now class) operands.now) (record { shared = shared_of plan.now class store.now; locals = locals }) }
+    ensures { (locals : List val.Val) →
+        stepped plan.now class (ends plan.now class result) store.now locals ≡ text_call plan.now.program.texts TextCall.Get (seen plan.now class value) (map (seen plan.now class) operands.now) (record { shared = shared_of plan.now class store.now; locals = locals }) }
 {
     match text(plan, class, value, store) {
         Ok(bytes) => byte_of(bytes, text_len(value, bytes), operand(operands, 0)),
@@ -205,8 +205,8 @@ fn set(
     store: &mut Store,
 ) -> Result<Word, Stop>
     requires { class ≤ classes_in plan.now }
-    ensures end { (frames : ℕ) (locals : List val.Val) →
-        stepped plan.now class (ends plan.now class result) store.new locals ≡ text_call (setting_of plan.now class frames) TextCall.Set (seen plan.now class value) (map (seen plan.now class) operands.now) (record { shared = shared_of plan.now class store.old; locals = locals }) }
+    ensures end { (locals : List val.Val) →
+        stepped plan.now class (ends plan.now class result) store.new locals ≡ text_call plan.now.program.texts TextCall.Set (seen plan.now class value) (map (seen plan.now class) operands.now) (record { shared = shared_of plan.now class store.old; locals = locals }) }
     ensures turns { store.new.turns ≡ store.old.turns }
 {
     let index = operand(operands, 0);
@@ -329,8 +329,8 @@ fn are_equal(
     store: &Store,
 ) -> Result<Word, Stop>
     requires { class ≤ classes_in plan.now }
-    ensures { (frames : ℕ) (locals : List val.Val) →
-        stepped plan.now class (ends plan.now class result) store.now locals ≡ text_call (setting_of plan.now class frames) TextCall.Equals (seen plan.now class value) (map (seen plan.now class) operands.now) (record { shared = shared_of plan.now class store.now; locals = locals }) }
+    ensures { (locals : List val.Val) →
+        stepped plan.now class (ends plan.now class result) store.now locals ≡ text_call plan.now.program.texts TextCall.Equals (seen plan.now class value) (map (seen plan.now class) operands.now) (record { shared = shared_of plan.now class store.now; locals = locals }) }
 {
     let other = operand(operands, 0);
     match text(plan, class, value, store) {
@@ -358,8 +358,8 @@ fn copy(
     store: &mut Store,
 ) -> Result<Word, Stop>
     requires { class ≤ classes_in plan.now }
-    ensures end { (frames : ℕ) (locals : List val.Val) →
-        stepped plan.now class (ends plan.now class result) store.new locals ≡ text_call (setting_of plan.now class frames) TextCall.Copy (seen plan.now class value) (map (seen plan.now class) operands.now) (record { shared = shared_of plan.now class store.old; locals = locals }) }
+    ensures end { (locals : List val.Val) →
+        stepped plan.now class (ends plan.now class result) store.new locals ≡ text_call plan.now.program.texts TextCall.Copy (seen plan.now class value) (map (seen plan.now class) operands.now) (record { shared = shared_of plan.now class store.old; locals = locals }) }
     ensures turns { store.new.turns ≡ store.old.turns }
 {
     let other = operand(operands, 0);
@@ -378,8 +378,8 @@ fn refuse_copy(
     store: &Store,
 ) -> Result<Word, Stop>
     requires { class ≤ classes_in plan.now }
-    ensures { (frames : ℕ) (locals : List val.Val) →
-        stepped plan.now class (ends plan.now class result) store.now locals ≡ literal_copied (setting_of plan.now class frames) (seen plan.now class value) (seen plan.now class other) (record { shared = shared_of plan.now class store.now; locals = locals }) }
+    ensures { (locals : List val.Val) →
+        stepped plan.now class (ends plan.now class result) store.now locals ≡ literal_copied plan.now.program.texts (seen plan.now class value) (seen plan.now class other) (record { shared = shared_of plan.now class store.now; locals = locals }) }
 {
     match text(plan, class, value, store) {
         Ok(_) => refuse(text(plan, class, other, store)),
@@ -405,8 +405,8 @@ fn copy_into(
     store: &mut Store,
 ) -> Result<Word, Stop>
     requires { class ≤ classes_in plan.now }
-    ensures end { (frames : ℕ) (locals : List val.Val) →
-        stepped plan.now class (ends plan.now class result) store.new locals ≡ then_do (answers (val.spot_of (seen plan.now class value)) (record { shared = shared_of plan.now class store.old; locals = locals })) (λ spot s1. text_copied (setting_of plan.now class frames) spot (seen plan.now class other) s1) }
+    ensures end { (locals : List val.Val) →
+        stepped plan.now class (ends plan.now class result) store.new locals ≡ then_do (answers (val.spot_of (seen plan.now class value)) (record { shared = shared_of plan.now class store.old; locals = locals })) (λ spot s1. text_copied plan.now.program.texts spot (seen plan.now class other) s1) }
     ensures turns { store.new.turns ≡ store.old.turns }
 {
     match place_of(value) {
@@ -424,8 +424,8 @@ fn copy_at(
     store: &mut Store,
 ) -> Result<Word, Stop>
     requires { class ≤ classes_in plan.now }
-    ensures end { (frames : ℕ) (locals : List val.Val) →
-        stepped plan.now class (ends plan.now class result) store.new locals ≡ text_copied (setting_of plan.now class frames) (spot_seen plan.now class base place) (seen plan.now class other) (record { shared = shared_of plan.now class store.old; locals = locals }) }
+    ensures end { (locals : List val.Val) →
+        stepped plan.now class (ends plan.now class result) store.new locals ≡ text_copied plan.now.program.texts (spot_seen plan.now class base place) (seen plan.now class other) (record { shared = shared_of plan.now class store.old; locals = locals }) }
     ensures turns { store.new.turns ≡ store.old.turns }
 {
     let new = filled_in(plan, class, base, place, other, store);
@@ -442,8 +442,8 @@ fn filled_in(
     store: &Store,
 ) -> Result<Bytes255, Stop>
     requires { class ≤ classes_in plan.now }
-    ensures { (frames : ℕ) (locals : List val.Val) →
-        stepped plan.now class (as_it_is result) store.now locals ≡ then_do (read_bytes (spot_seen plan.now class base place) (record { shared = shared_of plan.now class store.now; locals = locals })) (λ old s1. then_do (text_bytes (setting_of plan.now class frames) (seen plan.now class other) s1) (λ new s2. gives (filled_with (length old) (characters_of new)) s2)) }
+    ensures { (locals : List val.Val) →
+        stepped plan.now class (as_it_is result) store.now locals ≡ then_do (read_bytes (spot_seen plan.now class base place) (record { shared = shared_of plan.now class store.now; locals = locals })) (λ old s1. then_do (text_bytes plan.now.program.texts (seen plan.now class other) s1) (λ new s2. gives (filled_with (length old) (characters_of new)) s2)) }
 {
     match store.bytes(plan, class, base, place) {
         Ok(old) => filled_from(old, text(plan, class, other, store)),

@@ -133,14 +133,6 @@ impl Word {
         }
     }
 
-    /// Whether a local is begun.
-    #[inline(always)]
-    pub fn is_begun(self) -> bool
-        ensures { (plan : Plan) (class : ℕ) → result ≡ val.is_begun (seen plan class self) }
-    {
-        !matches!(self, Word::Nothing)
-    }
-
     /// The receiver, which a method that names it has.
     #[inline(always)]
     pub fn receiver(self) -> Result<Word, Stop>

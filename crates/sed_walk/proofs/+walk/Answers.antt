@@ -9,7 +9,7 @@ use Rattle.sed_engine.specs.Root.{run_method}
 use Rattle.walk_steps.specs.Seen.{seen, stop_seen}
 use Rattle.walk_steps.specs.Stored.{shared_of, state_of, ended}
 use Rattle.walk_steps.specs.Targets.{setting_of}
-use Rattle.sed_walk.proofs.Rounds.{calls_in, update-goes, update-stores, put-next, frame-fails, body-runs, loop-again, loop-answer, loop-over, loop-stop, switch-goes}
+use Rattle.sed_walk.proofs.Rounds.{calls_in, update-goes, update-stores, put-next, body-runs, loop-again, loop-answer, loop-over, loop-stop, switch-goes}
 use Rattle.sed_engine.specs.Operators.{given as given_of}
 use Rattle.sed_engine.specs.Steps.{with_local, read_local, write_local}
 use Rattle.sed_engine.specs.Stops.{Stop}
@@ -111,15 +111,6 @@ calls::eval_args-loop-at-preserved t c =
       omega arith,
     )
 
-pub calls::run-returns-then-not-is_frame_of-clause-end : goal.calls::run-returns-then-not-is_frame_of-clause-end
-calls::run-returns-then-not-is_frame_of-clause-end t c =
-    let plan = c.args.plan.now in
-    let class = c.args.class in
-    let w : Setting = setting_of plan class c.args.frames in
-    let f = map (seen plan class) c.args.frame.now in
-    let s : Shared = shared_of plan class c.args.store.now in
-    frame-fails w c.args.method.now f s c.is_frame_of.result (c.is_frame_of.ensures plan class) c.if-not-is_frame_of.true
-
 pub calls::run-returns-clause-end : goal.calls::run-returns-clause-end
 calls::run-returns-clause-end t c =
     let plan = c.args.plan.now in
@@ -132,7 +123,7 @@ calls::run-returns-clause-end t c =
     let e : End flow.Flow = ended plan class done c.exec.new.store c.exec.new.locals in
     let answer : Result Val Stop → Called = λ r. record { result = r; shared = u } in
     ap answer (c.answer_of.ensures plan class)
-    ∙ body-runs w c.args.method.now f s c.is_frame_of.result (c.is_frame_of.ensures plan class) c.in-Some.body e c.if-not-is_frame_of.false c.in-Some.is c.in_ok-flow.ensures.end
+    ∙ body-runs w c.args.method.now f s c.in-Some.body e c.in-Some.is c.in_ok-flow.ensures.end
 
 pub calls::run-returns-in_err-flow-clause-end : goal.calls::run-returns-in_err-flow-clause-end
 calls::run-returns-in_err-flow-clause-end t c =
@@ -147,7 +138,7 @@ calls::run-returns-in_err-flow-clause-end t c =
     let e : End flow.Flow = ended plan class stop c.exec.new.store c.exec.new.locals in
     let answer : Result Val Stop → Called = λ r. record { result = r; shared = u } in
     let q : answer (Err x) ≡ run_method w (Some c.args.method.now) f s =
-    body-runs w c.args.method.now f s c.is_frame_of.result (c.is_frame_of.ensures plan class) c.in-Some.body e c.if-not-is_frame_of.false c.in-Some.is c.in_err-flow.ensures.end in
+    body-runs w c.args.method.now f s c.in-Some.body e c.in-Some.is c.in_err-flow.ensures.end in
     search (rules, q)
 
 pub expressions::eval-returns-in-Update-clause-end : goal.expressions::eval-returns-in-Update-clause-end
@@ -480,7 +471,7 @@ links::eval_text_call-returns-clause-end t c =
     let w : Setting = setting_of plan class c.args.frames in
     let s : State = state_of plan class c.args.store.now c.args.locals.now in
     c.call.ensures.end c.args.frames (map (seen plan class) c.eval_args.new.locals)
-    ∙ ap (λ (r : End (List Val)). then_do r (λ xs s1. text_call w c.args.op (seen plan class c.args.value) xs s1)) c.in_ok-eval_args.ensures.end
+    ∙ ap (λ (r : End (List Val)). then_do r (λ xs s1. text_call w.program.texts c.args.op (seen plan class c.args.value) xs s1)) c.in_ok-eval_args.ensures.end
 
 pub expressions::update_local-returns-in_err-operand-clause-end : goal.expressions::update_local-returns-in_err-operand-clause-end
 expressions::update_local-returns-in_err-operand-clause-end t c =

@@ -1,5 +1,5 @@
 use Rattle.std.proofs.Common.{◌∙◌, ap, position, sym}
-use Rattle.sed_cycles.specs.Cycles.{is_first}
+use Rattle.sed_engine.specs.Runnable.{is_first}
 use Rattle.sed_cycles.proofs.Running.{after_first, in_ok}
 use Rattle.sed_cycles.proofs.cycles.cycles_text.Goals as goal
 

@@ -8,23 +8,23 @@ use Rattle.sed_engine.specs.Values.{Val, Int, Spot, spot_of, truth}
 use Rattle.sed_engine.specs.State.{State, End, gives, answers, then_do}
 use Rattle.sed_engine.specs.Steps.{read_bytes, write_bytes}
 use Rattle.sed_engine.specs.Texts.{index_of, characters, filled}
-use Rattle.sed_engine.specs.Expressions.{Setting, operand, text_bytes, text_call, changeable}
+use Rattle.sed_engine.specs.Expressions.{operand, text_bytes, text_call, changeable}
 use Rattle.walk_steps.specs.declared.word.Stop.{Stop as Own}
 use Rattle.walk_steps.specs.Seen.{seen, ends, as_it_is, spot_seen, spots_seen}
 use Rattle.walk_steps.specs.Stored.{stepped, shared_of}
-use Rattle.walk_steps.specs.Targets.{setting_of, lent, text_lent, as_text, literal_in, character_put, put_character, text_copied}
+use Rattle.walk_steps.specs.Targets.{lent, text_lent, as_text, literal_in, character_put, put_character, text_copied}
 use Rattle.walk_steps.proofs.Strs.{alike-end, alike-last, text-kept, lent-kept, count-goes, get-goes, set-goes, equals-goes, copy-kept, put-made, copy-made, lent-chars, lent-bytes, made-of, chars-as-text}
 use Rattle.walk_steps.proofs.texts.copy.Goals as goal
 
 pub returns-in-None-clause-end : goal.returns-in-None-clause-end
-returns-in-None-clause-end c = λ frames locals.
+returns-in-None-clause-end c = λ locals.
     let plan = c.args.plan.now in
     let class = c.args.class in
     let v = seen plan class c.args.value in
     let args = map (seen plan class) c.args.operands.now in
-    let w : Setting = setting_of plan class frames in
+    let texts : List (List ℕ) = plan.program.texts in
     let s : State = record { shared = shared_of plan class c.args.store.now; locals = locals } in
     let none : literal_in v ≡ None = sym (c.literal_number.ensures plan class) ∙ c.in-None.is in
-    c.copy_into.ensures.end frames locals
-    ∙ ap (λ (x : Val). then_do (answers (spot_of v) s) (λ spot s1. text_copied w spot x s1)) (c.operand-other.ensures plan class)
-    ∙ copy-kept w v args s none
+    c.copy_into.ensures.end locals
+    ∙ ap (λ (x : Val). then_do (answers (spot_of v) s) (λ spot s1. text_copied texts spot x s1)) (c.operand-other.ensures plan class)
+    ∙ copy-kept texts v args s none

@@ -8,22 +8,22 @@ use Rattle.sed_engine.specs.Values.{Val, Int, Spot, truth}
 use Rattle.sed_engine.specs.State.{State, End, gives, answers, then_do}
 use Rattle.sed_engine.specs.Steps.{read_bytes, write_bytes}
 use Rattle.sed_engine.specs.Texts.{index_of, characters, filled}
-use Rattle.sed_engine.specs.Expressions.{Setting, operand, text_bytes, text_call, changeable}
+use Rattle.sed_engine.specs.Expressions.{operand, text_bytes, text_call, changeable}
 use Rattle.walk_steps.specs.declared.word.Stop.{Stop as Own}
 use Rattle.walk_steps.specs.Seen.{seen, ends, as_it_is, spot_seen, spots_seen}
 use Rattle.walk_steps.specs.Stored.{stepped, shared_of}
-use Rattle.walk_steps.specs.Targets.{setting_of, lent, text_lent, as_text, literal_in, character_put, put_character, text_copied}
+use Rattle.walk_steps.specs.Targets.{lent, text_lent, as_text, literal_in, character_put, put_character, text_copied}
 use Rattle.walk_steps.proofs.Strs.{alike-end, alike-last, text-kept, lent-kept, count-goes, get-goes, set-goes, equals-goes, copy-kept, put-made, copy-made, lent-chars, lent-bytes, made-of, chars-as-text}
 use Rattle.walk_steps.proofs.texts.count.Goals as goal
 
 pub returns-in-Ok : goal.returns-in-Ok
-returns-in-Ok c = λ frames operands locals.
+returns-in-Ok c = λ operands locals.
     let plan = c.args.plan.now in
     let class = c.args.class in
     let v = seen plan class c.args.value in
-    let w : Setting = setting_of plan class frames in
+    let texts : List (List ℕ) = plan.program.texts in
     let s : State = record { shared = shared_of plan class c.args.store.now; locals = locals } in
     let bytes : List ℕ = c.in-Ok.bytes.now in
-    let e : answers (Ok (as_text v bytes)) s ≡ text_bytes w v s = ap (λ (r : Result (Bor (List ℕ)) Own). answers (text_lent v r) s) (sym c.in-Ok.is) ∙ c.text.ensures.read frames locals in
+    let e : answers (Ok (as_text v bytes)) s ≡ text_bytes texts v s = ap (λ (r : Result (Bor (List ℕ)) Own). answers (text_lent v r) s) (sym c.in-Ok.is) ∙ c.text.ensures.read locals in
     ap (λ (x : Val). gives x s) (c.char_count.ensures plan class ∙ ap (λ (t : List ℕ). Int (pos (length t))) (sym (chars-as-text v bytes)))
-    ∙ count-goes w v operands s (as_text v bytes) e
+    ∙ count-goes texts v operands s (as_text v bytes) e

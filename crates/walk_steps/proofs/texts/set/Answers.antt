@@ -8,21 +8,21 @@ use Rattle.sed_engine.specs.Values.{Val, Int, Spot, truth}
 use Rattle.sed_engine.specs.State.{State, End, gives, answers, then_do}
 use Rattle.sed_engine.specs.Steps.{read_bytes, write_bytes}
 use Rattle.sed_engine.specs.Texts.{index_of, characters, filled}
-use Rattle.sed_engine.specs.Expressions.{Setting, operand, text_bytes, text_call, changeable}
+use Rattle.sed_engine.specs.Expressions.{operand, text_bytes, text_call, changeable}
 use Rattle.walk_steps.specs.declared.word.Stop.{Stop as Own}
 use Rattle.walk_steps.specs.Seen.{seen, ends, as_it_is, spot_seen, spots_seen}
 use Rattle.walk_steps.specs.Stored.{stepped, shared_of}
-use Rattle.walk_steps.specs.Targets.{setting_of, lent, text_lent, as_text, literal_in, character_put, put_character, text_copied}
+use Rattle.walk_steps.specs.Targets.{lent, text_lent, as_text, literal_in, character_put, put_character, text_copied}
 use Rattle.walk_steps.proofs.Strs.{alike-end, alike-last, text-kept, lent-kept, count-goes, get-goes, set-goes, equals-goes, copy-kept, put-made, copy-made, lent-chars, lent-bytes, made-of, chars-as-text}
 use Rattle.walk_steps.proofs.texts.set.Goals as goal
 
 pub returns-in-Ok-clause-end : goal.returns-in-Ok-clause-end
-returns-in-Ok-clause-end c = λ frames locals.
+returns-in-Ok-clause-end c = λ locals.
     let plan = c.args.plan.now in
     let class = c.args.class in
     let v = seen plan class c.args.value in
     let args = map (seen plan class) c.args.operands.now in
-    let w : Setting = setting_of plan class frames in
+    let texts : List (List ℕ) = plan.program.texts in
     let s : State = record { shared = shared_of plan class c.args.store.now; locals = locals } in
     let spot : Spot = spot_seen plan class c.in-Ok.base c.in-Ok.place in
     let e : Ok spot ≡ changeable v = c.in-Ok.ensures plan class in
@@ -30,4 +30,4 @@ returns-in-Ok-clause-end c = λ frames locals.
     ∙ ap (λ (x : Val). put_character spot x (seen plan class c.operand-character.result) s) (c.operand-index.ensures plan class)
     ∙ ap (λ (x : Val). put_character spot (operand args 0) x s) (c.operand-character.ensures plan class)
     ∙ ap (λ (q : Result Spot Stop). then_do (answers q s) (λ spot s1. put_character spot (operand args 0) (operand args 1) s1)) e
-    ∙ set-goes w v args s
+    ∙ set-goes texts v args s
