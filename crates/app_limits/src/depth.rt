@@ -5,9 +5,7 @@ ghost use Rattle.comp_tree.specs.Order.{most_levels};
 ghost use Rattle.row_tree.specs.Rows.{Ascend, parent_in};
 
 use row_tree::{TreeRow, place_of};
-
-// How deep a row stands at most, the App's at 0.
-const GREATEST_DEPTH: usize = 16;
+use sed_value::limits::GREATEST_DEPTH;
 
 // How deep the row with an id stands, the App's at 0; no more than there may be levels.
 pub(crate) fn depth(rows: &[TreeRow], id: u16) -> usize

@@ -9,10 +9,11 @@ use link_prop::App;
 use link_table::LinkRec;
 use sed_engine::Engine;
 use sed_value::Id;
+use sed_value::limits::MOST_LINKS_AT_COMPONENT;
 use sed_wire::Writer;
 
 // How many links there may be at a component.
-const MOST_AT_COMPONENT: u8 = 60;
+const MOST_AT_COMPONENT: u8 = MOST_LINKS_AT_COMPONENT as u8;
 
 /// Puts a link in six bytes: the id and the slot that it leads from, and those that it leads to.
 pub fn put_link(writer: &mut Writer, link: LinkRec)

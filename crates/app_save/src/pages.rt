@@ -1,7 +1,7 @@
 //! A payload is written by pages, and only those that differ from what stands there.
 ghost use Rattle.std.specs.Prelude.{◌≡◌, ◌+◌, ◌≤◌, ◌<◌, ◌↔◌, ℕ, length, take, drop, slice_index, IsTrue, IsErr, IfOk, OnOk};
 ghost use Rattle.sed_outside.specs.Cause.{HasCause};
-ghost use Rattle.disk_model.specs.Disk.{Elapses, During, Writes, Holds, Keeps, MarksUp, largest_file};
+ghost use Rattle.disk_model.specs.Disk.{Elapses, During, Writes, Holds, Keeps, MarksUp, largest_store};
 ghost use Rattle.app_save.specs.Store.{AreSlots};
 ghost use Rattle.app_save.specs.Stages.{Closed, IsClosed};
 
@@ -33,7 +33,7 @@ fn reads_as<D: Disk>(
 
 // Writes these bytes, unless a read gives them already.
 fn write_page<D: Disk>(disk: &mut D, at: u64, bytes: &[u8]) -> Result<(), DiskFault>
-    requires small { at + length bytes.now ≤ largest_file }
+    requires small { at + length bytes.now ≤ largest_store }
     requires page { length bytes.now ≤ 512 }
     requires inside { IsTrue (D.meaning disk.old).tells → at + length bytes.now ≤ length (D.meaning disk.old).content }
     ensures writes { IsTrue (D.meaning disk.old).tells → Writes at bytes.now result (D.meaning disk.old) (D.meaning disk.new) }

@@ -1,7 +1,7 @@
 //! The steps of a save: settle, close the other gate, fill the slot behind it, open the gate.
 ghost use Rattle.std.specs.Prelude.{◌≡◌, ◌⊎◌, ◌+◌, ◌*◌, ◌%◌, ◌≤◌, ◌<◌, false, length, slice_index, IsTrue, IsErr, IfOk, OnOk};
 ghost use Rattle.sed_outside.specs.Cause.{HasCause};
-ghost use Rattle.disk_model.specs.Disk.{Elapses, During, MarksUp, Rests, largest_file};
+ghost use Rattle.disk_model.specs.Disk.{Elapses, During, MarksUp, Rests, largest_store};
 ghost use Rattle.app_save.specs.Store.{IsStore, AreSlots, generation_at};
 ghost use Rattle.app_save.specs.Saving.{AllStores, AllOpen, OpensAsBegun, SinceSync, KeepsEqualPages};
 ghost use Rattle.app_save.specs.Slots.{IsPlace};
@@ -103,7 +103,7 @@ fn close_gate<D: Disk>(
 
 /// Writes the bytes at that place, and waits until they are on the disk.
 pub fn write_through<D: Disk>(disk: &mut D, at: u64, bytes: &[u8]) -> Result<(), DiskFault>
-    requires { at + length bytes.now ≤ largest_file }
+    requires { at + length bytes.now ≤ largest_store }
     ensures lands { IsTrue (D.meaning disk.old).tells → Lands at bytes.now result (D.meaning disk.old) (D.meaning disk.new) }
     ensures time { Elapses (D.meaning disk.old) (D.meaning disk.new) }
     ensures marks { MarksUp (D.meaning disk.old) (D.meaning disk.new) 0 }

@@ -12,12 +12,10 @@ ghost use Rattle.comp_tree.specs.Order.{most_levels};
 ghost use Rattle.comp_tree.specs.Refusals.{first_refusal, is_abstract_class, is_for_components as for_components, is_sys_type as sys_type};
 
 use crate::siblings::is_named;
-use node_table::{MOST_CHILDREN, MOST_COMPONENTS, Nodes};
+use node_table::Nodes;
 use sed_typed::{Schema, TypeNo};
+use sed_value::limits::{GREATEST_DEPTH, MOST_CHILDREN, MOST_COMPONENTS};
 use sed_value::{Id, Name, Refusal};
-
-// How deep the components of a tree stand at most, the App at 0.
-const GREATEST_DEPTH: usize = 16;
 
 /// The class of which a component is to be made, or why there may be none.
 pub fn kind_to_add(schema: &Schema, kit: u8, number: u8) -> Result<TypeNo, Refusal>

@@ -23,5 +23,4 @@ pub mod tree;
 pub use entry::Entry;
 pub use laws::{trees_are_walked_once, walked_ids_are_shallow};
 pub use loaded::Loaded;
-pub use node_table::{MOST_CHILDREN, MOST_COMPONENTS};
 pub use tree::Tree;

@@ -8,7 +8,8 @@ ghost use Rattle.node_table.specs.Changed.{with_children};
 ghost use Rattle.comp_tree.specs.Held.{by_id_of};
 ghost use Rattle.comp_tree.specs.Refusals.{are_each_once as each_once, first_refusal, ids_of, refusals_of_reorder};
 
-use node_table::{Children, MOST_CHILDREN, Nodes, Parts};
+use node_table::{Children, Nodes, Parts};
+use sed_value::limits::MOST_CHILDREN;
 use sed_value::{Id, Refusal};
 use sed_wire::Reader;
 

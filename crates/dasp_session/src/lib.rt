@@ -21,4 +21,4 @@ mod ticking;
 pub use handed::Handed;
 pub use laws::{strangers_change_nothing, what_is_malformed_changes_nothing};
 pub use outbox::{MOST_DATAGRAMS, Outbox};
-pub use sessions::{MOST_SESSIONS, Sessions};
+pub use sessions::Sessions;

@@ -11,9 +11,7 @@ use crate::handed::{Effect, Handed};
 use crate::place::Place;
 use dasp_msg::Msg;
 use sed_outside::Addr;
-
-// How many places there are.
-const PLACES: usize = 16;
+use sed_value::limits::MOST_SESSIONS;
 
 // After so many sessions made, ids begin anew.
 const IDS: u32 = 4095;
@@ -40,7 +38,7 @@ pub(crate) fn is_sha_1(algorithm: Option<&[u8]>) -> bool
 pub(crate) fn place_of(id: u16) -> usize
     ensures { result ≡ id % 16 }
 {
-    usize::from(id) % PLACES
+    usize::from(id) % MOST_SESSIONS
 }
 
 pub(crate) fn count_live(places: &[Place]) -> usize

@@ -7,14 +7,12 @@ ghost use Rattle.dasp_session.specs.Outbox.{CanGo, Datagram as Text, Sends};
 use dasp_msg::{Msg, write_msg};
 use sed_outside::Addr;
 use sed_value::Memory;
+use sed_value::limits::LONGEST_DATAGRAM;
 use std::alloc::Global;
 use std::marker::Model;
 
 /// How many datagrams an outbox holds.
 pub const MOST_DATAGRAMS: usize = 512;
-
-// How many bytes a datagram has at most.
-const LONGEST_DATAGRAM: usize = 512;
 
 /// Datagrams in the order in which they are to be sent. Contracts see their list, each with its address and bytes.
 #[derive(Drop)]

@@ -23,10 +23,8 @@ use dasp_msg::{Msg, MsgKind, read_msg};
 use dasp_users::{Users, nonce};
 use sed_outside::Addr;
 use sed_value::Memory;
+use sed_value::limits::MOST_SESSIONS;
 use std::alloc::Global;
-
-/// How many sessions live at most at a time.
-pub const MOST_SESSIONS: usize = 16;
 
 // The protocol's version.
 const VERSION: u16 = 0x0100;

@@ -20,6 +20,6 @@ pub use laws::{
     acks_stand_for_counts, each_index_is_new_once, first_gap_is_the_least,
     numbers_stand_for_indexes, taken_lists_stay_so, what_was_taken_stays,
 };
-pub use message::{LONGEST_MESSAGE, Message, WINDOW};
+pub use message::{Message, WINDOW};
 pub use receiver::{Receiver, Taken};
 pub use sender::Sender;

@@ -3,9 +3,7 @@ ghost use Rattle.std.specs.Prelude.{◌≡◌, ◌+◌, ◌<◌};
 ghost use Rattle.dasp_window.specs.Posted as posted;
 
 use sed_value::InPlace;
-
-/// How many bytes a message has at most.
-pub const LONGEST_MESSAGE: usize = 498;
+use sed_value::limits::LONGEST_MESSAGE;
 
 /// How many messages stand at most from the first open one on, and how far above the first gap an index is new.
 pub const WINDOW: u16 = 31;

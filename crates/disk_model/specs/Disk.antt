@@ -36,8 +36,8 @@ abbrev pub longest_name : ℕ
 longest_name = 4096
 
 -- No write ends behind this place: two slots of 4,194,304 bytes, each with 6 more.
-abbrev pub largest_file : ℕ
-largest_file = 8388620
+abbrev pub largest_store : ℕ
+largest_store = 8388620
 
 -- Time goes on. What was told of a past moment stays, and so does which meanings are told.
 pub record Elapses (old new : Meaning) : Type 0 where

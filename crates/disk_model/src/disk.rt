@@ -1,7 +1,7 @@
 //! A disk as a store sees it: what a read gives, and what a power cut may leave.
 ghost use Rattle.std.specs.Prelude.{◌≡◌, ◌+◌, ◌≤◌, true, false, length, take, drop, IsTrue, IfOk, OnOk, IsErr, is_ok, if◌then◌else◌};
 ghost use Rattle.sed_outside.specs.Cause.{HasCause};
-ghost use Rattle.disk_model.specs.Disk.{Meaning, Elapses, Attaches, Keeps, Writes, Syncs, MarksUp, SyncsUp, IsDisk, longest_name, largest_file};
+ghost use Rattle.disk_model.specs.Disk.{Meaning, Elapses, Attaches, Keeps, Writes, Syncs, MarksUp, SyncsUp, IsDisk, longest_name, largest_store};
 
 use thiserror::Error;
 
@@ -61,7 +61,7 @@ pub trait Disk {
     /// Writes the bytes at that place; the file grows where they pass its end. Until a sync a crash may leave any bytes
     /// in their range. A write that fails counts as written, and a read may then give any bytes there.
     fn write_at(&mut self, at: u64, bytes: &[u8]) -> Result<(), DiskFault>
-        requires { at + length bytes.now ≤ largest_file }
+        requires { at + length bytes.now ≤ largest_store }
         ensures writes { IsTrue (meaning self.old).tells → Writes at bytes.now result (meaning self.old) (meaning self.new) }
         ensures attached { (meaning self.new).attached ≡ (meaning self.old).attached }
         ensures time { Elapses (meaning self.old) (meaning self.new) }

@@ -3,7 +3,7 @@ ghost use Rattle.std.specs.Prelude.{◌≡◌, ◌+◌, ◌-◌, ◌^◌, ◌≤
 ghost use Rattle.std.specs.Bool.{OnTrue, OnFalse};
 ghost use Rattle.sed_outside.specs.Cause.{HasCause};
 ghost use Rattle.sed_outside.specs.Failing.{begins_with, FailsNow, after_call};
-ghost use Rattle.disk_model.specs.Disk.{Elapses, Keeps, Writes, Syncs, MarksUp, SyncsUp, one_more, longest_name, largest_file};
+ghost use Rattle.disk_model.specs.Disk.{Elapses, Keeps, Writes, Syncs, MarksUp, SyncsUp, one_more, longest_name, largest_store};
 ghost use Rattle.disk_model.specs.Written.{written};
 ghost use Rattle.disk_model.specs.Replay.{calls_by, HasRoom, HasBytes, replayed, replayed_is_disk};
 ghost use Rattle.disk_model.specs.Recorded.{is_call, with_entry, IsTried};
@@ -173,7 +173,7 @@ fn record_write(
     at: u64,
     bytes: &[u8],
 ) -> bool
-    requires inside { at + length bytes.now ≤ largest_file }
+    requires inside { at + length bytes.now ≤ largest_store }
     requires rooms { log.old.room ≤ file.old.room }
     ensures journal { OnTrue result (journal.new ≡ with_entry journal.old (Entry.Wrote at (length bytes.now))) }
     ensures file { OnTrue result (file.new ≡ record { bytes = written file.old.bytes at bytes.now; room = file.old.room }) }
@@ -273,7 +273,7 @@ impl Disk for MemDisk {
 
     /// A write is done where there is room for its bytes too.
     fn write_at(&mut self, at: u64, bytes: &[u8]) -> Result<(), DiskFault>
-        requires { at + length bytes.now ≤ largest_file }
+        requires { at + length bytes.now ≤ largest_store }
         ensures writes { Writes at bytes.now result (replayed self.old.history) (replayed self.new.history) }
         ensures attached { self.new.history.attached ≡ self.old.history.attached }
         ensures time { Elapses (replayed self.old.history) (replayed self.new.history) }

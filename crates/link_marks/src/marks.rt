@@ -2,15 +2,10 @@
 ghost use Rattle.std.specs.Prelude.{◌≡◌, ◌==◌, ◌&&◌, ◌||◌, ◌<◌, ℕ, Bool, List, [], true, false, if◌then◌else◌, IfOk, replicate, slice_index_or};
 ghost use Rattle.link_marks.specs.Marked.{has_mark, most_ids, places};
 
+use sed_value::limits::{MOST_COMPONENTS, MOST_SESSIONS};
 use sed_value::{Id, Memory};
 use std::alloc::{AllocError, Global};
 use std::marker::Model;
-
-/// How many ids there are: a component's id is below it.
-const IDS: usize = 4096;
-
-/// How many session places there are.
-const PLACES: usize = 16;
 
 /// For each id below 4,096 and each session place, 0 to 15, whether the links at the component may have changed since they
 /// were settled for that place. Contracts see a row of marks for each id, by `has_mark`.
@@ -18,7 +13,7 @@ const PLACES: usize = 16;
 /// Room for all is taken by `new`; no other call takes memory.
 #[derive(Drop)]
 pub struct LinkMarks {
-    rows: Vec<[bool; PLACES]>,
+    rows: Vec<[bool; MOST_SESSIONS]>,
 }
 
 impl Model for LinkMarks {
@@ -56,7 +51,7 @@ impl LinkMarks {
     {
         let at = usize::from(id.0);
         if at < self.rows.len() {
-            self.rows[at] = [true; PLACES];
+            self.rows[at] = [true; MOST_SESSIONS];
         }
     }
 
@@ -71,18 +66,18 @@ impl LinkMarks {
 }
 
 // A row for each id, with all marks set.
-fn all_set(alloc: Global) -> Result<Vec<[bool; PLACES]>, AllocError>
+fn all_set(alloc: Global) -> Result<Vec<[bool; MOST_SESSIONS]>, AllocError>
     ensures { IfOk result (λ rows. rows.items ≡ replicate 4096 (replicate 16 true)) }
 {
-    let mut rows = Vec::with_capacity(alloc, IDS)?;
-    for _id in 0..IDS {
-        rows.push([true; PLACES])?;
+    let mut rows = Vec::with_capacity(alloc, MOST_COMPONENTS)?;
+    for _id in 0..MOST_COMPONENTS {
+        rows.push([true; MOST_SESSIONS])?;
     }
     Ok(rows)
 }
 
 // The mark for a place.
-fn at_place(row: &[bool; PLACES], place: u8) -> bool
+fn at_place(row: &[bool; MOST_SESSIONS], place: u8) -> bool
     ensures { result ≡ slice_index_or row.now place true }
 {
     match row.get(usize::from(place)) {

@@ -15,4 +15,4 @@ mod links;
 mod rows;
 
 pub use link::LinkRec;
-pub use links::{Links, MOST_LINKS};
+pub use links::Links;

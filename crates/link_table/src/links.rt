@@ -10,12 +10,10 @@ use crate::edits::{put_by_source, put_by_target, take_at_marks, take_by_source, 
 use crate::end::{End, id_at};
 use crate::link::LinkRec;
 use crate::rows::{first_into, has_link, links_at, links_of, nth_of};
+use sed_value::limits::MOST_LINKS;
 use sed_value::{Id, Memory};
 use std::alloc::Global;
 use std::marker::Model;
-
-/// How many links an application has at most.
-pub const MOST_LINKS: usize = 8192;
 
 /// The links of an application, at most 8,192, in ascending order of their targets: by the component's id
 /// and then by the slot. Contracts see that list; no two of its links have one target.

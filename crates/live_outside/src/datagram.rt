@@ -2,9 +2,6 @@
 use sed_outside::Addr;
 use sed_value::InPlace;
 
-/// The longest datagram, in bytes.
-pub const LONGEST_DATAGRAM: usize = 512;
-
 /// A datagram and its peer. Contracts see the bytes as a list.
 #[derive(Drop)]
 pub struct Datagram {

@@ -20,7 +20,7 @@ mod round;
 mod udp_link;
 
 pub use clock::Clock;
-pub use datagram::{Datagram, LONGEST_DATAGRAM};
+pub use datagram::Datagram;
 pub use link::{Link, LinkFault, Polled};
 pub use mem_clock::MemClock;
 pub use mem_link::MemLink;

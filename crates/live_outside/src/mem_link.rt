@@ -7,11 +7,12 @@ ghost use Rattle.live_outside.specs.Link.{next_poll, later_polls, answered, IsSh
 ghost use Rattle.live_outside.specs.MemLink.{polls_in, offered_in, bound_in, plan_of, faults_of, HasRoomFor};
 ghost use Rattle.live_outside.specs.Told.{told_none, Adds, with_item, with_more};
 
-use crate::datagram::{Datagram, LONGEST_DATAGRAM};
+use crate::datagram::Datagram;
 use crate::first_ones::FirstOnes;
 use crate::link::{Link, LinkFault, Polled};
 use crate::polling::{Polling, Polls};
 use sed_outside::{Addr, FailingCalls};
+use sed_value::limits::LONGEST_DATAGRAM;
 use sed_value::{InPlace, Memory};
 use std::alloc::Global;
 

@@ -2,10 +2,10 @@
 ghost use Rattle.std.specs.Prelude.{◌≡◌, List};
 ghost use Rattle.live_outside.specs.Link.{given, next_poll, later_polls, answered, IsShort, KeepsUnlessGot};
 
-use crate::datagram::LONGEST_DATAGRAM;
 use crate::link::Polled;
 use sed_outside::Addr;
 use sed_value::Items;
+use sed_value::limits::LONGEST_DATAGRAM;
 use std::marker::Model;
 
 /// What a poll is to give.

@@ -3,9 +3,9 @@ ghost use Rattle.std.specs.Prelude.{◌≡◌, ◌≤◌, ◌+◌, None, IsErr, 
 ghost use Rattle.sed_outside.specs.Cause.{HasCause};
 ghost use Rattle.live_outside.specs.Link.{IsShort, KeepsUnlessGot};
 
-use crate::datagram::LONGEST_DATAGRAM;
 use crate::link::{Link, LinkFault, Polled};
 use sed_outside::Addr;
+use sed_value::limits::LONGEST_DATAGRAM;
 use std::io::{self, ErrorKind};
 use std::net::{IpAddr, Ipv4Addr, Net, SocketAddr, UdpSocket};
 

@@ -4,9 +4,6 @@ ghost use Rattle.node_table.specs.Limits.{most_children};
 
 use std::marker::Model;
 
-/// How many children a component has at most.
-pub const MOST_CHILDREN: usize = 200;
-
 /// The ids of a component's children, in their order. Contracts see them as a list.
 ///
 /// There is room for all that a component may have, so none of its calls takes memory.

@@ -14,7 +14,7 @@ mod node;
 mod nodes;
 mod taken;
 
-pub use children::{Children, MOST_CHILDREN};
-pub use marks::{Marks, PLACES, Parts};
+pub use children::Children;
+pub use marks::{Marks, Parts};
 pub use node::Node;
-pub use nodes::{MOST_COMPONENTS, Nodes};
+pub use nodes::Nodes;

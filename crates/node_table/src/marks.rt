@@ -2,10 +2,8 @@
 ghost use Rattle.std.specs.Prelude.{◌≡◌, ◌==◌, ◌<◌, ℕ, if◌then◌else◌, map as map_list, length, slice_set};
 ghost use Rattle.node_table.specs.Marks.{all_parts, mask_of, parts_at, parts_in, tree_parts, value_parts, with_parts as with_more, without_parts as without_these};
 
+use sed_value::limits::MOST_SESSIONS;
 use std::marker::Model;
-
-/// How many session places there are.
-pub const PLACES: usize = 16;
 
 /// Some of the parts of a component that events tell of: its type, name, parent and children; its
 /// config values; its runtime values.
@@ -139,7 +137,7 @@ impl Marks {
     pub fn touch(&mut self, parts: Parts)
         ensures { self.new ≡ map_list (with_more parts) self.old }
     {
-        for place in 0..PLACES {
+        for place in 0..MOST_SESSIONS {
             self.places[place] = self.places[place].with(parts);
         }
     }

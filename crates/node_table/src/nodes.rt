@@ -10,12 +10,10 @@ use crate::marks::Parts;
 use crate::node::Node;
 use crate::taken::Taken;
 use sed_value::Id;
+use sed_value::limits::MOST_COMPONENTS;
 use slab::Slab;
 use std::alloc::{AllocError, Global};
 use std::marker::Model;
-
-/// How many components there may be; their ids are below it.
-pub const MOST_COMPONENTS: usize = 4096;
 
 /// The nodes of a tree by their ids, which are below 4,096. Contracts see a finite map.
 ///

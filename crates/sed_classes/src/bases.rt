@@ -6,7 +6,7 @@ ghost use Rattle.sed_classes.specs.Bases as bases;
 
 use crate::table::{Classes, is_buffer_name, is_text_name};
 use sed_units::TypeName;
-use sed_value::Memory;
+use sed_value::{Memory, is_among};
 use std::alloc::Global;
 use std::marker::Model;
 
@@ -161,10 +161,4 @@ fn base_at(all: &[Option<usize>], class: usize) -> Option<usize>
         Some(base) => *base,
         None => None,
     }
-}
-
-fn is_among(places: &[usize], place: usize) -> bool
-    ensures { result ≡ list_any (λ f. f == place) places.now }
-{
-    places.iter().any(|other| *other == place)
 }

@@ -11,7 +11,7 @@ ghost use Rattle.sed_classes.specs.Names as names;
 use crate::entry::{Entry, entries};
 use crate::kit_units::KitUnits;
 use sed_units::{Class, TypeName};
-use sed_value::{KitName, Memory};
+use sed_value::{KitName, Memory, front_of};
 use std::alloc::Global;
 use std::marker::Model;
 
@@ -159,16 +159,6 @@ fn entry_of<'a, 'b>(all: &'b [Entry<'a>], class: usize) -> Option<&'b Entry<'a>>
     ensures { option_map declaration_of (option_copied result) ≡ slice_get (declarations all.now) class }
 {
     all.get(class)
-}
-
-// The first ones; all where there are fewer.
-fn front_of<'a, 'b>(all: &'b [Entry<'a>], count: usize) -> &'b [Entry<'a>]
-    ensures { result.now ≡ take count all.now }
-{
-    if count >= all.len() {
-        return all;
-    }
-    &all[..count]
 }
 
 fn is_entry_among(all: &[Entry<'_>], name: &[u8], kit: usize) -> bool

@@ -4,7 +4,7 @@ ghost use Rattle.sed_classes.specs.declared.kit_units.KitUnits.{KitUnits as TheK
 ghost use Rattle.sed_elaborate.specs.Checked.{file_number};
 
 use sed_classes::KitUnits;
-use sed_value::Memory;
+use sed_value::{Memory, front_of};
 
 // The greatest number that is answered.
 const GREATEST: usize = 4_294_967_295;
@@ -39,16 +39,6 @@ fn text_count(kits: &[KitUnits]) -> Result<usize, Memory>
         sum = add(sum, kit.units.len())?;
     }
     Ok(sum)
-}
-
-// The first ones; all where there are fewer.
-fn front_of(kits: &[KitUnits], count: usize) -> &[KitUnits]
-    ensures { result.now ≡ take count kits.now }
-{
-    if count >= kits.len() {
-        return kits;
-    }
-    &kits[..count]
 }
 
 fn before(kit: usize) -> usize

@@ -13,7 +13,7 @@ ghost use Rattle.sed_first_fault.specs.Faults.{cycle_faults, no_class};
 use crate::firsts::placed;
 use sed_classes::{Based, Entry, PlacedFault, is_abstract_class};
 use sed_faults::broken_if;
-use sed_value::Memory;
+use sed_value::{Memory, is_among};
 use std::alloc::Global;
 
 // The place of `Component`.
@@ -21,12 +21,6 @@ const COMPONENT: usize = 2;
 
 // The place of the first class that the units declare.
 const FIRST: usize = 5;
-
-fn is_among(places: &[usize], place: usize) -> bool
-    ensures { result ≡ list_any (λ c. c == place) places.now }
-{
-    places.iter().any(|other| *other == place)
-}
 
 // Whether the class at a place is a component.
 fn is_component(alloc: Global, based: &Based<'_>, class: usize) -> Result<bool, Memory>

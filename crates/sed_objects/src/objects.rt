@@ -11,7 +11,7 @@ use crate::measured::Measured;
 use sed_classes::{Classes, is_abstract_class, is_instance_field};
 use sed_faults::{Fault, broken_if, joined};
 use sed_units::Member;
-use sed_value::Memory;
+use sed_value::{Memory, is_among};
 use std::alloc::Global;
 
 // The place of `Component`.
@@ -42,12 +42,6 @@ fn any_declares_field(classes: &Classes<'_>, lineage: &[usize]) -> bool
     ensures { result ≡ list_any (objects.declares_field classes.now) lineage.now }
 {
     lineage.iter().any(|class| declares_field(classes, *class))
-}
-
-fn is_among(places: &[usize], place: usize) -> bool
-    ensures { result ≡ list_any (λ c. c == place) places.now }
-{
-    places.iter().any(|other| *other == place)
 }
 
 // Whether there is no inline object of a class.

@@ -12,17 +12,11 @@ use sed_classes::{Based, Entry, is_abstract_class};
 use sed_objects::Measured;
 use sed_slots::slots;
 use sed_typed::{ClassInfo, TypeNo};
-use sed_value::{Items, Memory, Word};
+use sed_value::{Items, Memory, Word, is_among};
 use std::alloc::Global;
 
 // The place of `Component`.
 const COMPONENT: usize = 2;
-
-fn is_among(places: &[usize], place: usize) -> bool
-    ensures { result ≡ list_any (λ c. c == place) places.now }
-{
-    places.iter().any(|other| *other == place)
-}
 
 // The number of the base of a class.
 fn base_number(based: &Based<'_>, order: &[usize], class: usize) -> Option<TypeNo>

@@ -10,7 +10,7 @@ use crate::ordered::Ordered;
 use crate::parts::{Part, number_behind, place_named};
 use sed_classes::behind_first;
 use sed_typed::TypeNo;
-use sed_value::Memory;
+use sed_value::{Memory, front_of};
 
 fn number_or_zero(number: Option<TypeNo>) -> usize
     ensures { result ≡ unwrap_or (option_map (λ t. t.0) number) 0 }
@@ -19,16 +19,6 @@ fn number_or_zero(number: Option<TypeNo>) -> usize
         Some(number) => number.0 as usize,
         None => 0,
     }
-}
-
-// The first ones; all where there are fewer.
-fn front_of(all: &[usize], count: usize) -> &[usize]
-    ensures { result.now ≡ take count all.now }
-{
-    if count >= all.len() {
-        return all;
-    }
-    &all[..count]
 }
 
 impl<'a, 'b> Ordered<'a, 'b> {

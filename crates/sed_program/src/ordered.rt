@@ -13,7 +13,7 @@ use crate::parts::{Part, count_of, sum_over};
 use sed_classes::Based;
 use sed_outline::{class_order, type_number};
 use sed_typed::TypeNo;
-use sed_value::{Items, Memory};
+use sed_value::{Items, Memory, is_among};
 use std::alloc::Global;
 use std::marker::Model;
 
@@ -98,12 +98,6 @@ fn row_at(rows: &[Items<usize>], class: usize) -> Option<&[usize]>
         Some(row) => Some(row.as_slice()),
         None => None,
     }
-}
-
-fn is_among(places: &[usize], place: usize) -> bool
-    ensures { result ≡ list_any (λ c. c == place) places.now }
-{
-    places.iter().any(|other| *other == place)
 }
 
 impl<'a, 'b> Ordered<'a, 'b> {

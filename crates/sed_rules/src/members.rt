@@ -13,6 +13,7 @@ use sed_classes::{
 };
 use sed_faults::{Fault, broken_if};
 use sed_units::{Class, Member, Param};
+use sed_value::{front_of, is_among};
 
 // The place of `Virtual`.
 const VIRTUAL: usize = 1;
@@ -32,16 +33,6 @@ pub fn name_repeated(entry: &Entry<'_>, number: usize, member: &Member) -> Optio
         4,
         member.at,
     )
-}
-
-// The first ones; all where there are fewer.
-fn front_of(all: &[Member], count: usize) -> &[Member]
-    ensures { result.now ≡ take count all.now }
-{
-    if count >= all.len() {
-        return all;
-    }
-    &all[..count]
 }
 
 // ---- 5: a member that has the name of an inherited one says `override`
@@ -184,12 +175,6 @@ fn is_virtual_elsewhere(based: &Based<'_>, class: usize, lineage: &[usize], memb
 {
     (says_virtual(member) || says_abstract(member) || overrides(member))
         && !is_among(lineage, VIRTUAL)
-}
-
-fn is_among(places: &[usize], place: usize) -> bool
-    ensures { result ≡ list_any (λ c. c == place) places.now }
-{
-    places.iter().any(|other| *other == place)
 }
 
 fn is_abstract_elsewhere(class: &Class, member: &Member) -> bool

@@ -13,11 +13,13 @@ mod in_place;
 mod int;
 mod items;
 mod kit;
+pub mod limits;
 mod long;
 mod memory;
 mod name;
 mod refusal;
 mod shown;
+mod slices;
 mod slot_buf;
 mod slot_type;
 mod value;
@@ -36,6 +38,7 @@ pub use long::{add_long, div_long, mul_long, rem_long, shl_long, shr_long, sub_l
 pub use memory::Memory;
 pub use name::{LONGEST_NAME, Name};
 pub use refusal::{Refusal, refusals_are_numbered};
+pub use slices::{front_of, is_among};
 pub use slot_buf::SlotBuf;
 // The prover has a module `Prim` of its own, so specifications know the type as `Primitive`.
 pub use slot_type::{Primitive as Prim, SlotType};

@@ -23,13 +23,11 @@ use new_store::{NewRefusal, new_stores_open_to_the_app, text_of_alone, the_app_i
 use sed_engine::typed_programs_are_whole;
 use sed_outside::Files;
 use sed_typed::Program;
+use sed_value::limits::MOST_DATA;
 use sed_value::{Items, Memory};
 use sed_walker::Walker;
 use sedona_words::names_in;
 use std::alloc::Global;
-
-// The bytes of data that an application may have.
-const MOST_DATA: u32 = 4_194_304;
 
 // The text of the App alone over a program, which a slot has room for.
 fn text_for(alloc: Global, program: Program, slot: u32) -> Result<Vec<u8>, Refusal>

@@ -7,6 +7,7 @@ ghost use Rattle.sedona_words.specs.Command as words_of;
 
 use crate::words::{is_file_name, is_manifests, number_within, option_first};
 use record_making::GenAsked;
+use sed_value::limits;
 
 // The greatest seed of a record.
 const GREATEST_SEED: u32 = 2_147_483_647;
@@ -15,7 +16,7 @@ const GREATEST_SEED: u32 = 2_147_483_647;
 const MOST_COMPONENTS: u32 = 4_000;
 
 // The most links of a record.
-const MOST_LINKS: u32 = 8_192;
+const MOST_LINKS: u32 = limits::MOST_LINKS as u32;
 
 // The most ticks of a record.
 const MOST_TICKS: u32 = 100_000;

@@ -5,6 +5,7 @@ ghost use Rattle.std.specs.Option.{option_map};
 ghost use Rattle.sedona_words.specs.Command as words_of;
 ghost use Rattle.sedona_words.specs.Command.{names_within, texts};
 
+use sed_value::limits::LARGEST_SLOT;
 use sed_value::{Memory, read_decimal};
 use std::alloc::Global;
 
@@ -16,9 +17,6 @@ const MOST_KITS: usize = 15;
 
 // The most turns of a root call.
 const MOST_TURNS: u64 = 1_000_000;
-
-// The largest slot of a store, in bytes.
-const LARGEST_SLOT: u64 = 4_194_304;
 
 pub fn is_file_name(name: &str) -> bool
     ensures { result ≡ words_of.is_file_name name.now }

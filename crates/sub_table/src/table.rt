@@ -11,14 +11,15 @@ ghost use Rattle.sub_table.specs.Table.{with_subscribed, without_subscribed, wit
 use crate::events::Events;
 use crate::part::{Part, Widths};
 use crate::word::next_bit;
+use sed_value::limits::{MOST_COMPONENTS, MOST_SESSIONS};
 use sed_value::{Id, Memory};
 use std::alloc::Global;
 
 /// How many session places there are.
-pub const PLACES: u8 = 16;
+pub const PLACES: u8 = MOST_SESSIONS as u8;
 
 /// How many ids there are; each is below it.
-pub const IDS: u16 = 4096;
+pub const IDS: u16 = MOST_COMPONENTS as u16;
 
 // A mask of all parts.
 const ALL: u8 = 15;

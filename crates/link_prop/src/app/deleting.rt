@@ -11,9 +11,9 @@ ghost use Rattle.link_prop.specs.Marks.{KeepsAppMarks, links_with, tree_above};
 use crate::app::App;
 use crate::app::marking::mark_linked;
 use crate::ends::is_live;
-use comp_tree::MOST_COMPONENTS;
 use link_table::laws::links_taken_out_are_gone;
 use sed_engine::Engine;
+use sed_value::limits::MOST_COMPONENTS;
 use sed_value::{Id, Refusal};
 
 impl<E: Engine> App<E> {

@@ -15,10 +15,8 @@ use comp_tree::Tree;
 use link_table::laws::{a_new_link_joins_the_others, links_taken_out_are_gone};
 use link_table::{LinkRec, Links};
 use sed_engine::Engine;
+use sed_value::limits::MOST_LINKS_AT_COMPONENT;
 use sed_value::{Id, Refusal};
-
-/// How many links there may be at a component.
-const MOST_AT_COMPONENT: usize = 60;
 
 impl<E: Engine> App<E> {
     ghost use Rattle.comp_tree.specs.Held.{components_of};
@@ -134,5 +132,5 @@ fn is_target_linked(links: &Links, l: LinkRec) -> bool
 fn has_all_links(links: &Links, id: Id) -> bool
     ensures { result ≡ nat_le most_links_at_component (length (links_at id.0 links.now)) }
 {
-    links.count_at(id) >= MOST_AT_COMPONENT
+    links.count_at(id) >= MOST_LINKS_AT_COMPONENT
 }
