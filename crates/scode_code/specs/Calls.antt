@@ -1,12 +1,12 @@
 -- What the instructions on calls and Strs do.
-use Rattle.std.specs.Prelude.{ℕ, ◌+◌, ◌==◌, ◌%◌, pos, Bool, List, [], ◌∷◌, ◌++◌, drop, length, map, if◌then◌else◌, slice_get, slice_index_or, Option, Result, Ok, Err}
+use Rattle.std.specs.Prelude.{ℕ, ◌+◌, ◌==◌, ◌%◌, pos, Bool, List, [], ◌∷◌, ◌++◌, drop, length, map, if◌then◌else◌, slice_get, slice_index_or, Option, Result, Ok}
 use Rattle.std.specs.Option.{option_and_then}
 use Rattle.sed_typed.specs.declared.operators.TextCall.{TextCall}
 use Rattle.sed_typed.specs.declared.operators.TextCall.TheVariants as text
 use Rattle.sed_engine.specs.Expressions as language
 use Rattle.sed_engine.specs.State.{State, End, gives, answers, then_do}
 use Rattle.sed_engine.specs.Steps.{take_turn}
-use Rattle.sed_engine.specs.Stops.{Stop, Untyped, there, map_ok}
+use Rattle.sed_engine.specs.Stops.{Stop, there, map_ok}
 use Rattle.sed_engine.specs.Values.{Val, Nothing, Truth, Int, Long, Null, Spot, spot_of}
 use Rattle.scode_image.specs.declared.image.Image.{Image}
 use Rattle.scode_image.specs.declared.image.ImageKind.{ImageKind}

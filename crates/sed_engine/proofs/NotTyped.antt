@@ -17,14 +17,15 @@ use Rattle.sed_typed.specs.declared.schema.SlotForm.TheVariants.{Prop, Action}
 use Rattle.sed_typed.specs.declared.statement.Label.TheVariants.{Case}
 use Rattle.sed_typed.specs.declared.statement.Stmt.{Stmt, end_of-Stmt, more_of-Stmt}
 use Rattle.sed_typed.specs.declared.statement.Stmt.TheVariants as stmt
-use Rattle.sed_typed.specs.declared.tree.Expr.{Expr}
+use Rattle.sed_typed.specs.declared.tree.Expr.{Expr, end_of-Expr, more_of-Expr}
 use Rattle.sed_typed.specs.declared.tree.Expr.TheVariants as expr
+use Rattle.sed_typed.specs.declared.tree.Link.TheVariants as link
 use Rattle.sed_typed.specs.declared.tree.Place.TheVariants as place
 use Rattle.sed_typed.specs.SysTypes.{meta_slot}
 use Rattle.sed_typed.specs.Typed.{Typed, IsBody}
 use Rattle.sed_typed.specs.TypedSchema.{HasSlot}
 use Rattle.sed_typed.specs.declared.operators.Arithmetic.TheVariants as op
-use Rattle.sed_engine.proofs.Building.{Pointer, vec_of, one, two, int, chain, by, field, set}
+use Rattle.sed_engine.proofs.Building.{Pointer, vec_of, none, one, two, int, chain, this, field, set}
 use Rattle.sed_engine.proofs.Ramp.{class_of, based_on, ramp_class, int_slot, int_property, meta_field, step_field, out_field, nothing, adding, void_method, changed_method, sys_methods_in, program_with, ramp}
 
 -- a test cannot be both
@@ -356,6 +357,22 @@ nested (suc n) p = stmt.While' (expr.Bool 1) p (nested n p)
 too_deep : (p : Pointer) → Typed (with_body (nested 65) p) → ⊥
 unfolding nested
 too_deep p typed = let most : 65 ≤ 64 = (body_in (nested 65) p typed).depth in omega (arith, most)
+
+-- this.changed(), without its argument: the method with the number 3 takes an int
+without_its_argument : Pointer → Stmt
+without_its_argument p = stmt.Do (chain p this (link.Invoke' kind.Void 3 (none p) end_of-Expr))
+
+no_argument_missing : (p : Pointer) → Typed (with_body without_its_argument p) → ⊥
+unfolding without_its_argument with_body with_execute
+no_argument_missing p typed = (body_in without_its_argument p typed).typed.1.0.1.1.1.takes
+
+-- Component.execute(this), a static call of an instance method
+with_a_receiver : Pointer → Stmt
+with_a_receiver p = stmt.Do (expr.Call' kind.Void 0 (one p) (more_of-Expr this end_of-Expr))
+
+no_static_call_of_an_instance_method : (p : Pointer) → Typed (with_body with_a_receiver p) → ⊥
+unfolding with_a_receiver with_body with_execute
+no_static_call_of_an_instance_method p typed = absurd_other (body_in with_a_receiver p typed).typed.1.0
 
 -- a declaration that leaves out a number
 leaving_out : Pointer → Stmt

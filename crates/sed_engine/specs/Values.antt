@@ -1,5 +1,5 @@
 -- The values that expressions come to, and how they are kept.
-use Rattle.std.specs.Prelude.{ℕ, zero, suc, ◌-◌, ◌==◌, ◌&&◌, ◌||◌, ℤ, pos, Bool, true, false, not, if◌then◌else◌, List, [], ◌∷◌, length, slice_index, Result, Ok, Err}
+use Rattle.std.specs.Prelude.{ℕ, ◌-◌, ◌==◌, ◌&&◌, ◌||◌, ℤ, pos, Bool, true, false, not, if◌then◌else◌, List, length, slice_index, Result, Ok, Err}
 use Rattle.std.specs.Str.{bytes_eq}
 pub use Rattle.sed_value.specs.Value.{are_bytes}
 use Rattle.sed_value.specs.Value.{stored, widened, is_of_type}

@@ -1,4 +1,4 @@
-//! The platform's limits, each of which more than one crate goes by.
+//! The platform's limits that crates go by.
 
 /// The sessions that a node keeps at once, and so the places for them.
 pub const MOST_SESSIONS: usize = 16;
@@ -21,11 +21,11 @@ pub const MOST_LINKS_AT_COMPONENT: usize = 60;
 /// The bytes of a datagram.
 pub const LONGEST_DATAGRAM: usize = 512;
 
-/// The bytes of a message, which a datagram carries.
+/// The bytes of a message that is posted, a reply or an event: with its header and fields it fits a datagram.
 pub const LONGEST_MESSAGE: usize = 498;
 
-/// The bytes of data that an application's components have together, by their classes' sizes.
+/// The greatest limit of an application's data: the bytes that its components have together, by their classes' sizes.
 pub const MOST_DATA: u32 = 4_194_304;
 
-/// The bytes of a slot of a store.
+/// The bytes of a payload for which a slot of a store has room.
 pub const LARGEST_SLOT: u64 = 4_194_304;
