@@ -10,3 +10,4 @@ pub mod Rows
 pub mod Discarded
 pub mod Back
 pub mod StmtBack
+pub mod OneTree
