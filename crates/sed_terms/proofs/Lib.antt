@@ -11,3 +11,4 @@ pub mod Discarded
 pub mod Back
 pub mod StmtBack
 pub mod OneTree
+pub mod FlatRows

@@ -1,6 +1,6 @@
 -- Flat trees: what follows an operand from left to right stands in one chain. No head of a chain is a chain itself, and no chain
 -- is without links, anywhere inside.
-use Rattle.std.specs.Prelude.{Option, Some, None}
+use Rattle.std.specs.Prelude.{List, [], ◌∷◌, Option, Some, None}
 use Rattle.sed_typed.specs.declared.statement.Stmt.{Stmt, Row_of-Stmt, end_of-Stmt, more_of-Stmt}
 use Rattle.sed_typed.specs.declared.statement.Stmt.TheVariants as stmt
 use Rattle.sed_typed.specs.declared.tree.Place.{Place}
@@ -81,3 +81,13 @@ abbrev mutual
   pub AreFlatStmts : {n : _} → Row_of-Stmt n → Type 0
   AreFlatStmts end_of-Stmt = Unit {0}
   AreFlatStmts (more_of-Stmt x xs) = IsFlatStmt x × AreFlatStmts xs
+
+-- ---- lists of them
+
+abbrev pub AreAllFlat : List Expr → Type 0
+AreAllFlat [] = Unit {0}
+AreAllFlat (e ∷ es) = IsFlat e × AreAllFlat es
+
+abbrev pub AreAllFlatStmts : List Stmt → Type 0
+AreAllFlatStmts [] = Unit {0}
+AreAllFlatStmts (x ∷ xs) = IsFlatStmt x × AreAllFlatStmts xs
