@@ -12,3 +12,4 @@ pub mod Back
 pub mod StmtBack
 pub mod OneTree
 pub mod FlatRows
+pub mod BareTerms

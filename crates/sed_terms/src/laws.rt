@@ -44,11 +44,14 @@ pub fn trees_nest_as_their_terms()
 {}
 
 /// A term has one tree. In a flat tree, what follows an operand stands in one chain; two flat trees with the same term are the same
-/// wherever they lie in memory.
+/// wherever they lie in memory. Trees that are the same have the same term, flat or not.
 pub fn terms_have_one_tree()
     ensures expression { (a b : Expr) → IsFlat a → IsFlat b → term_of a ≡ term_of b → bare_expr a ≡ bare_expr b }
     ensures place { (a b : Place) → IsFlatPlace a → IsFlatPlace b → place_term a ≡ place_term b → bare_place a ≡ bare_place b }
     ensures statement { (a b : Stmt) → IsFlatStmt a → IsFlatStmt b → stmt_term a ≡ stmt_term b → bare_stmt a ≡ bare_stmt b }
+    ensures same_expression { (a b : Expr) → bare_expr a ≡ bare_expr b → term_of a ≡ term_of b }
+    ensures same_place { (a b : Place) → bare_place a ≡ bare_place b → place_term a ≡ place_term b }
+    ensures same_statement { (a b : Stmt) → bare_stmt a ≡ bare_stmt b → stmt_term a ≡ stmt_term b }
 {}
 
 /// The least of two lists together is the lesser one of their least.
