@@ -5,7 +5,7 @@ use Rattle.sed_typed.specs.declared.statement.Label.{Label}
 use Rattle.sed_typed.specs.declared.statement.Stmt.{Stmt, Row_of-Stmt, end_of-Stmt, more_of-Stmt, items-the_row-Stmt, items_hidden-the_row-Stmt-0}
 use Rattle.sed_typed.specs.declared.statement.Stmt.TheBlock.{hidden-the_row-Stmt-0}
 use Rattle.sed_terms.specs.declared.sign.Sign.TheVariants as sign
-use Rattle.sed_terms.specs.Term.{Term, Absent, Node, row, with_item, appended}
+use Rattle.sed_terms.specs.Term.{Absent, Node, row, with_item, appended}
 use Rattle.sed_terms.specs.Seen.{stmt_term, stmts_term, cases_term}
 use Rattle.sed_terms.proofs.Rows.{one_more}
 use Rattle.sed_stmt_terms.specs.Cases.{cases_row}

@@ -2,7 +2,9 @@
 ghost use Rattle.std.specs.Prelude.{◌≡◌, ◌++◌, [], ◌∷◌, IfOk, IfSome, true};
 ghost use Rattle.std.specs.Option.{option_map};
 ghost use Rattle.sed_typed.specs.declared.statement.Stmt.TheVariants as stmt;
+ghost use Rattle.sed_typed.specs.Flat.{AreAllFlatStmts, IsFlatOr, IsFlatStmt};
 ghost use Rattle.sed_terms.specs.declared.sign.Sign.TheVariants as sign;
+ghost use Rattle.sed_terms.specs.FlatOpen.{IsFlatBox};
 ghost use Rattle.sed_terms.specs.Forms as forms;
 ghost use Rattle.sed_terms.specs.OpenTerm.{optional_boxed};
 ghost use Rattle.sed_terms.specs.Seen.{optional_term, stmt_term};
@@ -16,7 +18,7 @@ use sed_value::Memory;
 use std::alloc::Global;
 use std::marker::Model;
 
-/// A typed statement in the making. Contracts see its term.
+/// A typed statement in the making. Contracts see its term; its tree is flat.
 #[derive(Drop)]
 pub struct FoundStmt {
     made: Box<Stmt>,
@@ -36,6 +38,7 @@ pub struct FoundCases {
 }
 
 impl Model for FoundStmt {
+    ghost use Rattle.sed_typed.specs.Flat.{IsFlatStmt};
     ghost use Rattle.sed_terms.specs.Term.{Term, term_code};
     ghost use Rattle.sed_terms.specs.Seen.{stmt_term};
     ghost use Rattle.sed_terms.specs.contracts.sign.Sign as s;
@@ -45,10 +48,13 @@ impl Model for FoundStmt {
     ghost coded = { term_code s.the_row.coded };
 
     ghost view = { λ f. stmt_term f.made.value };
+
+    ghost invariant = { λ f. IsFlatStmt f.made.value };
 }
 
 impl Model for FoundStmts {
     ghost use Rattle.std.specs.Prelude.{map};
+    ghost use Rattle.sed_typed.specs.Flat.{AreAllFlatStmts};
     ghost use Rattle.sed_terms.specs.Term.{Term, term_code, row};
     ghost use Rattle.sed_terms.specs.Seen.{stmt_term};
     ghost use Rattle.sed_terms.specs.contracts.sign.Sign as s;
@@ -58,10 +64,13 @@ impl Model for FoundStmts {
     ghost coded = { term_code s.the_row.coded };
 
     ghost view = { λ f. row (map stmt_term f.items.items) };
+
+    ghost invariant = { λ f. AreAllFlatStmts f.items.items };
 }
 
 impl Model for FoundCases {
     ghost use Rattle.std.specs.Prelude.{◌≡◌, length, map};
+    ghost use Rattle.sed_typed.specs.Flat.{AreAllFlatStmts};
     ghost use Rattle.sed_terms.specs.Term.{Term, term_code};
     ghost use Rattle.sed_stmt_terms.specs.Cases.{cases_row};
     ghost use Rattle.sed_terms.specs.Seen.{stmt_term};
@@ -73,7 +82,7 @@ impl Model for FoundCases {
 
     ghost view = { λ f. cases_row f.labels.items (map stmt_term f.blocks.items) };
 
-    ghost invariant = { λ f. length f.labels.items ≡ length f.blocks.items };
+    ghost invariant = { λ f. (length f.labels.items ≡ length f.blocks.items) × AreAllFlatStmts f.blocks.items };
 }
 
 impl FoundCases {
@@ -109,7 +118,7 @@ impl FoundStmts {
     }
 
     /// With one more at the end.
-    #[tactic(auto, using(crate::proofs::Rows::one_more_stmt))]
+    #[tactic(auto, using(crate::proofs::Rows::one_more_stmt, crate::proofs::FlatRows::one_more_flat))]
     pub fn with(self, statement: FoundStmt) -> Result<FoundStmts, Memory>
         ensures { IfOk result (λ r. r ≡ with_item self statement) }
     {
@@ -118,7 +127,7 @@ impl FoundStmts {
         Ok(FoundStmts { items })
     }
 
-    #[tactic(auto, using(crate::proofs::Rows::block_row))]
+    #[tactic(auto, using(crate::proofs::Rows::block_row, crate::proofs::FlatRows::block_flat))]
     pub fn into_block(self, alloc: Global) -> Result<FoundStmt, Memory>
         ensures { IfOk result (λ r. r ≡ Node sign.Block self Absent) }
     {
@@ -259,7 +268,7 @@ impl FoundStmt {
     }
 
     /// `switch`, of a value.
-    #[tactic(auto, using(crate::proofs::Rows::cases_are_row))]
+    #[tactic(auto, using(crate::proofs::Rows::cases_are_row, crate::proofs::FlatRows::block_flat))]
     pub fn switched(alloc: Global, value: Found, cases: FoundCases) -> Result<FoundStmt, Memory>
         requires { is_value value ≡ true }
         ensures { IfOk result (λ r. r ≡ Node sign.Switch value cases) }
@@ -272,7 +281,8 @@ impl FoundStmt {
 
     /// The statement.
     pub fn into_stmt(self) -> Stmt
-        ensures { stmt_term result ≡ self }
+        ensures term { stmt_term result ≡ self }
+        ensures flat { IsFlatStmt result }
     {
         Box::into_inner(self.made)
     }
@@ -289,7 +299,8 @@ fn push_block(blocks: &mut Vec<Stmt>, items: Vec<Stmt>) -> Result<(), Memory>
 // A part that may be missing.
 fn optional_value(alloc: Global, e: Option<Found>) -> Result<Option<Box<Expr>>, Memory>
     requires { IfSome e (λ t. is_value t ≡ true) }
-    ensures { IfOk result (λ r. optional_boxed r ≡ optional e) }
+    ensures term { IfOk result (λ r. optional_boxed r ≡ optional e) }
+    ensures flat { IfOk result (λ r. IsFlatBox r) }
 {
     match e {
         Some(e) => {
@@ -301,7 +312,8 @@ fn optional_value(alloc: Global, e: Option<Found>) -> Result<Option<Box<Expr>>, 
 }
 
 fn optional_evaluated(alloc: Global, e: Option<Found>) -> Result<Option<Box<Expr>>, Memory>
-    ensures { IfOk result (λ r. optional_boxed r ≡ optional (option_map forms.discarded e)) }
+    ensures term { IfOk result (λ r. optional_boxed r ≡ optional (option_map forms.discarded e)) }
+    ensures flat { IfOk result (λ r. IsFlatBox r) }
 {
     match e {
         Some(e) => e.into_evaluated(alloc),
@@ -310,7 +322,8 @@ fn optional_evaluated(alloc: Global, e: Option<Found>) -> Result<Option<Box<Expr
 }
 
 fn unboxed(e: Option<Box<Expr>>) -> Option<Expr>
-    ensures { optional_term result ≡ optional_boxed e }
+    ensures term { optional_term result ≡ optional_boxed e }
+    ensures flat { IsFlatBox e → IsFlatOr result }
 {
     match e {
         Some(e) => Some(Box::into_inner(e)),

@@ -10,3 +10,6 @@ pub mod Rows
 pub mod Discarded
 pub mod Back
 pub mod StmtBack
+pub mod OneTree
+pub mod FlatRows
+pub mod BareTerms

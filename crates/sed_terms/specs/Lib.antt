@@ -7,5 +7,6 @@ pub mod TypedStmtTerm
 pub mod TermDepth
 pub mod SortKind
 pub mod OpenTerm
+pub mod FlatOpen
 pub mod Faults
 pub mod Forms

@@ -1,5 +1,6 @@
 //! The arguments of a call in the making.
 ghost use Rattle.std.specs.Prelude.{◌≡◌, IfOk, map, true};
+ghost use Rattle.sed_typed.specs.Flat.{AreAllFlat};
 ghost use Rattle.sed_terms.specs.Seen.{term_of};
 ghost use Rattle.sed_terms.specs.Sorts.{is_value};
 ghost use Rattle.sed_terms.specs.Term.{Absent, row, with_item};
@@ -20,6 +21,7 @@ pub struct Arguments {
 impl Model for Arguments {
     ghost use Rattle.std.specs.Prelude.{map};
     ghost use Rattle.sed_terms.specs.Term.{Term, term_code, row};
+    ghost use Rattle.sed_typed.specs.Flat.{AreAllFlat};
     ghost use Rattle.sed_terms.specs.Seen.{term_of};
     ghost use Rattle.sed_terms.specs.contracts.sign.Sign as s;
 
@@ -28,6 +30,8 @@ impl Model for Arguments {
     ghost coded = { term_code s.the_row.coded };
 
     ghost view = { λ a. row (map term_of a.items.items) };
+
+    ghost invariant = { λ a. AreAllFlat a.items.items };
 }
 
 impl Arguments {
@@ -40,7 +44,7 @@ impl Arguments {
     }
 
     /// With one more at the end.
-    #[tactic(auto, using(crate::proofs::Rows::one_more_expr))]
+    #[tactic(auto, using(crate::proofs::Rows::one_more_expr, crate::proofs::FlatRows::one_more_flat))]
     pub fn with(self, alloc: Global, argument: Found) -> Result<Arguments, Memory>
         requires { is_value argument ≡ true }
         ensures { IfOk result (λ r. r ≡ with_item self argument) }
@@ -53,7 +57,8 @@ impl Arguments {
 
     /// The expressions, in their order.
     pub fn into_items(self) -> Vec<Expr>
-        ensures { row (map term_of result.items) ≡ self }
+        ensures terms { row (map term_of result.items) ≡ self }
+        ensures flat { AreAllFlat result.items }
     {
         self.items
     }

@@ -1,6 +1,8 @@
 //! A typed expression in the making.
 ghost use Rattle.std.specs.Prelude.{◌≡◌, IfOk, false, true};
 ghost use Rattle.sed_terms.specs.declared.sign.Sign.TheVariants as sign;
+ghost use Rattle.sed_typed.specs.Flat.{IsFlat};
+ghost use Rattle.sed_terms.specs.FlatOpen.{IsFlatBox, IsFlatOpen};
 ghost use Rattle.sed_terms.specs.Forms as forms;
 ghost use Rattle.sed_terms.specs.OpenTerm.{open_term, is_open, behind, optional_boxed};
 ghost use Rattle.sed_terms.specs.Seen.{term_of};
@@ -24,7 +26,7 @@ use sed_value::{Memory, Prim};
 use std::alloc::Global;
 use std::marker::Model;
 
-/// A typed expression in the making, with what it comes to. Contracts see its term.
+/// A typed expression in the making, with what it comes to. Contracts see its term; its tree is flat.
 #[derive(Drop)]
 pub struct Found {
     made: Box<Made>,
@@ -42,6 +44,7 @@ impl Model for Found {
     ghost use Rattle.std.specs.Prelude.{◌≡◌};
     ghost use Rattle.sed_terms.specs.Term.{Term, term_code};
     ghost use Rattle.sed_terms.specs.Sorts.{sort_of, is_place};
+    ghost use Rattle.sed_terms.specs.FlatOpen.{IsFlatBox, IsFlatOpen};
     ghost use Rattle.sed_terms.specs.OpenTerm.{open_term, is_open, behind};
     ghost use Rattle.sed_terms.specs.contracts.sign.Sign as s;
 
@@ -51,7 +54,7 @@ impl Model for Found {
 
     ghost view = { λ f. behind f.made.value.before (open_term f.made.value.tree) };
 
-    ghost invariant = { λ f. (f.made.value.sort ≡ sort_of (behind f.made.value.before (open_term f.made.value.tree))) × (is_open f.made.value.tree ≡ is_place (behind f.made.value.before (open_term f.made.value.tree))) };
+    ghost invariant = { λ f. (f.made.value.sort ≡ sort_of (behind f.made.value.before (open_term f.made.value.tree))) × (is_open f.made.value.tree ≡ is_place (behind f.made.value.before (open_term f.made.value.tree))) × IsFlatBox f.made.value.before × IsFlatOpen f.made.value.tree };
 }
 
 // One with its parts.
@@ -59,6 +62,8 @@ impl Model for Found {
 fn held(alloc: Global, before: Option<Box<Expr>>, sort: Sort, tree: Open) -> Result<Found, Memory>
     requires sort_is { sort ≡ sort_of (open_term tree) }
     requires place_is { is_open tree ≡ sorts.is_place (open_term tree) }
+    requires before_is_flat { IsFlatBox before }
+    requires tree_is_flat { IsFlatOpen tree }
     ensures { IfOk result (λ r. r ≡ behind before (open_term tree)) }
 {
     let made = boxed(alloc, Made { sort, before, tree })?;
@@ -69,6 +74,7 @@ fn held(alloc: Global, before: Option<Box<Expr>>, sort: Sort, tree: Open) -> Res
 fn whole(alloc: Global, sort: Sort, tree: Box<Expr>) -> Result<Found, Memory>
     requires sort_is { sort ≡ sort_of (term_of tree.value) }
     requires is_no_place { sorts.is_place (term_of tree.value) ≡ false }
+    requires is_flat { IsFlat tree.value }
     ensures { IfOk result (λ r. r ≡ term_of tree.value) }
 {
     held(alloc, None, sort, Open::Value(tree))
@@ -79,6 +85,8 @@ fn opened(found: Found) -> Made
     ensures term { behind result.before (open_term result.tree) ≡ found }
     ensures sort { result.sort ≡ sort_of found }
     ensures place { is_open result.tree ≡ sorts.is_place found }
+    ensures flat_before { IsFlatBox result.before }
+    ensures flat_tree { IsFlatOpen result.tree }
 {
     Box::into_inner(found.made)
 }
@@ -216,7 +224,8 @@ impl Found {
     #[tactic(auto, using(crate::proofs::Values::value_behind))]
     pub fn into_expr(self, alloc: Global) -> Result<Box<Expr>, Memory>
         requires { is_value self ≡ true }
-        ensures { IfOk result (λ e. term_of e.value ≡ self) }
+        ensures term { IfOk result (λ e. term_of e.value ≡ self) }
+        ensures flat { IfOk result (λ e. IsFlat e.value) }
     {
         let made = opened(self);
         let e = closed(alloc, made.tree)?;
@@ -228,7 +237,8 @@ impl Found {
     /// What is evaluated of it where its value is not used; nothing, where it names only an array or a Buf without a receiver.
     #[tactic(auto, using(crate::proofs::Discarded::discarded_behind))]
     pub fn into_evaluated(self, alloc: Global) -> Result<Option<Box<Expr>>, Memory>
-        ensures { IfOk result (λ e. optional_boxed e ≡ forms.discarded self) }
+        ensures term { IfOk result (λ e. optional_boxed e ≡ forms.discarded self) }
+        ensures flat { IfOk result (λ e. IsFlatBox e) }
     {
         let made = opened(self);
         let part = evaluated_part(alloc, made.tree)?;

@@ -3,7 +3,9 @@ ghost use Rattle.std.specs.Prelude.{◌≡◌, List, ◌++◌, Option};
 ghost use Rattle.sed_typed.specs.declared.statement.Stmt.{Stmt};
 ghost use Rattle.sed_typed.specs.declared.tree.Expr.{Expr};
 ghost use Rattle.sed_typed.specs.declared.tree.Place.{Place};
+ghost use Rattle.sed_typed.specs.Bare.{bare_expr, bare_place, bare_stmt};
 ghost use Rattle.sed_typed.specs.Depth.{body_depth, depth_of};
+ghost use Rattle.sed_typed.specs.Flat.{IsFlat, IsFlatPlace, IsFlatStmt};
 ghost use Rattle.sed_typed.specs.Kinds.{kind_of, place_kind};
 ghost use Rattle.sed_typed.specs.Locals.{declared_in};
 ghost use Rattle.sed_typed.specs.TypedExpr.{Context, IsExpr, IsPlace};
@@ -39,6 +41,17 @@ pub fn trees_nest_as_their_terms()
     ensures expression { (e : Expr) → depth_of e ≡ term_depth (term_of e) }
     ensures body { (s : Stmt) → body_depth s ≡ body_term_depth (stmt_term s) }
     ensures locals { (s : Stmt) → declared_in s ≡ declared_term (stmt_term s) }
+{}
+
+/// A term has one tree. In a flat tree, what follows an operand stands in one chain; two flat trees with the same term are the same
+/// wherever they lie in memory. Trees that are the same have the same term, flat or not.
+pub fn terms_have_one_tree()
+    ensures expression { (a b : Expr) → IsFlat a → IsFlat b → term_of a ≡ term_of b → bare_expr a ≡ bare_expr b }
+    ensures place { (a b : Place) → IsFlatPlace a → IsFlatPlace b → place_term a ≡ place_term b → bare_place a ≡ bare_place b }
+    ensures statement { (a b : Stmt) → IsFlatStmt a → IsFlatStmt b → stmt_term a ≡ stmt_term b → bare_stmt a ≡ bare_stmt b }
+    ensures same_expression { (a b : Expr) → bare_expr a ≡ bare_expr b → term_of a ≡ term_of b }
+    ensures same_place { (a b : Place) → bare_place a ≡ bare_place b → place_term a ≡ place_term b }
+    ensures same_statement { (a b : Stmt) → bare_stmt a ≡ bare_stmt b → stmt_term a ≡ stmt_term b }
 {}
 
 /// The least of two lists together is the lesser one of their least.

@@ -1,7 +1,8 @@
 //! Typed trees in the making, and what is found of a part of a text.
 //!
 //! Contracts see a typed tree as a `Term`: its nodes without their places in memory, and what follows an operand around it. A
-//! typed term gives a typed tree: that is the contract of `typed_terms_give_typed_trees`. `Found` is a term in the making; each
+//! typed term gives a typed tree: that is the contract of `typed_terms_give_typed_trees`. A term has one flat tree:
+//! `terms_have_one_tree`. `Found` is a term in the making; each
 //! of its functions makes one form, and its contract is one equation. What is found of a part of a text is `Judged`: sound, or
 //! unknown because of faults. The rules of the check are written once with the words of `specs/Faults` and read twice, with
 //! all faults and with the least; `rules_keep_the_least` says that both find the same.
@@ -22,7 +23,7 @@ pub use arguments::Arguments;
 pub use found::Found;
 pub use judged::{Fault, Judged, broken, lesser, paired};
 pub use laws::{
-    least_of_two_lists, rules_keep_the_least, trees_nest_as_their_terms,
+    least_of_two_lists, rules_keep_the_least, terms_have_one_tree, trees_nest_as_their_terms,
     typed_terms_give_typed_trees, typed_trees_have_typed_terms,
 };
 pub use sign::Sign;

@@ -1,6 +1,8 @@
 // Links behind an expression, and what an expression whose last access is held back becomes.
 ghost use Rattle.std.specs.Prelude.{◌≡◌, IfOk, true};
 ghost use Rattle.sed_typed.specs.declared.tree.Link.TheVariants as tied;
+ghost use Rattle.sed_typed.specs.Flat.{IsFlat, IsFlatLink, IsFlatPlace, IsNoChain};
+ghost use Rattle.sed_terms.specs.FlatOpen.{IsFlatBox, IsFlatOpen};
 ghost use Rattle.sed_terms.specs.Forms as forms;
 ghost use Rattle.sed_terms.specs.OpenTerm.{open_term, is_open, behind, evaluated_behind, optional_boxed};
 ghost use Rattle.sed_terms.specs.Seen.{term_of, place_term, link_term};
@@ -14,7 +16,10 @@ use std::alloc::Global;
 
 // An expression with one more link behind it.
 pub fn with_link(alloc: Global, mut tree: Box<Expr>, link: Box<Link>) -> Result<Box<Expr>, Memory>
-    ensures { IfOk result (λ e. term_of e.value ≡ link_term (term_of tree.value) link.value) }
+    requires tree_is_flat { IsFlat tree.value }
+    requires link_is_flat { IsFlatLink link.value }
+    ensures term { IfOk result (λ e. term_of e.value ≡ link_term (term_of tree.value) link.value) }
+    ensures flat { IfOk result (λ e. IsFlat e.value) }
 {
     if let Expr::Chain(_, links) = &mut *tree {
         push_boxed(links, link)?;
@@ -25,7 +30,11 @@ pub fn with_link(alloc: Global, mut tree: Box<Expr>, link: Box<Link>) -> Result<
 
 // A chain of one link.
 fn chain(alloc: Global, head: Box<Expr>, link: Box<Link>) -> Result<Box<Expr>, Memory>
-    ensures { IfOk result (λ e. term_of e.value ≡ link_term (term_of head.value) link.value) }
+    requires head_is_flat { IsFlat head.value }
+    requires head_is_no_chain { IsNoChain head.value }
+    requires link_is_flat { IsFlatLink link.value }
+    ensures term { IfOk result (λ e. term_of e.value ≡ link_term (term_of head.value) link.value) }
+    ensures flat { IfOk result (λ e. IsFlat e.value) }
 {
     let mut links = Vec::new(alloc);
     push_boxed(&mut links, link)?;
@@ -85,7 +94,9 @@ pub fn after_link(alloc: Global, e: Box<Expr>) -> Result<Box<Link>, Memory>
 // What is evaluated of an expression whose value is not used: of a value all, with its last access behind it.
 #[tactic(auto, using(crate::proofs::Discarded::whole))]
 pub fn evaluated_part(alloc: Global, tree: Open) -> Result<Option<Box<Expr>>, Memory>
-    ensures { IfOk result (λ e. optional_boxed e ≡ forms.discarded (open_term tree)) }
+    requires { IsFlatOpen tree }
+    ensures term { IfOk result (λ e. optional_boxed e ≡ forms.discarded (open_term tree)) }
+    ensures flat { IfOk result (λ e. IsFlatBox e) }
 {
     match tree {
         Open::Nothing | Open::StaticArray(_, _, _) => Ok(None),
@@ -123,7 +134,10 @@ pub fn evaluated(
     before: Option<Box<Expr>>,
     part: Option<Box<Expr>>,
 ) -> Result<Option<Box<Expr>>, Memory>
-    ensures { IfOk result (λ e. optional_boxed e ≡ evaluated_behind before (optional_boxed part)) }
+    requires before_is_flat { IsFlatBox before }
+    requires part_is_flat { IsFlatBox part }
+    ensures term { IfOk result (λ e. optional_boxed e ≡ evaluated_behind before (optional_boxed part)) }
+    ensures flat { IfOk result (λ e. IsFlatBox e) }
 {
     match (before, part) {
         (None, part) => Ok(part),
@@ -139,8 +153,10 @@ pub fn evaluated(
 // A value with its last access behind it.
 #[tactic(auto, using(crate::proofs::Discarded::value_whole))]
 pub fn closed(alloc: Global, tree: Open) -> Result<Box<Expr>, Memory>
-    requires { is_value (open_term tree) ≡ true }
-    ensures { IfOk result (λ e. term_of e.value ≡ open_term tree) }
+    requires is_value { is_value (open_term tree) ≡ true }
+    requires is_flat { IsFlatOpen tree }
+    ensures term { IfOk result (λ e. term_of e.value ≡ open_term tree) }
+    ensures flat { IfOk result (λ e. IsFlat e.value) }
 {
     let part = evaluated_part(alloc, tree)?;
     match part {
@@ -151,8 +167,10 @@ pub fn closed(alloc: Global, tree: Open) -> Result<Box<Expr>, Memory>
 
 // What may be assigned to.
 pub fn placed(tree: Open) -> Result<Place, Memory>
-    requires { is_open tree ≡ true }
-    ensures { IfOk result (λ p. place_term p ≡ open_term tree) }
+    requires is_open { is_open tree ≡ true }
+    requires is_flat { IsFlatOpen tree }
+    ensures term { IfOk result (λ p. place_term p ≡ open_term tree) }
+    ensures flat { IfOk result (λ p. IsFlatPlace p) }
 {
     match tree {
         Open::Local(kind, number) => Ok(Place::Local(kind, number)),
@@ -174,7 +192,10 @@ pub fn put_behind(
     before: Option<Box<Expr>>,
     e: Box<Expr>,
 ) -> Result<Box<Expr>, Memory>
-    ensures { IfOk result (λ r. term_of r.value ≡ behind before (term_of e.value)) }
+    requires before_is_flat { IsFlatBox before }
+    requires is_flat { IsFlat e.value }
+    ensures term { IfOk result (λ r. term_of r.value ≡ behind before (term_of e.value)) }
+    ensures flat { IfOk result (λ r. IsFlat r.value) }
 {
     match before {
         None => Ok(e),

@@ -12,5 +12,7 @@ pub mod TypedExpr
 pub mod TypedStmt
 pub mod Depth
 pub mod Height
+pub mod Flat
+pub mod Bare
 pub mod Locals
 pub mod Typed

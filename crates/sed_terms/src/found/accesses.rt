@@ -1,6 +1,8 @@
 // Members of objects, of typed expressions in the making, and static members through an instance.
 ghost use Rattle.std.specs.Prelude.{◌≡◌, IfOk, true};
 ghost use Rattle.sed_terms.specs.declared.sign.Sign.TheVariants as sign;
+ghost use Rattle.sed_typed.specs.Flat.{IsFlat};
+ghost use Rattle.sed_terms.specs.FlatOpen.{IsFlatOpen};
 ghost use Rattle.sed_terms.specs.Forms as forms;
 ghost use Rattle.sed_terms.specs.OpenTerm.{open_term, is_open, behind};
 ghost use Rattle.sed_terms.specs.Seen.{term_of};
@@ -98,6 +100,8 @@ fn put_after(
 ) -> Result<Found, Memory>
     requires sort_is { sort ≡ sort_of (behind before (open_term tree)) }
     requires place_is { is_open tree ≡ is_place (behind before (open_term tree)) }
+    requires instance_is_flat { IsFlat instance.value }
+    requires tree_is_flat { IsFlatOpen tree }
     ensures { IfOk result (λ r. r ≡ Node sign.After (term_of instance.value) (behind before (open_term tree))) }
 {
     match before {

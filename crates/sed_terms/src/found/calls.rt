@@ -16,7 +16,7 @@ use std::alloc::Global;
 
 impl Found {
     /// A call of a static method.
-    #[tactic(auto, using(crate::proofs::Rows::args_row))]
+    #[tactic(auto, using(crate::proofs::Rows::args_row, crate::proofs::FlatRows::args_flat))]
     pub fn call(
         alloc: Global,
         kind: Kind,
@@ -30,7 +30,7 @@ impl Found {
     }
 
     /// `super.m(..)`.
-    #[tactic(auto, using(crate::proofs::Rows::args_row))]
+    #[tactic(auto, using(crate::proofs::Rows::args_row, crate::proofs::FlatRows::args_flat))]
     pub fn super_call(
         alloc: Global,
         kind: Kind,
@@ -44,7 +44,7 @@ impl Found {
     }
 
     /// A call of a method of an object.
-    #[tactic(auto, using(crate::proofs::Rows::args_row))]
+    #[tactic(auto, using(crate::proofs::Rows::args_row, crate::proofs::FlatRows::args_flat))]
     pub fn invoke(
         alloc: Global,
         object: Found,
@@ -62,7 +62,7 @@ impl Found {
     }
 
     /// A call of a Str.
-    #[tactic(auto, using(crate::proofs::Rows::args_row))]
+    #[tactic(auto, using(crate::proofs::Rows::args_row, crate::proofs::FlatRows::args_flat))]
     pub fn text_call(
         alloc: Global,
         text: Found,

@@ -2,6 +2,8 @@
 ghost use Rattle.std.specs.Prelude.{◌≡◌, IfOk, true};
 ghost use Rattle.sed_typed.specs.declared.operators.Gives.TheVariants as gives;
 ghost use Rattle.sed_terms.specs.declared.sort.Sort.TheVariants as sorted;
+ghost use Rattle.sed_typed.specs.Flat.{IsFlat};
+ghost use Rattle.sed_terms.specs.FlatOpen.{IsFlatBox, IsFlatOpen};
 ghost use Rattle.sed_terms.specs.Forms as forms;
 ghost use Rattle.sed_terms.specs.OpenTerm.{open_term, is_open, behind};
 ghost use Rattle.sed_terms.specs.Ones as ones;
@@ -112,6 +114,9 @@ fn element(
     array: Open,
     index: Box<Expr>,
 ) -> Result<Found, Memory>
+    requires before_is_flat { IsFlatBox before }
+    requires array_is_flat { IsFlatOpen array }
+    requires index_is_flat { IsFlat index.value }
     ensures { IfOk result (λ r. r ≡ forms.indexed (behind before (open_term array)) (term_of index.value)) }
 {
     match array {
@@ -144,6 +149,8 @@ fn element(
 
 #[tactic(auto, using(crate::proofs::Behind::bytes_behind))]
 fn bytes_in(alloc: Global, before: Option<Box<Expr>>, buf: Open) -> Result<Found, Memory>
+    requires before_is_flat { IsFlatBox before }
+    requires buf_is_flat { IsFlatOpen buf }
     ensures { IfOk result (λ r. r ≡ forms.bytes_of (behind before (open_term buf))) }
 {
     match buf {
@@ -154,6 +161,8 @@ fn bytes_in(alloc: Global, before: Option<Box<Expr>>, buf: Open) -> Result<Found
 
 #[tactic(auto, using(crate::proofs::Behind::size_behind))]
 fn size_in(alloc: Global, before: Option<Box<Expr>>, buf: Open) -> Result<Found, Memory>
+    requires before_is_flat { IsFlatBox before }
+    requires buf_is_flat { IsFlatOpen buf }
     ensures { IfOk result (λ r. r ≡ forms.size_of (behind before (open_term buf))) }
 {
     match buf {
@@ -175,7 +184,10 @@ fn stored(
     value: Box<Expr>,
 ) -> Result<Found, Memory>
     requires is_place { is_open place ≡ true }
+    requires before_is_flat { IsFlatBox before }
+    requires place_is_flat { IsFlatOpen place }
     requires kind_is { kind ≡ term_kind (open_term place) }
+    requires value_is_flat { IsFlat value.value }
     ensures { IfOk result (λ r. r ≡ forms.stored (behind before (open_term place)) (term_of value.value)) }
 {
     let place = placed(place)?;
@@ -193,7 +205,10 @@ fn updated(
     operand: Box<Expr>,
 ) -> Result<Found, Memory>
     requires is_place { is_open place ≡ true }
+    requires before_is_flat { IsFlatBox before }
+    requires place_is_flat { IsFlatOpen place }
     requires kind_is { kind ≡ term_kind (open_term place) }
+    requires operand_is_flat { IsFlat operand.value }
     requires operand_is { operand_term update.gives operand.value (term_of operand.value) ≡ term_of operand.value }
     ensures { IfOk result (λ r. r ≡ forms.updated update (behind before (open_term place)) (term_of operand.value)) }
 {
@@ -206,6 +221,7 @@ fn updated(
 fn one_in(width: Width) -> Expr
     ensures of_width { term_of result ≡ ones.one_in width }
     ensures literal { (t : Term) → literal_operand result t ≡ t }
+    ensures flat { IsFlat result }
 {
     match width {
         Width::Int => Expr::Int(1),
