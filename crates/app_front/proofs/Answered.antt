@@ -2,16 +2,16 @@
 use Rattle.std.proofs.Common.{◌≡◌, inl, inr, ℕ, List, [], length, Err, sym, ◌∙◌, ap, subst}
 use Rattle.sed_typed.specs.declared.schema.ClassInfo.{ClassInfo}
 use Rattle.sed_typed.specs.declared.schema.Schema.{Schema}
-use Rattle.scode_image.specs.Form.{found_eq, not_found}
-use Rattle.scode_image.specs.Reading.{Found, Stuck}
+use Rattle.sed_wire.specs.Form.{found_eq, not_found}
+use Rattle.sed_wire.specs.FormReading.{Found, Stuck}
 use Rattle.app_file.specs.Reading.{HasNoFront, IsFront}
 use Rattle.app_file.specs.declared.refusal.AppRefusal.{AppRefusal}
 use Rattle.app_file.specs.declared.refusal.AppRefusal.TheVariants.{NotAnApp, WrongKits, OverLimit, Memory}
 use Rattle.app_front.specs.BodyForm.{IsBodyAnswer, ReadsNoRows, ReadsRows, body}
 use Rattle.app_front.specs.Front.{IsFrontOutcome}
-use Rattle.app_front.specs.Gives.{Gives}
-use Rattle.app_front.specs.declared.halt.Halt.{Halt}
-use Rattle.app_front.specs.declared.halt.Halt.TheVariants.{Fault}
+use Rattle.sed_wire.specs.Gives.{Gives}
+use Rattle.sed_wire.specs.declared.halt.Halt.{Halt}
+use Rattle.sed_wire.specs.declared.halt.Halt.TheVariants.{Fault}
 use Rattle.app_front.specs.declared.rows.FileRows.{FileRows}
 
 pub front_refused : (schema : Schema) (bytes old left : List ℕ) (refusal : AppRefusal) → old ≡ bytes → IsFrontOutcome schema old left (Err refusal) → IsBodyAnswer schema bytes (Err refusal)

@@ -5,13 +5,13 @@ use Rattle.std.proofs.lemmas.Bool.{cases_order}
 use Rattle.sed_value.specs.declared.kit.KitRef.{KitRef}
 use Rattle.sed_typed.specs.declared.schema.Schema.{Schema}
 use Rattle.sed_engine.specs.Code.{Meaning}
-use Rattle.scode_image.specs.Form.{found_eq, not_found}
+use Rattle.sed_wire.specs.Form.{found_eq, not_found}
 use Rattle.app_file.specs.Reading.{DifferAt, HasNoFront, HasWrongKits, IsFront}
 use Rattle.app_file.specs.declared.refusal.AppRefusal.{AppRefusal}
 use Rattle.app_file.specs.declared.refusal.AppRefusal.TheVariants.{NotAnApp, WrongKits, OverLimit, Memory}
 use Rattle.app_front.specs.Form as form
 use Rattle.app_front.specs.Front.{IsFrontOutcome, IsNoFrontAnswer, IsVersionAnswer, IsWrongKitsAnswer}
-use Rattle.app_front.specs.Gives.{IsAnswerTo}
+use Rattle.app_front.specs.FrontAnswer.{IsAnswerTo}
 use Rattle.app_front.specs.declared.front.Front.{Front}
 use Rattle.app_front.proofs.Fronts.{front-read, front-whole, front_of}
 

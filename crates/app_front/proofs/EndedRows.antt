@@ -3,15 +3,15 @@ use Rattle.std.proofs.Common.{◌≡◌, ℕ, suc, ◌+◌, ◌-◌, ◌<◌, �
 use Rattle.std.specs.Prelude.{◌==◌}
 use Rattle.std.proofs.lemmas.Bool.Decides.{nat_tests}
 use Rattle.std.proofs.lemmas.List.{append-nil}
-use Rattle.scode_image.specs.Reading.{Reading, Found, Stuck, read_on}
-use Rattle.scode_image.specs.Form.{Form, pair_reads}
-use Rattle.scode_image.specs.Leaves.{number}
-use Rattle.scode_image.proofs.Rows.{with_front}
+use Rattle.sed_wire.specs.FormReading.{Reading, Found, Stuck, read_on}
+use Rattle.sed_wire.specs.Form.{Form, pair_reads}
+use Rattle.sed_wire.specs.Leaves.{number}
+use Rattle.sed_wire.proofs.Rows.{with_front}
 use Rattle.comp_tree.specs.Parts.{no_id}
 use Rattle.app_front.specs.Ended.{Begin, ended}
-use Rattle.app_front.specs.Gives.{Gives}
-use Rattle.app_front.specs.declared.halt.Halt.{Halt}
-use Rattle.app_front.specs.declared.halt.Halt.TheVariants.{Fault, Memory}
+use Rattle.sed_wire.specs.Gives.{Gives}
+use Rattle.sed_wire.specs.declared.halt.Halt.{Halt}
+use Rattle.sed_wire.specs.declared.halt.Halt.TheVariants.{Fault, Memory}
 
 is_end : (k : ℕ) → k ≡ no_id → (k == no_id) ≡ true
 is_end k is = grind (arith, nat_tests)

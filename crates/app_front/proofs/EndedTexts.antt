@@ -4,8 +4,8 @@ use Rattle.std.specs.Prelude.{◌==◌}
 use Rattle.std.specs.List.{AllByRecursion, flat_map}
 use Rattle.std.proofs.lemmas.List.{append-nil}
 use Rattle.sed_wire.proofs.NumberLemmas.{written_spells}
-use Rattle.scode_image.specs.Form.{Form, given, then}
-use Rattle.scode_image.specs.Row.{listed}
+use Rattle.sed_wire.specs.Form.{Form, given, then}
+use Rattle.sed_wire.specs.Row.{listed}
 use Rattle.comp_tree.specs.Parts.{no_id, u2}
 use Rattle.app_front.specs.Ended.{Begin, ended}
 use Rattle.app_front.proofs.IdTexts.{below_mark, not_mark}

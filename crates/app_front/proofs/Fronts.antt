@@ -8,8 +8,9 @@ use Rattle.std.proofs.lemmas.List.Elements.{All-from_recursion, recursion_from_A
 use Rattle.sed_value.specs.Names.{is_kit_name}
 use Rattle.sed_value.specs.Value.{is_signed}
 use Rattle.sed_value.specs.declared.kit.KitRef.{KitRef}
-use Rattle.scode_image.specs.Reading.{Found}
-use Rattle.scode_image.specs.Row.{counted}
+use Rattle.sed_wire.specs.FormReading.{Found}
+use Rattle.sed_wire.specs.Leaves as leaf
+use Rattle.sed_wire.specs.Row.{counted}
 use Rattle.comp_tree.specs.Edit.{kit_bytes}
 use Rattle.comp_tree.specs.Parts.{text}
 use Rattle.app_file.specs.Reading.{IsFront}
@@ -38,8 +39,8 @@ kit_texts =
 abbrev AreKits : List KitRef → Type 0
 AreKits kits = (length kits < 256) × AllByRecursion IsKit kits
 
-kits_texts : Texts (counted form.u1 form.kit).spells AreKits kits_text
-unfolding form.u1
+kits_texts : Texts (counted leaf.u1 form.kit).spells AreKits kits_text
+unfolding leaf.u1
 kits_texts = record {
   said = λ kits bytes is.
       let count = (number_texts 1).said (length kits) is.0 is.2 in
@@ -66,7 +67,7 @@ number_of_version n (inl is) = (omega (arith, is), grind (arith, nat_tests))
 number_of_version n (inr is) = (omega (arith, is), grind (arith, nat_tests))
 
 version_texts : Texts form.version.spells IsVersion u4
-unfolding form.version form.u4
+unfolding form.version leaf.u4
 version_texts = same_texts IsVersion version_of number_of_version (only_texts form.is_version (number_texts 4))
 
 mark_below : file_mark < 256 ^ 4

@@ -1,20 +1,13 @@
--- What a reader gives of names, as their form reads them; and rows that end early.
-use Rattle.std.proofs.Common.{◌≡◌, ℕ, suc, ◌+◌, ◌-◌, ◌<◌, Bool, true, false, List, ◌++◌, Result, Err, IsOkAnd, refl, sym, ◌∙◌, ap, arith}
+-- What a reader gives of names, as their form reads them.
+use Rattle.std.proofs.Common.{◌≡◌, ℕ, Bool, true, false, List, ◌++◌, Result, Err, IsOkAnd, refl, ap}
 use Rattle.std.specs.Prelude.{Option, Some, None, if◌then◌else◌}
 use Rattle.sed_wire.specs.Reading.{Reads}
 use Rattle.sed_wire.specs.Text.{SpellsText}
 use Rattle.sed_wire.specs.declared.fault.StrFault.{StrFault}
-use Rattle.scode_image.specs.Form.{Form, on_none, only, on_whole, passed}
-use Rattle.scode_image.specs.Leaves.{text}
-use Rattle.scode_image.specs.Reading.{Reading, Found, Stuck}
-use Rattle.scode_image.specs.Row.{row}
-use Rattle.scode_image.proofs.LeafLemmas.{text_none, text_read}
-use Rattle.scode_image.proofs.Rows.{Left, with_front}
-use Rattle.app_front.specs.Gives.{Gives}
-use Rattle.app_front.specs.declared.halt.Halt.{Halt}
-use Rattle.app_front.specs.declared.halt.Halt.TheVariants.{Fault, Memory}
-
--- ---- names
+use Rattle.sed_wire.specs.Form.{on_none, only, on_whole, passed}
+use Rattle.sed_wire.specs.Leaves.{text}
+use Rattle.sed_wire.specs.FormReading.{Found, Stuck}
+use Rattle.sed_wire.proofs.LeafLemmas.{text_none, text_read}
 
 passes : (b : Bool) (t name : List ℕ) (new old : List ℕ) → (if b then Some t else None) ≡ Some name → passed b t new old ≡ Found name new
 passes true t name new old e = let same : t ≡ name = cc in ap (λ (n : List ℕ). Found n new) same
@@ -38,13 +31,3 @@ module _ (test : List ℕ → Bool) where
       → (only test text).reads old ≡ Stuck old
   name_none now result fault old new e again =
       on_none (text.reads old) (λ a rest. passed (test a) a rest old) old (text_none now result fault old new e again)
-
--- ---- rows that end early
-
-pub refused : {A S : Type 0} (item : S → Form A) (next : S → A → S) (halt : Halt) (behind : List ℕ) (front : List A) (count i : ℕ) (s : S) (bytes : List ℕ) (all : Reading (List A))
-    → i < count → Gives (Err halt) behind ((item s).reads bytes) → Left item next front (count - i) s bytes all → Gives (Err halt) behind all
-refused item next Fault behind front count i s bytes all below read so_far =
-    let down : count - i ≡ suc (count - (i + 1)) = omega (arith, below) in
-    let here : with_front front ((row item next (count - i) s).reads bytes) ≡ Stuck behind = rw (down, read) refl in
-    sym so_far ∙ here
-refused item next Memory behind front count i s bytes all below read so_far = tt

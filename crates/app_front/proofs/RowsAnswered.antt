@@ -5,7 +5,7 @@ use Rattle.sed_value.specs.declared.kit.KitRef.{KitRef}
 use Rattle.sed_typed.specs.declared.schema.Schema.{Schema}
 use Rattle.sed_engine.specs.Code.{Meaning}
 use Rattle.sed_engine.specs.Whole.{KeepsLimits}
-use Rattle.scode_image.specs.Form.{found_eq}
+use Rattle.sed_wire.specs.Form.{found_eq}
 use Rattle.app_file.specs.Reading.{DifferAt, HasNoFront, HasWrongKits, IsFront}
 use Rattle.app_file.specs.declared.refusal.AppRefusal.{AppRefusal}
 use Rattle.app_file.specs.declared.refusal.AppRefusal.TheVariants.{NotAnApp, WrongKits, OverLimit, Memory}

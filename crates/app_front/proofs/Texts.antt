@@ -10,9 +10,9 @@ use Rattle.sed_wire.specs.Number.{SpellsNumber, SpellsSigned}
 use Rattle.sed_wire.specs.Text.{SpellsText, is_character, is_text}
 use Rattle.sed_wire.proofs.FrontLemmas.{number_of-below, one_number, one_signed}
 use Rattle.sed_wire.proofs.NumberLemmas.{written_spells, written_spells_signed}
-use Rattle.scode_image.specs.Form.{Form}
-use Rattle.scode_image.specs.Row.{times}
-use Rattle.scode_image.specs.Spelling.{OnlySpells, ThenSpells}
+use Rattle.sed_wire.specs.Form.{Form}
+use Rattle.sed_wire.specs.Row.{times}
+use Rattle.sed_wire.specs.FormSpelling.{OnlySpells, ThenSpells}
 use Rattle.comp_tree.specs.Parts.{text}
 
 -- the things that are spelled are those that have P, and each is spelled by its text alone

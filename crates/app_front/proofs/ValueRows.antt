@@ -10,13 +10,13 @@ use Rattle.sed_wire.specs.Reading.{Reads}
 use Rattle.sed_wire.specs.Spelling.{Spells}
 use Rattle.prop_values.specs.Read.{config_type_of, types_in}
 use Rattle.prop_values.proofs.ConfigLemmas.{IsNext, asked_next, next_slot}
-use Rattle.scode_image.specs.Form.{pair_reads}
-use Rattle.scode_image.specs.Reading.{Reading, Found, Stuck, read_on}
-use Rattle.scode_image.proofs.Rows.{with_front}
-use Rattle.app_front.specs.Gives.{Gives}
+use Rattle.sed_wire.specs.Form.{pair_reads}
+use Rattle.sed_wire.specs.FormReading.{Reading, Found, Stuck, read_on}
+use Rattle.sed_wire.proofs.Rows.{with_front}
+use Rattle.sed_wire.specs.Gives.{Gives}
 use Rattle.app_front.specs.ValueForm as form
-use Rattle.app_front.specs.declared.halt.Halt.{Halt}
-use Rattle.app_front.specs.declared.halt.Halt.TheVariants.{Fault, Memory}
+use Rattle.sed_wire.specs.declared.halt.Halt.{Halt}
+use Rattle.sed_wire.specs.declared.halt.Halt.TheVariants.{Fault, Memory}
 
 -- ---- a value
 

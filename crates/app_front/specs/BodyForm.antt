@@ -3,9 +3,9 @@ use Rattle.std.specs.Prelude.{◌≡◌, ◌⊎◌, ℕ, List, [], length, Resul
 use Rattle.sed_typed.specs.declared.schema.ClassInfo.{ClassInfo}
 use Rattle.sed_typed.specs.declared.schema.Schema.{Schema}
 use Rattle.sed_engine.specs.Code.{Meaning}
-use Rattle.scode_image.specs.Form.{Form, given, seen_as, ◌&◌}
-use Rattle.scode_image.specs.Leaves.{number}
-use Rattle.scode_image.specs.Reading.{Found}
+use Rattle.sed_wire.specs.Form.{Form, given, seen_as, ◌&◌}
+use Rattle.sed_wire.specs.Leaves.{number}
+use Rattle.sed_wire.specs.FormReading.{Found}
 use Rattle.comp_tree.specs.Application.{Link}
 use Rattle.app_file.specs.Reading.{HasNoFront, HasWrongKits, IsFront}
 use Rattle.app_file.specs.declared.refusal.AppRefusal.{AppRefusal}

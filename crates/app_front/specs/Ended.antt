@@ -2,10 +2,10 @@
 -- begins with.
 use Rattle.std.specs.Prelude.{◌≡◌, ℕ, zero, suc, ◌==◌, Bool, true, false, cond, List, [], ◌∷◌, refl}
 use Rattle.std.proofs.Common.{ap, sym, ◌∙◌, eqb-true}
-use Rattle.scode_image.specs.Reading.{Stuck}
-use Rattle.scode_image.specs.Form.{Form, given, not_found, seen_as, stuck_again, stuck_eq, then}
-use Rattle.scode_image.specs.Leaves.{number}
-use Rattle.scode_image.specs.Row.{listed}
+use Rattle.sed_wire.specs.FormReading.{Stuck}
+use Rattle.sed_wire.specs.Form.{Form, given, not_found, seen_as, stuck_again, stuck_eq, then}
+use Rattle.sed_wire.specs.Leaves.{number}
+use Rattle.sed_wire.specs.Row.{listed}
 use Rattle.comp_tree.specs.Parts.{no_id}
 
 -- nothing, whatever the bytes

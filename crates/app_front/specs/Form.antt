@@ -2,19 +2,10 @@
 use Rattle.std.specs.Prelude.{ℕ, ◌==◌, ◌||◌, Bool, List, refl}
 use Rattle.sed_value.specs.Names.{is_kit_name}
 use Rattle.sed_value.specs.declared.kit.KitRef.{KitRef}
-use Rattle.scode_image.specs.Form.{Form, seen_as, only, ◌&◌}
-use Rattle.scode_image.specs.Leaves.{number, signed, mark, text}
-use Rattle.scode_image.specs.Row.{counted}
+use Rattle.sed_wire.specs.Form.{Form, seen_as, only, ◌&◌}
+use Rattle.sed_wire.specs.Leaves.{u1, u4, signed, mark, text}
+use Rattle.sed_wire.specs.Row.{counted}
 use Rattle.app_front.specs.declared.front.Front.{Front}
-
-unfoldable pub u1 : Form ℕ
-u1 = number 1
-
-unfoldable pub u2 : Form ℕ
-u2 = number 2
-
-unfoldable pub u4 : Form ℕ
-u4 = number 4
 
 -- what begins each file, as characters `sapp`
 unfoldable pub head : Form (Unit {0})

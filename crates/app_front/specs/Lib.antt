@@ -3,7 +3,7 @@ pub mod Differing
 pub mod Ended
 pub mod Form
 pub mod Front
-pub mod Gives
+pub mod FrontAnswer
 pub mod LinkForm
 pub mod RowForm
 pub mod Rows

@@ -1,7 +1,7 @@
 -- The links of a file as a form of bytes.
 use Rattle.std.specs.Prelude.{ℕ, List, refl}
-use Rattle.scode_image.specs.Form.{Form, given, seen_as, ◌&◌}
-use Rattle.scode_image.specs.Leaves.{mark, number}
+use Rattle.sed_wire.specs.Form.{Form, given, seen_as, ◌&◌}
+use Rattle.sed_wire.specs.Leaves.{mark, number}
 use Rattle.comp_tree.specs.Application.{Link}
 use Rattle.app_front.specs.Ended.{Begin, ended}
 

@@ -15,8 +15,8 @@ use Rattle.sed_typed.specs.Schemas.{numbered, type_at}
 use Rattle.sed_typed.specs.declared.number.TypeNo.{TypeNo}
 use Rattle.sed_typed.specs.declared.schema.ClassInfo.{ClassInfo}
 use Rattle.prop_values.specs.Read.{types_in}
-use Rattle.scode_image.specs.Form.{Form, given, only, seen_as, then, ◌&◌}
-use Rattle.scode_image.specs.Leaves.{mark, number, text}
+use Rattle.sed_wire.specs.Form.{Form, given, only, seen_as, then, ◌&◌}
+use Rattle.sed_wire.specs.Leaves.{mark, number, text}
 use Rattle.comp_tree.specs.Parts.{no_id}
 use Rattle.app_front.specs.Ended.{Begin, ended, never}
 use Rattle.app_front.specs.ValueForm.{values}

@@ -1,13 +1,10 @@
 -- Which bytes are rows and links of a code, behind a front with its kits.
-use Rattle.std.specs.Prelude.{ℕ, ◌≡◌, ◌⊎◌, ◌<◌, IsTrue, IfSome, List, [], ◌∷◌, map as map_list, slice_get, Option, Some, Result, Ok, Err}
+use Rattle.std.specs.Prelude.{ℕ, ◌≡◌, ◌⊎◌, ◌<◌, IsTrue, IfSome, List, map as map_list, slice_get, Option, Some, Result, Ok, Err}
 use Rattle.std.specs.List.{All}
 use Rattle.std.specs.Option.{option_map}
 use Rattle.sed_value.specs.Names.{is_name}
-use Rattle.sed_value.specs.Value.{is_of_type}
 use Rattle.sed_value.specs.declared.id.Id.{Id}
 use Rattle.sed_value.specs.declared.kit.KitRef.{KitRef}
-use Rattle.sed_value.specs.declared.slot_type.SlotType.{SlotType}
-use Rattle.sed_value.specs.declared.value.Value.{Value}
 use Rattle.sed_typed.specs.Schemas.{type_at}
 use Rattle.sed_typed.specs.declared.schema.ClassInfo.{ClassInfo}
 use Rattle.sed_engine.specs.Code.{Meaning}

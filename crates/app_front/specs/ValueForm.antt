@@ -19,10 +19,10 @@ use Rattle.sed_wire.proofs.FrontLemmas.{number_of-below}
 use Rattle.sed_wire.proofs.ValueLemmas.{one_value}
 use Rattle.prop_values.specs.Values.{value_of}
 use Rattle.prop_values.proofs.ReadLemmas.{found}
-use Rattle.scode_image.specs.Form.{Form, begins_again, field, found_eq, given, not_found, not_stuck, stuck_eq, then}
-use Rattle.scode_image.specs.Reading.{Found, Stuck, Reads}
-use Rattle.scode_image.specs.Row.{listed}
-use Rattle.scode_image.specs.Spelling.{Begins}
+use Rattle.sed_wire.specs.Form.{Form, begins_again, field, found_eq, given, not_found, not_stuck, stuck_eq, then}
+use Rattle.sed_wire.specs.FormReading.{Found, Stuck, Reads}
+use Rattle.sed_wire.specs.Row.{listed}
+use Rattle.sed_wire.specs.FormSpelling.{Begins}
 
 -- ---- a value
 

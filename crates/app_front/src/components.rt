@@ -2,16 +2,15 @@
 ghost use Rattle.std.specs.Prelude.{◌≡◌};
 ghost use Rattle.sed_engine.specs.Whole.{KeepsLimits};
 ghost use Rattle.sed_typed.specs.Classes.{slots};
-ghost use Rattle.app_front.specs.Gives.{Gives};
+ghost use Rattle.sed_wire.specs.Gives.{Gives};
 ghost use Rattle.app_front.specs.RowForm as form;
 
-use crate::fields::{u1, u2};
-use crate::halt::Halt;
 use crate::rows::FileRow;
 use crate::values::values;
 use sed_typed::{Schema, SlotInfo, TypeNo};
 use sed_value::{Id, Items, Name, Value};
-use sed_wire::Reader;
+use sed_wire::fields::{mark_1, u1, u2};
+use sed_wire::{Halt, Reader};
 use std::alloc::Global;
 
 // The components up to the mark behind them, where they are fewer than so many.
@@ -66,7 +65,7 @@ fn component_behind(
 }
 
 // The class with the kit and the number that stand there.
-#[tactic(auto, unfolding(crate::specs::RowForm::class, crate::specs::Form::u1))]
+#[tactic(auto, unfolding(crate::specs::RowForm::class, sed_wire::specs::Leaves::u1))]
 fn class(schema: &Schema, reader: &mut Reader) -> Result<TypeNo, Halt>
     ensures { Gives result reader.new ((form.class schema.now.classes).reads reader.old) }
 {
@@ -79,7 +78,7 @@ fn class(schema: &Schema, reader: &mut Reader) -> Result<TypeNo, Halt>
 }
 
 // An id, or the number that no component has.
-#[tactic(auto, unfolding(crate::specs::RowForm::id, crate::specs::Form::u2))]
+#[tactic(auto, unfolding(crate::specs::RowForm::id, sed_wire::specs::Leaves::u2))]
 fn id_or_none(reader: &mut Reader) -> Result<Option<Id>, Halt>
     ensures { Gives result reader.new (form.id.reads reader.old) }
 {
@@ -140,15 +139,9 @@ fn slots_of(schema: &Schema, kind: TypeNo) -> &[SlotInfo]
 }
 
 // What ends a component.
-#[tactic(auto, unfolding(crate::specs::RowForm::row_end, crate::specs::Form::u1))]
+#[tactic(auto, unfolding(crate::specs::RowForm::row_end))]
 fn row_end(reader: &mut Reader) -> Result<(), Halt>
     ensures { Gives result reader.new (form.row_end.reads reader.old) }
 {
-    let start = reader.rest();
-    let number = u1(reader)?;
-    if number != 0x3b {
-        *reader = Reader::new(start);
-        return Err(Halt::Fault);
-    }
-    Ok(())
+    mark_1(reader, 0x3b)
 }

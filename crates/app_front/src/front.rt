@@ -5,16 +5,16 @@ ghost use Rattle.sed_engine.specs.Code.{Meaning};
 ghost use Rattle.app_file.specs.Reading.{HasNoFront, HasWrongKits, IsFront};
 ghost use Rattle.app_front.specs.Form as form;
 ghost use Rattle.app_front.specs.Front.{IsFrontOutcome, IsNoFrontAnswer, IsVersionAnswer, IsWrongKitsAnswer};
-ghost use Rattle.app_front.specs.Gives.{Gives, IsAnswerTo};
+ghost use Rattle.app_front.specs.FrontAnswer.{IsAnswerTo};
+ghost use Rattle.sed_wire.specs.Gives.{Gives};
 
 use crate::differing::{first_place, kit_at};
 use crate::fields::{head, version};
-use crate::halt::Halt;
 use crate::kits::counted_kits;
 use app_file::AppRefusal;
 use sed_typed::Schema;
 use sed_value::{Items, KitRef};
-use sed_wire::Reader;
+use sed_wire::{Halt, Reader};
 use std::alloc::Global;
 
 // A version, and the kits that a file was written for.

@@ -1,18 +1,18 @@
 //! Reading kits.
 ghost use Rattle.std.specs.Prelude.{◌≡◌};
-ghost use Rattle.scode_image.specs.Row.{times, counted};
+ghost use Rattle.sed_wire.specs.Row.{times, counted};
 ghost use Rattle.app_front.specs.Form as form;
-ghost use Rattle.app_front.specs.Gives.{Gives};
+ghost use Rattle.sed_wire.specs.Leaves as leaf;
+ghost use Rattle.sed_wire.specs.Gives.{Gives};
 
-use crate::fields::{i4, u1};
-use crate::halt::Halt;
 use sed_value::{Items, KitName, KitRef};
-use sed_wire::Reader;
+use sed_wire::fields::{i4, u1};
+use sed_wire::{Halt, Reader};
 use std::alloc::Global;
 
 // Their number in one byte, and then they.
 pub(crate) fn counted_kits(alloc: Global, reader: &mut Reader) -> Result<Items<KitRef>, Halt>
-    ensures { Gives result reader.new ((counted form.u1 form.kit).reads reader.old) }
+    ensures { Gives result reader.new ((counted leaf.u1 form.kit).reads reader.old) }
 {
     let count = u1(reader)?;
     so_many(alloc, reader, usize::from(count))

@@ -11,7 +11,6 @@ mod components;
 mod differing;
 mod fields;
 mod front;
-mod halt;
 mod kits;
 mod links;
 mod reading;

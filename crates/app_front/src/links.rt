@@ -1,13 +1,12 @@
 //! Reading links, and the end of a file.
 ghost use Rattle.std.specs.Prelude.{◌≡◌};
-ghost use Rattle.app_front.specs.Gives.{Gives};
+ghost use Rattle.sed_wire.specs.Gives.{Gives};
 ghost use Rattle.app_front.specs.LinkForm as form;
 
-use crate::fields::{u1, u2};
-use crate::halt::Halt;
 use link_table::LinkRec;
 use sed_value::{Id, Items};
-use sed_wire::Reader;
+use sed_wire::fields::{mark_1, u1, u2};
+use sed_wire::{Halt, Reader};
 use std::alloc::Global;
 
 // The links up to the mark behind them, where they are fewer than so many.
@@ -27,7 +26,7 @@ pub(crate) fn links(alloc: Global, reader: &mut Reader, most: usize) -> Result<I
 }
 
 // A link from this id, behind the id.
-#[tactic(auto, unfolding(crate::specs::LinkForm::link_behind, crate::specs::Form::u1, crate::specs::Form::u2))]
+#[tactic(auto, unfolding(crate::specs::LinkForm::link_behind, sed_wire::specs::Leaves::u1, sed_wire::specs::Leaves::u2))]
 fn link_behind(reader: &mut Reader, from: u16) -> Result<LinkRec, Halt>
     ensures { Gives result reader.new ((form.link_behind from).reads reader.old) }
 {
@@ -43,15 +42,9 @@ fn link_behind(reader: &mut Reader, from: u16) -> Result<LinkRec, Halt>
 }
 
 // What ends each file.
-#[tactic(auto, unfolding(crate::specs::LinkForm::end, crate::specs::Form::u1))]
+#[tactic(auto, unfolding(crate::specs::LinkForm::end))]
 pub(crate) fn end(reader: &mut Reader) -> Result<(), Halt>
     ensures { Gives result reader.new (form.end.reads reader.old) }
 {
-    let start = reader.rest();
-    let number = u1(reader)?;
-    if number != 0x2e {
-        *reader = Reader::new(start);
-        return Err(Halt::Fault);
-    }
-    Ok(())
+    mark_1(reader, 0x2e)
 }

@@ -7,20 +7,19 @@ ghost use Rattle.app_file.specs.Reading.{HasNoFront, HasWrongKits};
 ghost use Rattle.app_file.specs.declared.refusal.AppRefusal.TheVariants.{NotAnApp};
 ghost use Rattle.app_front.specs.BodyForm as form;
 ghost use Rattle.app_front.specs.BodyForm.{IsBodyAnswer};
-ghost use Rattle.app_front.specs.Gives.{Gives};
+ghost use Rattle.sed_wire.specs.Gives.{Gives};
 ghost use Rattle.app_front.specs.Rows.{AreRows, HasNoRows, IsRowsOutcome};
 ghost use Rattle.app_front.specs.Rows.{IsNoRowsAnswer, IsOtherKitsAnswer, IsRowsAnswer};
 ghost use Rattle.app_front.specs.declared.rows.FileRows.{FileRows as AnyRows};
 
 use crate::components::components;
-use crate::fields::u2;
 use crate::front::read_front;
-use crate::halt::Halt;
 use crate::links::{end, links};
 use crate::rows::FileRows;
 use app_file::AppRefusal;
 use sed_typed::Schema;
-use sed_wire::Reader;
+use sed_wire::fields::u2;
+use sed_wire::{Halt, Reader};
 use std::alloc::Global;
 
 /// The rows and links that bytes are to a schema: behind a front with its kits, and with nothing behind them.
@@ -75,7 +74,7 @@ fn no_app(bytes: &[u8], reader: &Reader) -> AppRefusal
 }
 
 // What stands behind a front of this version.
-#[tactic(auto, unfolding(crate::specs::BodyForm::body, crate::specs::Form::u2))]
+#[tactic(auto, unfolding(crate::specs::BodyForm::body, sed_wire::specs::Leaves::u2))]
 fn body(
     alloc: Global,
     schema: &Schema,

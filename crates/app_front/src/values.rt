@@ -3,13 +3,12 @@ ghost use Rattle.std.specs.Prelude.{◌≡◌, ◌<◌, IfSome, IsTrue, length, 
 ghost use Rattle.std.specs.Option.{option_and_then};
 ghost use Rattle.sed_wire.specs.Spelling.{can_be_held};
 ghost use Rattle.prop_values.specs.Read.{CanBeHeld, config_type_of, types_in};
-ghost use Rattle.app_front.specs.Gives.{Gives};
+ghost use Rattle.sed_wire.specs.Gives.{Gives};
 ghost use Rattle.app_front.specs.ValueForm as form;
 
-use crate::halt::Halt;
 use sed_typed::{SlotForm, SlotInfo};
 use sed_value::{Items, SlotType, Value};
-use sed_wire::Reader;
+use sed_wire::{Halt, Reader};
 use std::alloc::Global;
 
 // The values of the config properties among these slots, in their order.

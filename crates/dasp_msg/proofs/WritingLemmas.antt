@@ -1,11 +1,11 @@
 -- What a writer has written, piece by piece.
-use Rattle.std.proofs.Common.{◌≡◌, ℕ, ◌+◌, ◌*◌, ◌-◌, ◌%◌, ◌<◌, ◌≤◌, Option, Some, None, IsTrue, List, [], ◌∷◌, ◌++◌, length, drop, refl, sym, subst, ◌∙◌, ap, arith, append_assoc}
-use Rattle.std.proofs.lemmas.List.{append-nil, length-drop}
+use Rattle.std.proofs.Common.{◌≡◌, ℕ, ◌+◌, ◌*◌, ◌%◌, ◌<◌, ◌≤◌, Option, Some, None, IsTrue, List, [], ◌∷◌, ◌++◌, length, drop, refl, sym, subst, ◌∙◌, ap, arith, append_assoc}
+use Rattle.std.proofs.lemmas.List.{append-nil}
 use Rattle.std.specs.Option.{ForSome}
 use Rattle.sed_wire.specs.declared.writer.Writer.{Writer}
 use Rattle.sed_wire.specs.Number.{SpellsNumber}
 use Rattle.sed_wire.specs.Text.{is_text}
-use Rattle.sed_wire.specs.Writing.{Appends, Writes, room, untouched, written}
+use Rattle.sed_wire.specs.Writing.{Appends, Writes, untouched, written}
 use Rattle.sed_wire.proofs.ReadingLemmas.{one_byte}
 use Rattle.sed_wire.proofs.WritingLemmas.{appends-none, appends-then}
 use Rattle.dasp_msg.specs.declared.header.Header.{Header}
@@ -18,10 +18,6 @@ use Rattle.dasp_msg.specs.Message.{SpellsDatagram}
 use Rattle.dasp_msg.specs.Sending.{HasSent, MaySend, fields_size, number_field, run_field, sent_fields, text_field}
 use Rattle.dasp_msg.specs.Shown.{Message}
 use Rattle.dasp_msg.specs.Writing.{CanBeField, CanBeFields, Puts}
-
--- each piece takes its room
-pub room-after : (a b : Writer) (bytes : List ℕ) → Appends a b bytes → room b ≡ room a - length bytes
-room-after a b bytes done = ap length done.untouched ∙ length-drop (length bytes) (untouched a)
 
 -- two things, one behind the other
 pub writes-then : {A B C : Type 0} (S : A → List ℕ → Type 0) (T : B → List ℕ → Type 0) (U : C → List ℕ → Type 0)

@@ -1,8 +1,6 @@
 //! Writing a message.
-ghost use Rattle.std.specs.Prelude.{◌≡◌, ◌<◌, ◌≤◌, ◌+◌, length, IsTrue};
-ghost use Rattle.sed_wire.specs.Number.{SpellsNumber};
-ghost use Rattle.sed_wire.specs.Text.{SpellsText, is_text};
-ghost use Rattle.sed_wire.specs.Writing.{Appends, Writes, room};
+ghost use Rattle.std.specs.Prelude.{◌≡◌, ◌<◌, ◌≤◌, ◌+◌, length};
+ghost use Rattle.sed_wire.specs.Writing.{Writes, room};
 ghost use Rattle.dasp_msg.specs.Field.{SpellsContent, SpellsField, SpellsFields, SpellsRun};
 ghost use Rattle.dasp_msg.specs.Header.{SpellsHeader};
 ghost use Rattle.dasp_msg.specs.Sending.{IsSentAs, MaySend, content_size, fields_size, sent_size};
@@ -13,7 +11,7 @@ use crate::field::{Field, Value};
 use crate::header::Header;
 use crate::message::Msg;
 use crate::sent::Sent;
-use sed_wire::{Full, Writer};
+use sed_wire::Writer;
 
 /// Writes the text of a message that may be sent to the front of `into`, and says how many bytes it has. What stood
 /// behind it stays.
@@ -43,7 +41,7 @@ fn put_msg(writer: &mut Writer, msg: &Msg)
         },
     );
     put_fields(writer, &sent);
-    put_bytes(writer, msg.payload);
+    writer.put_bytes(msg.payload);
 }
 
 fn put_header(writer: &mut Writer, header: &Header)
@@ -51,9 +49,9 @@ fn put_header(writer: &mut Writer, header: &Header)
     requires fits { 5 ≤ room writer.old }
     ensures { Writes SpellsHeader header.now writer.old writer.new }
 {
-    put_u2(writer, header.to);
-    put_u2(writer, header.sequence);
-    put_u1(writer, 16 * header.kind.number() + header.count);
+    writer.put_u2(header.to);
+    writer.put_u2(header.sequence);
+    writer.put_u1(16 * header.kind.number() + header.count);
 }
 
 fn put_fields(writer: &mut Writer, sent: &Sent)
@@ -82,7 +80,7 @@ fn put_field(writer: &mut Writer, field: &Field)
     requires fits { 1 + content_size (content_of field.now.value) ≤ room writer.old }
     ensures { Writes SpellsField (part_of field.now) writer.old writer.new }
 {
-    put_u1(writer, field.byte);
+    writer.put_u1(field.byte);
     put_value(writer, &field.value);
 }
 
@@ -93,8 +91,8 @@ fn put_value(writer: &mut Writer, value: &Value)
 {
     match value {
         Value::Nil => {}
-        Value::Number(number) => put_u2(writer, *number),
-        Value::Text(text) => put_str(writer, text),
+        Value::Number(number) => writer.put_u2(*number),
+        Value::Text(text) => writer.put_str(text),
         Value::Run(bytes) => put_run(writer, bytes),
     }
 }
@@ -104,47 +102,6 @@ fn put_run(writer: &mut Writer, bytes: &[u8])
     requires fits { length bytes.now + 1 ≤ room writer.old }
     ensures { Writes SpellsRun bytes.now writer.old writer.new }
 {
-    put_u1(writer, bytes.len() as u8);
-    put_bytes(writer, bytes);
-}
-
-fn put_u1(writer: &mut Writer, number: u8)
-    requires { 1 ≤ room writer.old }
-    ensures { Writes (SpellsNumber 1) number writer.old writer.new }
-{
-    match writer.u1(number) {
-        Ok(()) => {}
-        Err(Full) => unreachable!(),
-    }
-}
-
-fn put_u2(writer: &mut Writer, number: u16)
-    requires { 2 ≤ room writer.old }
-    ensures { Writes (SpellsNumber 2) number writer.old writer.new }
-{
-    match writer.u2(number) {
-        Ok(()) => {}
-        Err(Full) => unreachable!(),
-    }
-}
-
-fn put_str(writer: &mut Writer, text: &[u8])
-    requires text { IsTrue (is_text text.now) }
-    requires fits { length text.now + 1 ≤ room writer.old }
-    ensures { Writes SpellsText text.now writer.old writer.new }
-{
-    match writer.str(text) {
-        Ok(()) => {}
-        Err(Full) => unreachable!(),
-    }
-}
-
-fn put_bytes(writer: &mut Writer, bytes: &[u8])
-    requires { length bytes.now ≤ room writer.old }
-    ensures { Appends writer.old writer.new bytes.now }
-{
-    match writer.bytes(bytes) {
-        Ok(()) => {}
-        Err(Full) => unreachable!(),
-    }
+    writer.put_u1(bytes.len() as u8);
+    writer.put_bytes(bytes);
 }

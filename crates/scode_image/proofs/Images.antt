@@ -1,16 +1,16 @@
 -- What the bytes of an image are read as.
-use Rattle.std.proofs.Common.{◌≡◌, ◌≢◌, ◌⊎◌, inl, inr, ℕ, ◌+◌, ◌-◌, ◌≤◌, List, [], ◌∷◌, ◌++◌, length, Result, Ok, Err, refl, sym, subst, ◌∙◌, ap, arith}
+use Rattle.std.proofs.Common.{◌≡◌, ◌≢◌, ◌⊎◌, inl, inr, ℕ, ◌+◌, ◌-◌, ◌≤◌, List, [], ◌∷◌, length, Result, Ok, Err, refl, sym, subst, ◌∙◌, ap, arith}
 use Rattle.std.proofs.lemmas.List.{length-append, append-nil}
 use Rattle.scode_image.specs.declared.image.Image.{Image}
 use Rattle.scode_image.specs.declared.reading.ImageRefusal.{ImageRefusal}
 use Rattle.scode_image.specs.declared.reading.ImageRefusal.TheVariants.{NotAnImage, Memory}
-use Rattle.scode_image.specs.Reading.{Reading, Found, Stuck}
-use Rattle.scode_image.specs.Spelling.{Begins, IsLeft}
-use Rattle.scode_image.specs.Form.{Form, found_eq, stuck_eq, not_found, not_stuck}
+use Rattle.sed_wire.specs.FormReading.{Reading, Found, Stuck}
+use Rattle.sed_wire.specs.FormSpelling.{IsLeft}
+use Rattle.sed_wire.specs.Form.{found_eq, stuck_eq, not_found, not_stuck}
 use Rattle.scode_image.specs.Grammar.{image, IsImage, IsFault, FaultsAt}
-use Rattle.scode_image.specs.Gives.{Gives}
-use Rattle.scode_image.specs.declared.halt.Halt.{Halt}
-use Rattle.scode_image.specs.declared.halt.Halt.TheVariants.{Fault}
+use Rattle.sed_wire.specs.Gives.{Gives}
+use Rattle.sed_wire.specs.declared.halt.Halt.{Halt}
+use Rattle.sed_wire.specs.declared.halt.Halt.TheVariants.{Fault}
 use Rattle.scode_image.specs.Outcome.{Outcome, Reads, Refuses}
 
 -- the bytes are read as the image, with nothing left

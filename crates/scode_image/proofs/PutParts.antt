@@ -1,6 +1,6 @@
 -- The parts of an image, put field by field.
 use Rattle.std.proofs.lemmas.List.{append-nil}
-use Rattle.std.proofs.Common.{◌≡◌, arith, ℕ, ◌+◌, true, false, List, [], ◌∷◌, ◌++◌, length, refl, sym, ◌∙◌, ap, subst}
+use Rattle.std.proofs.Common.{◌≡◌, arith, ℕ, true, false, List, ◌++◌, length, sym, ◌∙◌, ap, subst}
 use Rattle.std.specs.Prelude.{◌==◌, cond, Bool}
 use Rattle.scode_image.specs.declared.image.Image.{Image}
 use Rattle.scode_image.specs.declared.image.ImageKit.{ImageKit}
@@ -10,11 +10,11 @@ use Rattle.scode_image.specs.declared.image.ImageSlot.{ImageSlot}
 use Rattle.scode_image.specs.declared.image.ImageMethod.{ImageMethod}
 use Rattle.scode_image.specs.declared.image.ImageEntry.{ImageEntry}
 use Rattle.scode_image.specs.declared.image.ImageKind.{ImageKind}
-use Rattle.scode_image.specs.Form.{Form, then, ◌&◌, only, given, sized}
-use Rattle.scode_image.specs.Leaves.{signed, run, counted_run, text}
-use Rattle.scode_image.specs.Row.{row, length-row, times, counted}
-use Rattle.scode_image.specs.Grammar.{u1, u2, u1_to, u2_from, kit, is_field_form, is_slot_form, field_form, slot_form, field, slot, data_size, class_body, class_size, sized_body, class, kind_class, kind, entry, entries, length-entries, counted_entries, behind_locals, method, Statics, block_size, block, size-block, statics, head, version, end, literal, image}
-use Rattle.scode_image.specs.Gives.{Puts}
+use Rattle.sed_wire.specs.Form.{Form, then, ◌&◌, given, sized}
+use Rattle.sed_wire.specs.Leaves.{u1, u2, signed, run, counted_run, text}
+use Rattle.sed_wire.specs.Row.{times, counted}
+use Rattle.scode_image.specs.Grammar.{u1_to, u2_from, kit, field_form, slot_form, field, slot, data_size, class_body, class_size, sized_body, class, kind_class, kind, entry, entries, length-entries, counted_entries, behind_locals, method, block_size, block, size-block, statics, head, version, end, literal, image}
+use Rattle.scode_image.specs.Steps.{Puts}
 use Rattle.scode_image.proofs.Putting.{then_puts, puts_same}
 
 -- a size in front of what has it

@@ -4,16 +4,14 @@ use Rattle.std.specs.Int.{to_be_bytes, cast_unsigned, w16, w32}
 use Rattle.std.proofs.lemmas.Int.{to_z-of_z}
 use Rattle.std.proofs.lemmas.List.{append_assoc, append-nil}
 use Rattle.sed_wire.specs.Number.{SpellsNumber, SpellsSigned}
-use Rattle.sed_wire.specs.Text.{SpellsText}
 use Rattle.sed_wire.proofs.FrontLemmas.{one_number, one_signed, number_of-below}
 use Rattle.sed_wire.proofs.NumberLemmas.{written_spells, written_spells_signed}
 use Rattle.sed_wire.proofs.ReadingLemmas.{one_byte}
-use Rattle.scode_image.specs.Form.{Form, then, only, sized}
-use Rattle.scode_image.specs.Leaves.{number, signed, run, text}
-use Rattle.scode_image.specs.Spelling.{SpellsRun}
-use Rattle.scode_image.specs.Grammar.{u1, u2, head, version, end}
-use Rattle.scode_image.specs.Row.{row}
-use Rattle.scode_image.specs.Gives.{Puts}
+use Rattle.sed_wire.specs.Form.{Form, then, only}
+use Rattle.sed_wire.specs.Leaves.{u1, u2, signed, run, text}
+use Rattle.scode_image.specs.Grammar.{head, version, end}
+use Rattle.sed_wire.specs.Row.{row}
+use Rattle.scode_image.specs.Steps.{Puts}
 
 -- ---- fields
 

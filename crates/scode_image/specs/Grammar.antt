@@ -9,16 +9,10 @@ use Rattle.scode_image.specs.declared.image.ImageSlot.{ImageSlot}
 use Rattle.scode_image.specs.declared.image.ImageMethod.{ImageMethod}
 use Rattle.scode_image.specs.declared.image.ImageEntry.{ImageEntry}
 use Rattle.scode_image.specs.declared.image.ImageKind.{ImageKind}
-use Rattle.scode_image.specs.Spelling.{Begins}
-use Rattle.scode_image.specs.Form.{Form, seen_as, only, given, then, sized, ◌&◌}
-use Rattle.scode_image.specs.Leaves.{number, signed, mark, run, counted_run, text}
-use Rattle.scode_image.specs.Row.{row, length-row, times, counted}
-
-unfoldable pub u1 : Form ℕ
-u1 = number 1
-
-unfoldable pub u2 : Form ℕ
-u2 = number 2
+use Rattle.sed_wire.specs.FormSpelling.{Begins}
+use Rattle.sed_wire.specs.Form.{Form, seen_as, only, given, then, sized, ◌&◌}
+use Rattle.sed_wire.specs.Leaves.{u1, u2, signed, mark, run, counted_run, text}
+use Rattle.sed_wire.specs.Row.{row, length-row, times, counted}
 
 -- a number that is at most so much, and one that is at least
 unfoldable pub u1_to : ℕ → Form ℕ

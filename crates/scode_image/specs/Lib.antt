@@ -1,8 +1,3 @@
-pub mod Spelling
-pub mod Reading
-pub mod Form
-pub mod Row
-pub mod Leaves
 pub mod Grammar
-pub mod Gives
+pub mod Steps
 pub mod Outcome

@@ -1,15 +1,17 @@
 //! Reading and writing kits, classes and the static block.
 ghost use Rattle.std.specs.Prelude.{◌≡◌, OnOk};
 ghost use Rattle.scode_image.specs.Grammar as grammar;
-ghost use Rattle.scode_image.specs.Gives.{Gives, Puts};
+ghost use Rattle.sed_wire.specs.Leaves as leaf;
+ghost use Rattle.scode_image.specs.Steps.{Puts};
+ghost use Rattle.sed_wire.specs.Gives.{Gives};
 
-use crate::fields::{field_form, i4, run, slot_form, text, u1, u1_to, u2};
-use crate::halt::Halt;
+use crate::fields::{field_form, run, slot_form, text, u1_to};
 use crate::image::{ImageClass, ImageField, ImageKit, ImageSlot};
 use crate::items::{Item, few, many, put_few, put_many};
 use crate::put::{put_count, put_i4, put_run, put_text, put_u1, put_u2};
 use sed_value::{Items, Memory};
-use sed_wire::Reader;
+use sed_wire::fields::{i4, u1, u2};
+use sed_wire::{Halt, Reader};
 use std::alloc::Global;
 
 impl Item for ImageKit {
@@ -75,7 +77,7 @@ impl Item for ImageSlot {
 }
 
 impl Item for u16 {
-    ghost form = { grammar.u2 };
+    ghost form = { leaf.u2 };
 
     fn read(_: Global, reader: &mut Reader) -> Result<u16, Halt> {
         u2(reader)

@@ -1,54 +1,14 @@
 //! Reading the fields that an image is made of.
 ghost use Rattle.std.specs.Prelude.{◌≡◌, ◌<◌};
 ghost use Rattle.scode_image.specs.Grammar as grammar;
-ghost use Rattle.scode_image.specs.Leaves as leaf;
-ghost use Rattle.scode_image.specs.Gives.{Gives, Makes};
+ghost use Rattle.sed_wire.specs.Leaves as leaf;
+ghost use Rattle.scode_image.specs.Steps.{Makes};
+ghost use Rattle.sed_wire.specs.Gives.{Gives};
 
-use crate::halt::Halt;
 use sed_value::Items;
-use sed_wire::Reader;
+use sed_wire::fields::{mark_1, mark_4, u1, u2};
+use sed_wire::{Halt, Reader};
 use std::alloc::Global;
-
-#[tactic(auto, unfolding(crate::specs::Grammar::u1), using(crate::proofs::LeafLemmas::number_read, crate::proofs::LeafLemmas::number_short))]
-pub(crate) fn u1(reader: &mut Reader) -> Result<u8, Halt>
-    ensures { Gives result reader.new (grammar.u1.reads reader.old) }
-{
-    match reader.u1() {
-        Ok(number) => Ok(number),
-        Err(_) => Err(Halt::Fault),
-    }
-}
-
-#[tactic(auto, unfolding(crate::specs::Grammar::u2), using(crate::proofs::LeafLemmas::number_read, crate::proofs::LeafLemmas::number_short))]
-pub(crate) fn u2(reader: &mut Reader) -> Result<u16, Halt>
-    ensures { Gives result reader.new (grammar.u2.reads reader.old) }
-{
-    match reader.u2() {
-        Ok(number) => Ok(number),
-        Err(_) => Err(Halt::Fault),
-    }
-}
-
-#[tactic(auto, using(crate::proofs::LeafLemmas::number_read, crate::proofs::LeafLemmas::number_short))]
-fn u4(reader: &mut Reader) -> Result<u32, Halt>
-    ensures { Gives result reader.new ((leaf.number 4).reads reader.old) }
-{
-    match reader.u4() {
-        Ok(number) => Ok(number),
-        Err(_) => Err(Halt::Fault),
-    }
-}
-
-// A signed number in four bytes.
-#[tactic(auto, using(crate::proofs::LeafLemmas::signed_read, crate::proofs::LeafLemmas::signed_short))]
-pub(crate) fn i4(reader: &mut Reader) -> Result<i32, Halt>
-    ensures { Gives result reader.new (leaf.signed.reads reader.old) }
-{
-    match reader.i4() {
-        Ok(number) => Ok(number),
-        Err(_) => Err(Halt::Fault),
-    }
-}
 
 // A number that is at most so much.
 #[tactic(auto, unfolding(crate::specs::Grammar::u1_to))]
@@ -121,34 +81,14 @@ fn is_slot_form(form: u8) -> bool
 pub(crate) fn head(reader: &mut Reader) -> Result<(), Halt>
     ensures { Gives result reader.new (grammar.head.reads reader.old) }
 {
-    let start = reader.rest();
-    let number = u4(reader)?;
-    if number != 0x5343_4430 {
-        *reader = Reader::new(start);
-        return Err(Halt::Fault);
-    }
-    Ok(())
-}
-
-// The one byte that may stand there.
-#[tactic(auto, unfolding(crate::specs::Grammar::u1))]
-fn byte(reader: &mut Reader, wanted: u8) -> Result<(), Halt>
-    ensures { Gives result reader.new ((leaf.mark 1 wanted).reads reader.old) }
-{
-    let start = reader.rest();
-    let number = u1(reader)?;
-    if number != wanted {
-        *reader = Reader::new(start);
-        return Err(Halt::Fault);
-    }
-    Ok(())
+    mark_4(reader, 0x5343_4430)
 }
 
 #[tactic(auto, unfolding(crate::specs::Grammar::version))]
 pub(crate) fn version(reader: &mut Reader) -> Result<(), Halt>
     ensures { Gives result reader.new (grammar.version.reads reader.old) }
 {
-    byte(reader, 1)
+    mark_1(reader, 1)
 }
 
 // The mark behind an image.
@@ -156,11 +96,11 @@ pub(crate) fn version(reader: &mut Reader) -> Result<(), Halt>
 pub(crate) fn end(reader: &mut Reader) -> Result<(), Halt>
     ensures { Gives result reader.new (grammar.end.reads reader.old) }
 {
-    byte(reader, 0x2e)
+    mark_1(reader, 0x2e)
 }
 
 // Characters, and the 0 that ends them.
-#[tactic(auto, using(crate::proofs::LeafLemmas::text_read))]
+#[tactic(auto, using(sed_wire::proofs::LeafLemmas::text_read))]
 pub(crate) fn text(alloc: Global, reader: &mut Reader) -> Result<Items<u8>, Halt>
     ensures { Gives result reader.new (leaf.text.reads reader.old) }
 {
@@ -171,7 +111,7 @@ pub(crate) fn text(alloc: Global, reader: &mut Reader) -> Result<Items<u8>, Halt
 }
 
 // So many bytes.
-#[tactic(auto, using(crate::proofs::LeafLemmas::run_read, crate::proofs::LeafLemmas::run_short))]
+#[tactic(auto, using(sed_wire::proofs::LeafLemmas::run_read, sed_wire::proofs::LeafLemmas::run_short))]
 pub(crate) fn run(alloc: Global, reader: &mut Reader, count: usize) -> Result<Items<u8>, Halt>
     ensures { Gives result reader.new ((leaf.run count).reads reader.old) }
 {

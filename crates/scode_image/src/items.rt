@@ -1,15 +1,15 @@
 //! Reading and writing what stands several times.
 ghost use Rattle.std.specs.Prelude.{◌≡◌, ℕ, OnOk};
-ghost use Rattle.scode_image.specs.Form.{Form};
-ghost use Rattle.scode_image.specs.Grammar as grammar;
-ghost use Rattle.scode_image.specs.Row.{times, counted};
-ghost use Rattle.scode_image.specs.Gives.{Gives, Puts};
+ghost use Rattle.sed_wire.specs.Form.{Form};
+ghost use Rattle.sed_wire.specs.Leaves as leaf;
+ghost use Rattle.sed_wire.specs.Row.{times, counted};
+ghost use Rattle.scode_image.specs.Steps.{Puts};
+ghost use Rattle.sed_wire.specs.Gives.{Gives};
 
-use crate::fields::{u1, u2};
-use crate::halt::Halt;
 use crate::put::{put_count, put_small_count};
 use sed_value::{Items, Memory};
-use sed_wire::Reader;
+use sed_wire::fields::{u1, u2};
+use sed_wire::{Halt, Reader};
 use std::alloc::Global;
 
 // What stands in a row.
@@ -41,7 +41,7 @@ pub(crate) fn times<T: Item>(
 
 // Their number in one byte, and then they.
 pub(crate) fn few<T: Item>(alloc: Global, reader: &mut Reader) -> Result<Items<T>, Halt>
-    ensures { Gives result reader.new ((counted grammar.u1 T.form).reads reader.old) }
+    ensures { Gives result reader.new ((counted leaf.u1 T.form).reads reader.old) }
 {
     let count = u1(reader)?;
     times(alloc, reader, usize::from(count))
@@ -49,7 +49,7 @@ pub(crate) fn few<T: Item>(alloc: Global, reader: &mut Reader) -> Result<Items<T
 
 // Their number in two bytes, and then they.
 pub(crate) fn many<T: Item>(alloc: Global, reader: &mut Reader) -> Result<Items<T>, Halt>
-    ensures { Gives result reader.new ((counted grammar.u2 T.form).reads reader.old) }
+    ensures { Gives result reader.new ((counted leaf.u2 T.form).reads reader.old) }
 {
     let count = u2(reader)?;
     times(alloc, reader, usize::from(count))
@@ -67,7 +67,7 @@ pub(crate) fn put_all<T: Item>(into: &mut Vec<u8>, items: &[T]) -> Result<(), Me
 
 // Their number in one byte, and then they.
 pub(crate) fn put_few<T: Item>(into: &mut Vec<u8>, items: &Items<T>) -> Result<(), Memory>
-    ensures { OnOk result (Puts (counted grammar.u1 T.form) items.now into.old.items into.new.items) }
+    ensures { OnOk result (Puts (counted leaf.u1 T.form) items.now into.old.items into.new.items) }
 {
     put_small_count(into, items.len())?;
     put_all(into, items.as_slice())
@@ -75,7 +75,7 @@ pub(crate) fn put_few<T: Item>(into: &mut Vec<u8>, items: &Items<T>) -> Result<(
 
 // Their number in two bytes, and then they.
 pub(crate) fn put_many<T: Item>(into: &mut Vec<u8>, items: &Items<T>) -> Result<(), Memory>
-    ensures { OnOk result (Puts (counted grammar.u2 T.form) items.now into.old.items into.new.items) }
+    ensures { OnOk result (Puts (counted leaf.u2 T.form) items.now into.old.items into.new.items) }
 {
     put_count(into, items.len())?;
     put_all(into, items.as_slice())

@@ -8,7 +8,6 @@
 
 mod classes;
 mod fields;
-mod halt;
 mod image;
 mod items;
 mod laws;

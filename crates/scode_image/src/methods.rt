@@ -1,16 +1,17 @@
 //! Reading and writing methods.
 ghost use Rattle.std.specs.Prelude.{◌≡◌, length, ℕ, OnOk};
 ghost use Rattle.scode_image.specs.Grammar as grammar;
-ghost use Rattle.scode_image.specs.Leaves as leaf;
-ghost use Rattle.scode_image.specs.Gives.{Gives, Puts};
+ghost use Rattle.sed_wire.specs.Leaves as leaf;
+ghost use Rattle.scode_image.specs.Steps.{Puts};
+ghost use Rattle.sed_wire.specs.Gives.{Gives};
 
-use crate::fields::{run, u1_to, u2, u2_from};
-use crate::halt::Halt;
+use crate::fields::{run, u1_to, u2_from};
 use crate::image::{ImageEntry, ImageKind, ImageMethod};
 use crate::items::{Item, few, many, put_all, put_few, put_many, times};
 use crate::put::{put_count, put_run, put_u1, put_u2};
 use sed_value::{Items, Memory};
-use sed_wire::Reader;
+use sed_wire::fields::u2;
+use sed_wire::{Halt, Reader};
 use std::alloc::Global;
 
 impl Item for ImageKind {
@@ -93,7 +94,7 @@ fn counted_entries(
 }
 
 fn code(alloc: Global, reader: &mut Reader) -> Result<Items<u8>, Halt>
-    ensures { Gives result reader.new ((leaf.counted_run grammar.u2).reads reader.old) }
+    ensures { Gives result reader.new ((leaf.counted_run leaf.u2).reads reader.old) }
 {
     let size = u2(reader)?;
     run(alloc, reader, usize::from(size))
@@ -163,7 +164,7 @@ fn put_entries(into: &mut Vec<u8>, entries: &Items<ImageEntry>) -> Result<(), Me
 }
 
 fn put_code(into: &mut Vec<u8>, code: &Items<u8>) -> Result<(), Memory>
-    ensures { OnOk result (Puts (leaf.counted_run grammar.u2) code.now into.old.items into.new.items) }
+    ensures { OnOk result (Puts (leaf.counted_run leaf.u2) code.now into.old.items into.new.items) }
 {
     put_count(into, code.len())?;
     put_run(into, code)

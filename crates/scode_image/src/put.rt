@@ -1,20 +1,20 @@
 //! Writing the fields that an image is made of. What has no spelling isn't asked for, and is not written.
 ghost use Rattle.std.specs.Prelude.{◌≡◌, ℕ, OnOk};
 ghost use Rattle.scode_image.specs.Grammar as grammar;
-ghost use Rattle.scode_image.specs.Leaves as leaf;
-ghost use Rattle.scode_image.specs.Gives.{Puts};
+ghost use Rattle.sed_wire.specs.Leaves as leaf;
+ghost use Rattle.scode_image.specs.Steps.{Puts};
 
 use sed_value::{Items, Memory};
 
 pub(crate) fn put_u1(into: &mut Vec<u8>, number: u8) -> Result<(), Memory>
-    ensures { OnOk result (Puts grammar.u1 number into.old.items into.new.items) }
+    ensures { OnOk result (Puts leaf.u1 number into.old.items into.new.items) }
 {
     into.push(number)?;
     Ok(())
 }
 
 pub(crate) fn put_u2(into: &mut Vec<u8>, number: u16) -> Result<(), Memory>
-    ensures { OnOk result (Puts grammar.u2 number into.old.items into.new.items) }
+    ensures { OnOk result (Puts leaf.u2 number into.old.items into.new.items) }
 {
     into.extend_from_slice(&number.to_be_bytes())?;
     Ok(())
@@ -22,7 +22,7 @@ pub(crate) fn put_u2(into: &mut Vec<u8>, number: u16) -> Result<(), Memory>
 
 // A count in one byte.
 pub(crate) fn put_small_count(into: &mut Vec<u8>, count: usize) -> Result<(), Memory>
-    ensures { OnOk result (Puts grammar.u1 count into.old.items into.new.items) }
+    ensures { OnOk result (Puts leaf.u1 count into.old.items into.new.items) }
 {
     if count > 0xff {
         return Ok(());
@@ -32,7 +32,7 @@ pub(crate) fn put_small_count(into: &mut Vec<u8>, count: usize) -> Result<(), Me
 
 // A count in two bytes.
 pub(crate) fn put_count(into: &mut Vec<u8>, count: usize) -> Result<(), Memory>
-    ensures { OnOk result (Puts grammar.u2 count into.old.items into.new.items) }
+    ensures { OnOk result (Puts leaf.u2 count into.old.items into.new.items) }
 {
     if count > 0xffff {
         return Ok(());

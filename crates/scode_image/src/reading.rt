@@ -4,10 +4,9 @@ ghost use Rattle.scode_image.specs.declared.image.Image.{Image as AnyImage};
 ghost use Rattle.scode_image.specs.Grammar.{IsImage, FaultsAt};
 ghost use Rattle.scode_image.specs.Outcome.{Outcome, Reads, Refuses};
 
-use crate::halt::Halt;
 use crate::image::Image;
 use crate::whole::image;
-use sed_wire::Reader;
+use sed_wire::{Halt, Reader};
 use std::alloc::Global;
 
 /// Why no image is read.

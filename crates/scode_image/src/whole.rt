@@ -1,18 +1,19 @@
 //! Reading and writing texts, and an image as a whole.
 ghost use Rattle.std.specs.Prelude.{◌≡◌, OnOk};
 ghost use Rattle.scode_image.specs.Grammar as grammar;
-ghost use Rattle.scode_image.specs.Leaves as leaf;
-ghost use Rattle.scode_image.specs.Gives.{Gives, Puts};
+ghost use Rattle.sed_wire.specs.Leaves as leaf;
+ghost use Rattle.scode_image.specs.Steps.{Puts};
+ghost use Rattle.sed_wire.specs.Gives.{Gives};
 
 use crate::classes::{put_statics, statics};
-use crate::fields::{end, head, u1, version};
-use crate::halt::Halt;
+use crate::fields::{end, head, version};
 use crate::image::Image;
 use crate::items::{Item, few, many, put_few, put_many};
 use crate::put::{put_end, put_head, put_small_count, put_version};
 use sed_typed::Bytes255;
 use sed_value::Memory;
-use sed_wire::Reader;
+use sed_wire::fields::u1;
+use sed_wire::{Halt, Reader};
 use std::alloc::Global;
 
 impl Item for Bytes255 {
@@ -32,7 +33,7 @@ impl Item for Bytes255 {
 }
 
 // A text of so many bytes.
-#[tactic(auto, using(crate::proofs::LeafLemmas::run_read, crate::proofs::LeafLemmas::run_short))]
+#[tactic(auto, using(sed_wire::proofs::LeafLemmas::run_read, sed_wire::proofs::LeafLemmas::run_short))]
 fn literal(reader: &mut Reader, count: u8) -> Result<Bytes255, Halt>
     ensures { Gives result reader.new ((leaf.run count).reads reader.old) }
 {

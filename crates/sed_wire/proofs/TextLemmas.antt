@@ -8,7 +8,7 @@ use Rattle.std.specs.List.{list_all, list_any, position, prefix_len}
 use Rattle.sed_wire.specs.declared.fault.StrFault.{StrFault}
 use Rattle.sed_wire.specs.declared.fault.StrFault.TheVariants.{NoEnd, NotAscii}
 use Rattle.sed_wire.specs.Faults.{BeginsNoText, HasNoEnd, IsNotAscii}
-use Rattle.sed_wire.specs.Reading.{Reads, HasOneSpelling, IsReadOneWay}
+use Rattle.sed_wire.specs.Reading.{Reads, IsReadOneWay}
 use Rattle.sed_wire.specs.Text.{is_text, SpellsText}
 
 -- of two lists without a 0, each with one behind it, at the front of the same bytes
@@ -52,9 +52,6 @@ text-of_bytes (byte ∷ behind) all none =
     let lower : list_any (nat_lt 127) behind ≡ false = grind (arith, nat_tests) in
     let rest = text-of_bytes behind others lower in
     grind (arith, nat_tests)
-
-pub one_text : HasOneSpelling SpellsText
-one_text text a b of_a of_b = of_a.ended ∙ sym of_b.ended
 
 text_behind : (text bytes after : List ℕ) → bytes ≡ text ++ 0 ∷ [] → bytes ++ after ≡ text ++ 0 ∷ after
 text_behind text bytes after e = ap (λ (b : List ℕ). b ++ after) e ∙ append_assoc text (0 ∷ []) after

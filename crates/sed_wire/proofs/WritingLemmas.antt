@@ -1,12 +1,15 @@
 -- What a writer has written after each call.
-use Rattle.std.proofs.Common.{◌≡◌, ℕ, ◌+◌, ◌≤◌, IsTrue, List, [], ◌∷◌, ◌++◌, length, take, drop, Result, Ok, Err, OnOk, refl, sym, ◌∙◌, ap, arith, append_assoc, length-append}
+use Rattle.std.proofs.Common.{◌≡◌, ℕ, ◌+◌, ◌-◌, ◌^◌, ◌<◌, ◌≤◌, IsTrue, List, [], ◌∷◌, ◌++◌, length, take, drop, Result, Ok, Err, OnOk, refl, sym, subst, ◌∙◌, ap, arith, append_assoc, length-append}
 use Rattle.std.proofs.Math.Seq.{take-append_seam, drop-append_seam}
-use Rattle.std.proofs.lemmas.List.{length-take-le, drop-drop}
+use Rattle.std.proofs.lemmas.List.{length-drop, length-take-le, drop-drop}
 use Rattle.sed_wire.specs.declared.writer.Writer.{Writer}
 use Rattle.sed_wire.specs.Number.{SpellsNumber}
 use Rattle.sed_wire.specs.Spelling.{SpellsContents}
 use Rattle.sed_wire.specs.Text.{SpellsText, is_text}
-use Rattle.sed_wire.specs.Writing.{Appends, Writes, untouched, written}
+use Rattle.sed_wire.specs.Writing.{Appends, Puts, Writes, room, untouched, written}
+use Rattle.std.specs.Int.{bytes_high_first}
+use Rattle.sed_wire.proofs.FrontLemmas.{one_number}
+use Rattle.sed_wire.proofs.NumberLemmas.{written_spells}
 use Rattle.sed_wire.proofs.ReadingLemmas.{one_byte}
 
 -- a slice after bytes are put into it, as its front and its rest
@@ -67,3 +70,25 @@ contents-done (Ok done) contents a b c first second = record {
   appends = appends-then a b c first.spelling contents first.appends second;
 }
 contents-done (Err full) contents a b c first second = second
+
+-- each piece takes its room
+pub room-after : (a b : Writer) (bytes : List ℕ) → Appends a b bytes → room b ≡ room a - length bytes
+room-after a b bytes done = ap length done.untouched ∙ length-drop (length bytes) (untouched a)
+
+-- the one spelling of a number is put
+pub number-put : (width n : ℕ) (a b : Writer) → n < 256 ^ width → Writes (SpellsNumber width) n a b
+    → Appends a b (bytes_high_first width n)
+number-put width n a b below done =
+    let written = written_spells width n below in
+    subst (Appends a b) (one_number width n done.spelling (bytes_high_first width n) done.spelled written) done.appends
+
+-- the writer's slice at the end
+pub front-put : (text : List ℕ) (a b : Writer) (count : ℕ) (old new : List ℕ) → written a ≡ [] → untouched a ≡ old
+    → Appends a b text → count ≡ length (written b) → new ≡ written b ++ untouched b → Puts text count old new
+front-put text a b count old new nothing all done counted front =
+    let is : written b ≡ text = done.written ∙ ap (λ (t : List ℕ). t ++ text) nothing in
+    record {
+      counted = counted ∙ ap length is;
+      front = front ∙ ap (λ (t : List ℕ). t ++ untouched b) is
+          ∙ ap (λ (t : List ℕ). text ++ t) (done.untouched ∙ ap (drop (length text)) all);
+    }

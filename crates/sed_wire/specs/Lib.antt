@@ -1,6 +1,13 @@
 pub mod Faults
+pub mod Form
+pub mod FormReading
+pub mod FormSpelling
+pub mod Gives
+pub mod Leaves
 pub mod Number
+pub mod OneSpelling
 pub mod Reading
+pub mod Row
 pub mod Spelling
 pub mod Text
 pub mod Writing

@@ -30,3 +30,8 @@ pub record Stays (old new : Writer) : Type 0 where
   pub same_slice : new.into.ghost_name ≡ old.into.ghost_name
   pub written : written new ≡ written old
   pub untouched : untouched new ≡ untouched old
+
+-- the front of a slice is now the text, which counts so many bytes; what stood behind it stays
+pub record Puts (text : List ℕ) (count : ℕ) (old new : List ℕ) : Type 0 where
+  pub counted : count ≡ length text
+  pub front : new ≡ text ++ drop (length text) old

@@ -5,10 +5,16 @@
 //! and keeps the bytes behind it; a `Writer` puts spellings into a slice that it is lent. The definitions say which
 //! bytes spell what. The laws say that nothing is spelled in two ways and that no spelling is the front of another, so
 //! what was written is read again whatever follows. Nothing here takes memory.
+//!
+//! A form of bytes says which bytes spell a thing and at which field bytes fault it, with a reading from left to right
+//! that finds just what is spelled; grammars are put together of forms. `fields` reads those that they are made of, and
+//! `Halt` says why such a reading stops.
 #![tactic(auto)]
 
 mod conditions;
 mod fault;
+pub mod fields;
+mod halt;
 mod laws;
 mod number;
 mod reader;
@@ -16,6 +22,7 @@ mod writer;
 
 pub use conditions::{can_be_held, has_spelling, is_text};
 pub use fault::{Full, Short, StrFault, ValueFault};
+pub use halt::Halt;
 pub use laws::{
     appends_add_up, numbers_are_read_one_way, signed_numbers_are_read_one_way,
     texts_are_read_one_way, values_are_read_one_way,

@@ -1,6 +1,6 @@
 //! Writing what spells a value.
 ghost use Rattle.std.specs.Prelude.{◌≡◌, ℕ, ◌+◌, ◌<◌, ◌≤◌, ◌↔◌, ◌++◌, [], List, length, take, drop, IsTrue, IsErr, OnOk, OnErr};
-ghost use Rattle.std.specs.Int.{w32, w64};
+ghost use Rattle.std.specs.Int.{bytes_high_first, w32, w64};
 
 use crate::fault::Full;
 use crate::number::{signed_spelling_in_4, signed_spelling_in_8, spelling_in_2, spelling_in_4};
@@ -145,6 +145,53 @@ impl<'a> Writer<'a> {
             Value::Long(number) => self.i8(*number),
             Value::Buf(contents) => self.contents(contents.as_bytes()),
             Value::Nothing => unreachable!(),
+        }
+    }
+
+    /// Writes bytes as they are, for which there is room.
+    pub fn put_bytes(&mut self, bytes: &[u8])
+        requires { length bytes.now ≤ room self.old }
+        ensures { Appends self.old self.new bytes.now }
+    {
+        match self.bytes(bytes) {
+            Ok(()) => {}
+            Err(Full) => unreachable!(),
+        }
+    }
+
+    /// Writes a number in one byte, for which there is room.
+    pub fn put_u1(&mut self, v: u8)
+        requires { 1 ≤ room self.old }
+        ensures spells { Writes (SpellsNumber 1) v self.old self.new }
+        ensures bytes { Appends self.old self.new (bytes_high_first 1 v) }
+    {
+        match self.u1(v) {
+            Ok(()) => {}
+            Err(Full) => unreachable!(),
+        }
+    }
+
+    /// Writes a number in two bytes, the higher one first, for which there is room.
+    pub fn put_u2(&mut self, v: u16)
+        requires { 2 ≤ room self.old }
+        ensures spells { Writes (SpellsNumber 2) v self.old self.new }
+        ensures bytes { Appends self.old self.new (bytes_high_first 2 v) }
+    {
+        match self.u2(v) {
+            Ok(()) => {}
+            Err(Full) => unreachable!(),
+        }
+    }
+
+    /// Writes a text of characters 0x01 to 0x7f, and the 0 that ends it, for which there is room.
+    pub fn put_str(&mut self, bytes: &[u8])
+        requires text { IsTrue (is_text bytes.now) }
+        requires fits { length bytes.now + 1 ≤ room self.old }
+        ensures { Writes SpellsText bytes.now self.old self.new }
+    {
+        match self.str(bytes) {
+            Ok(()) => {}
+            Err(Full) => unreachable!(),
         }
     }
 

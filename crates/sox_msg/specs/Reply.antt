@@ -1,7 +1,8 @@
 -- The text of a reply and of an event.
-use Rattle.std.specs.Prelude.{◌≡◌, ℕ, ◌≤◌, Bool, ◌==◌, IsTrue, List, [], ◌∷◌, ◌++◌, length, codes, drop, ⊤}
+use Rattle.std.specs.Prelude.{◌≡◌, ℕ, ◌≤◌, Bool, ◌==◌, IsTrue, List, [], ◌∷◌, ◌++◌, length, codes, ⊤}
 use Rattle.std.specs.List.{list_any}
 use Rattle.sed_value.specs.Refusal.{text_of_refusal}
+pub use Rattle.sed_wire.specs.Writing.{Puts}
 use Rattle.sox_msg.specs.declared.event.Event.{Event}
 use Rattle.sox_msg.specs.declared.reply.Reply.{Reply}
 use Rattle.sox_msg.specs.declared.reply.ReplyBody.{ReplyBody}
@@ -47,11 +48,6 @@ event_text event = 101 ∷ 255 ∷ (u2 event.id.0 ++ event.part ∷ event.bytes.
 -- a letter of a part that can be subscribed
 abbrev pub is_told : ℕ → Bool
 is_told letter = list_any (λ known. known == letter) (codes "tcrl")
-
--- the front of a slice is now the text, which counts so many bytes; what stood behind it stays
-pub record Puts (text : List ℕ) (count : ℕ) (old new : List ℕ) : Type 0 where
-  pub counted : count ≡ length text
-  pub front : new ≡ text ++ drop (length text) old
 
 -- an answer whose part, value or kits keep the platform's limits
 abbrev pub FitsLimits : ReplyBody → Type 0

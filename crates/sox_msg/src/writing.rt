@@ -1,15 +1,14 @@
 //! Writing a reply and an event.
 ghost use Rattle.std.specs.Prelude.{◌≡◌, ◌≤◌, ◌+◌, ◌∷◌, [], ◌++◌, length, IsTrue};
-ghost use Rattle.sed_wire.specs.Number.{SpellsNumber};
-ghost use Rattle.sed_wire.specs.Writing.{Appends, Writes, room};
+ghost use Rattle.sed_wire.specs.Writing.{Appends, Puts, room};
 ghost use Rattle.sox_msg.specs.Command.{str, u2};
 ghost use Rattle.sox_msg.specs.Reply as replies;
-ghost use Rattle.sox_msg.specs.Reply.{MayReply, Puts, answer_of, event_text, is_told, reply_text};
+ghost use Rattle.sox_msg.specs.Reply.{MayReply, answer_of, event_text, is_told, reply_text};
 
 use crate::event::Event;
 use crate::reply::{Reply, ReplyBody};
 use sed_value::Id;
-use sed_wire::{Full, Writer};
+use sed_wire::Writer;
 
 /// Writes the text of a reply to the front of `into`, and says how many bytes it has. What stood behind it stays.
 pub fn write_reply(reply: &Reply, into: &mut [u8; 498]) -> usize
@@ -18,7 +17,7 @@ pub fn write_reply(reply: &Reply, into: &mut [u8; 498]) -> usize
     ensures { Puts (reply_text reply.now) result into.old into.new }
 {
     let mut writer = Writer::new(into);
-    put_bytes(&mut writer, &[capital_of(&reply.body), reply.number]);
+    writer.put_bytes(&[capital_of(&reply.body), reply.number]);
     put_answer(&mut writer, &reply.body);
     writer.done()
 }
@@ -30,7 +29,7 @@ pub fn write_event(event: &Event, into: &mut [u8; 498]) -> usize
     ensures { Puts (event_text event.now) result into.old into.new }
 {
     let mut writer = Writer::new(into);
-    put_bytes(&mut writer, &[b'e', 255]);
+    writer.put_bytes(&[b'e', 255]);
     put_of_component(&mut writer, event.id, event.part, event.bytes);
     writer.done()
 }
@@ -59,7 +58,7 @@ fn put_answer(writer: &mut Writer, body: &ReplyBody)
         ReplyBody::Added { id } => put_id(writer, *id),
         ReplyBody::Part { id, part, bytes } => put_of_component(writer, *id, *part, bytes),
         ReplyBody::Slot { id, slot, bytes } => put_of_component(writer, *id, *slot, bytes),
-        ReplyBody::Version { schema } => put_bytes(writer, schema),
+        ReplyBody::Version { schema } => writer.put_bytes(schema),
         ReplyBody::Refused(refusal) => put_text(writer, refusal.text()),
     }
 }
@@ -70,41 +69,21 @@ fn put_of_component(writer: &mut Writer, id: Id, which: u8, bytes: &[u8])
     ensures { Appends writer.old writer.new (u2 id.0 ++ which ∷ bytes.now) }
 {
     put_id(writer, id);
-    put_bytes(writer, &[which]);
-    put_bytes(writer, bytes);
+    writer.put_bytes(&[which]);
+    writer.put_bytes(bytes);
 }
 
 fn put_text(writer: &mut Writer, text: &str)
     requires { length text.now + 1 ≤ room writer.old }
     ensures { Appends writer.old writer.new (str text.now) }
 {
-    put_bytes(writer, text.as_bytes());
-    put_bytes(writer, &[0]);
+    writer.put_bytes(text.as_bytes());
+    writer.put_bytes(&[0]);
 }
 
 fn put_id(writer: &mut Writer, id: Id)
     requires { 2 ≤ room writer.old }
     ensures { Appends writer.old writer.new (u2 id.0) }
 {
-    put_u2(writer, id.0);
-}
-
-fn put_u2(writer: &mut Writer, number: u16)
-    requires { 2 ≤ room writer.old }
-    ensures { Writes (SpellsNumber 2) number writer.old writer.new }
-{
-    match writer.u2(number) {
-        Ok(()) => {}
-        Err(Full) => unreachable!(),
-    }
-}
-
-fn put_bytes(writer: &mut Writer, bytes: &[u8])
-    requires { length bytes.now ≤ room writer.old }
-    ensures { Appends writer.old writer.new bytes.now }
-{
-    match writer.bytes(bytes) {
-        Ok(()) => {}
-        Err(Full) => unreachable!(),
-    }
+    writer.put_u2(id.0);
 }

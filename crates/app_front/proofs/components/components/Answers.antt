@@ -1,7 +1,7 @@
 use Rattle.std.proofs.Common.{◌≡◌, ◌-◌, arith}
 use Rattle.std.proofs.lemmas.Result.{err_from_is_err_and}
-use Rattle.scode_image.proofs.Rows.{no_front}
-use Rattle.app_front.specs.Form.{u2}
+use Rattle.sed_wire.proofs.Rows.{no_front}
+use Rattle.sed_wire.specs.Leaves.{u2}
 use Rattle.app_front.specs.RowForm as form
 use Rattle.app_front.proofs.EndedRows.{end_left, more_left, no_number_left, none_left}
 use Rattle.app_front.proofs.components.components.Goals as goal

@@ -1,6 +1,6 @@
 use Rattle.std.proofs.Common.{List, ℕ, sym, ◌∙◌, ap}
 use Rattle.sed_value.specs.Names.{is_kit_name}
-use Rattle.scode_image.specs.Reading.{Stuck}
+use Rattle.sed_wire.specs.FormReading.{Stuck}
 use Rattle.app_front.specs.Form.{kit_name}
 use Rattle.app_front.proofs.Names.{name_found, name_none, name_wrong}
 use Rattle.app_front.proofs.kits.kit_name.Goals as goal

@@ -1,7 +1,6 @@
 use Rattle.std.proofs.lemmas.Result.{err_from_is_err_and}
-use Rattle.scode_image.proofs.Rows.{one_more, last}
+use Rattle.sed_wire.proofs.Rows.{last, one_more, refused}
 use Rattle.app_front.specs.Form as form
-use Rattle.app_front.proofs.Names.{refused}
 use Rattle.app_front.proofs.kits.so_many.Goals as goal
 
 pub returns-in_err-next : goal.returns-in_err-next

@@ -1,6 +1,6 @@
 use Rattle.std.proofs.Common.{◌-◌}
-use Rattle.scode_image.specs.Row.{times}
-use Rattle.scode_image.proofs.Rows.{Left}
+use Rattle.sed_wire.specs.Row.{times}
+use Rattle.sed_wire.proofs.Rows.{Left}
 use Rattle.app_front.specs.Form as form
 use Rattle.app_front.proofs.kits.so_many.Given as goal
 

@@ -1,5 +1,5 @@
 use Rattle.std.proofs.Common.{List, ℕ, sym, ◌∙◌, ap}
-use Rattle.scode_image.specs.Reading.{Stuck}
+use Rattle.sed_wire.specs.FormReading.{Stuck}
 use Rattle.app_front.proofs.ValueRows.{value_none, value_read}
 use Rattle.app_front.proofs.values.value.Goals as goal
 

@@ -1,7 +1,8 @@
 use Rattle.std.proofs.Common.{◌++◌, arith}
 use Rattle.dasp_msg.specs.Writing.{listed}
 use Rattle.dasp_msg.proofs.SendingLemmas.{fields-size}
-use Rattle.dasp_msg.proofs.WritingLemmas.{fields-put, fields_size-append, room-after}
+use Rattle.sed_wire.proofs.WritingLemmas.{room-after}
+use Rattle.dasp_msg.proofs.WritingLemmas.{fields-put, fields_size-append}
 use Rattle.dasp_msg.proofs.writing.put_fields.Goals as goal
 
 pub put_if_there-requires-3-clause-fits : goal.put_if_there-requires-3-clause-fits

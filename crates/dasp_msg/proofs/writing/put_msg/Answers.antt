@@ -7,7 +7,8 @@ use Rattle.dasp_msg.specs.View.{message_of}
 use Rattle.dasp_msg.specs.Writing.{CanBeFields}
 use Rattle.dasp_msg.proofs.HeaderLemmas.{header-size}
 use Rattle.dasp_msg.proofs.SendingLemmas.{fields-size}
-use Rattle.dasp_msg.proofs.WritingLemmas.{can-sent, datagram-put, room-after}
+use Rattle.sed_wire.proofs.WritingLemmas.{room-after}
+use Rattle.dasp_msg.proofs.WritingLemmas.{can-sent, datagram-put}
 use Rattle.dasp_msg.proofs.writing.put_msg.Goals as goal
 
 pub put_fields-requires-clause-can : goal.put_fields-requires-clause-can

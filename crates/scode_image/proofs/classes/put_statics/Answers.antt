@@ -1,4 +1,4 @@
-use Rattle.scode_image.specs.Grammar.{u2}
+use Rattle.sed_wire.specs.Leaves.{u2}
 use Rattle.scode_image.proofs.Putting.{on_ok, puts_same}
 use Rattle.scode_image.proofs.PutParts.{statics_put}
 use Rattle.scode_image.proofs.classes.put_statics.Goals as goal

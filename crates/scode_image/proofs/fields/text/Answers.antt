@@ -1,6 +1,6 @@
 use Rattle.std.proofs.Common.{ℕ, List, sym, ◌∙◌, ap}
-use Rattle.scode_image.specs.Reading.{Stuck}
-use Rattle.scode_image.proofs.LeafLemmas.{text_none}
+use Rattle.sed_wire.specs.FormReading.{Stuck}
+use Rattle.sed_wire.proofs.LeafLemmas.{text_none}
 use Rattle.scode_image.proofs.fields.text.Goals as goal
 
 pub returns-in-Err : goal.returns-in-Err

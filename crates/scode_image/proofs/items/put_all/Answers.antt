@@ -1,4 +1,3 @@
-use Rattle.std.proofs.Common.{arith}
 use Rattle.scode_image.proofs.Putting.{row_begins, row_goes_on, row_ends, none_left, next_left}
 use Rattle.scode_image.proofs.items.put_all.Goals as goal
 

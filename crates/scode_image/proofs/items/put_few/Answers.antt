@@ -1,4 +1,4 @@
-use Rattle.scode_image.specs.Grammar.{u1}
+use Rattle.sed_wire.specs.Leaves.{u1}
 use Rattle.scode_image.proofs.Putting.{on_ok}
 use Rattle.scode_image.proofs.PutParts.{counted_puts}
 use Rattle.scode_image.proofs.items.put_few.Goals as goal

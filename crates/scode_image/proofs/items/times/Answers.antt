@@ -1,6 +1,5 @@
-use Rattle.std.proofs.Common.{sym}
 use Rattle.std.proofs.lemmas.Result.{err_from_is_err_and}
-use Rattle.scode_image.proofs.Rows.{no_front, one_more, refused, last}
+use Rattle.sed_wire.proofs.Rows.{one_more, refused, last}
 use Rattle.scode_image.proofs.items.times.Goals as goal
 
 pub returns-in_err-next : goal.returns-in_err-next

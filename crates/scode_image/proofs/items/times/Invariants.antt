@@ -1,6 +1,6 @@
 use Rattle.std.proofs.Common.{◌-◌}
-use Rattle.scode_image.specs.Row.{times}
-use Rattle.scode_image.proofs.Rows.{Left}
+use Rattle.sed_wire.specs.Row.{times}
+use Rattle.sed_wire.proofs.Rows.{Left}
 use Rattle.scode_image.proofs.items.times.Given as goal
 
 -- what was read so far and what is still read make all of it

@@ -1,7 +1,7 @@
-use Rattle.std.proofs.Common.{◌+◌, sym}
+use Rattle.std.proofs.Common.{◌+◌}
 use Rattle.std.proofs.lemmas.Result.{err_from_is_err_and}
 use Rattle.scode_image.specs.Grammar.{entry, entries}
-use Rattle.scode_image.proofs.Rows.{no_front, one_more, refused, last}
+use Rattle.sed_wire.proofs.Rows.{one_more, refused, last}
 use Rattle.scode_image.proofs.methods.entries.Goals as goal
 
 pub returns-in_err-next : goal.returns-in_err-next

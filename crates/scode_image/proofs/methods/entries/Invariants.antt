@@ -1,7 +1,7 @@
 use Rattle.std.proofs.Common.{◌-◌, ◌+◌}
-use Rattle.scode_image.specs.Row.{row}
+use Rattle.sed_wire.specs.Row.{row}
 use Rattle.scode_image.specs.Grammar.{entry}
-use Rattle.scode_image.proofs.Rows.{Left}
+use Rattle.sed_wire.proofs.Rows.{Left}
 use Rattle.scode_image.proofs.methods.entries.Given as goal
 
 -- what was read so far and what is still read make all of it

@@ -1,4 +1,4 @@
-use Rattle.std.proofs.Common.{◌+◌, arith}
+use Rattle.std.proofs.Common.{◌+◌}
 use Rattle.scode_image.specs.Grammar.{entry, entries}
 use Rattle.scode_image.proofs.Putting.{row_begins, row_goes_on, row_ends, none_left, next_left}
 use Rattle.scode_image.proofs.methods.put_all_entries.Goals as goal

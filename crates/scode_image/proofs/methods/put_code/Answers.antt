@@ -1,4 +1,4 @@
-use Rattle.scode_image.specs.Grammar.{u2}
+use Rattle.sed_wire.specs.Leaves.{u2}
 use Rattle.scode_image.proofs.Putting.{on_ok}
 use Rattle.scode_image.proofs.PutParts.{counted_run_puts}
 use Rattle.scode_image.proofs.methods.put_code.Goals as goal

@@ -1,4 +1,5 @@
-use Rattle.scode_image.specs.Grammar.{u2, entries}
+use Rattle.sed_wire.specs.Leaves.{u2}
+use Rattle.scode_image.specs.Grammar.{entries}
 use Rattle.scode_image.proofs.Putting.{on_ok, puts_same}
 use Rattle.scode_image.proofs.PutParts.{entries_put}
 use Rattle.scode_image.proofs.methods.put_entries.Goals as goal

@@ -1,5 +1,5 @@
 use Rattle.scode_image.specs.Grammar.{kind}
-use Rattle.scode_image.specs.Row.{times}
+use Rattle.sed_wire.specs.Row.{times}
 use Rattle.scode_image.proofs.Putting.{on_ok, puts_same}
 use Rattle.scode_image.proofs.PutParts.{entry_puts}
 use Rattle.scode_image.proofs.methods.put_entry.Goals as goal

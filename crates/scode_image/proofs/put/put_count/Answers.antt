@@ -1,4 +1,4 @@
-use Rattle.std.proofs.Common.{ℕ, List, ◌++◌, ap, ◌∙◌, arith}
+use Rattle.std.proofs.Common.{arith}
 use Rattle.scode_image.proofs.Putting.{no_u2}
 use Rattle.scode_image.proofs.put.put_count.Goals as goal
 

@@ -1,4 +1,4 @@
-use Rattle.std.proofs.Common.{ℕ, List, ◌++◌, ap, ◌∙◌, arith}
+use Rattle.std.proofs.Common.{ℕ, List, ◌++◌, ap, ◌∙◌}
 use Rattle.scode_image.proofs.Putting.{u2_puts}
 use Rattle.scode_image.proofs.put.put_u2.Goals as goal
 

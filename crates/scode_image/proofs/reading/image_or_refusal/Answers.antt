@@ -1,4 +1,3 @@
-use Rattle.std.proofs.Common.{sym, ◌∙◌}
 use Rattle.std.proofs.lemmas.Bool.{both_ways}
 use Rattle.scode_image.proofs.Images.{gives_stuck, whole_image, found_within, stuck_within, fault_behind, fault_here}
 use Rattle.scode_image.proofs.reading.image_or_refusal.Goals as goal

@@ -1,7 +1,6 @@
 use Rattle.std.proofs.Common.{ℕ, List, [], ◌∷◌, length, subst, ap, arith}
 use Rattle.sed_wire.specs.Writing.{Appends}
-use Rattle.sed_wire.proofs.WritingLemmas.{appends-then}
-use Rattle.sox_msg.proofs.WritingLemmas.{room-after}
+use Rattle.sed_wire.proofs.WritingLemmas.{appends-then, room-after}
 use Rattle.sox_msg.proofs.writing.put_text.Goals as goal
 
 pub put_bytes-requires-2 : goal.put_bytes-requires-2
@@ -10,6 +9,6 @@ put_bytes-requires-2 c =
 
 pub returns : goal.returns
 returns c =
-    let first = subst (λ (t : List ℕ). Appends c.args.writer.now c.put_bytes.new.writer t) c.as_bytes.ensures.value
+    let first = subst (λ (t : List ℕ). Appends c.args.writer.now c.put_bytes.new.self t) c.as_bytes.ensures.value
     c.put_bytes.ensures in
     appends-then _ _ _ c.args.text.now (0 ∷ []) first c.put_bytes-2.ensures

@@ -1,8 +1,7 @@
 use Rattle.std.proofs.Common.{[], ◌∷◌, ◌++◌}
-use Rattle.sed_wire.proofs.WritingLemmas.{appends-then}
+use Rattle.sed_wire.proofs.WritingLemmas.{appends-then, front-put}
 use Rattle.sox_msg.specs.Command.{u2}
 use Rattle.sox_msg.specs.Reply.{event_text}
-use Rattle.sox_msg.proofs.WritingLemmas.{front-put}
 use Rattle.sox_msg.proofs.writing.write_event.Goals as goal
 
 pub returns : goal.returns

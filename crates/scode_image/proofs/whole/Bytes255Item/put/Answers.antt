@@ -1,5 +1,5 @@
 use Rattle.std.proofs.Common.{ℕ, List, ◌++◌, length, ap, ◌∙◌}
-use Rattle.scode_image.specs.Grammar.{u1}
+use Rattle.sed_wire.specs.Leaves.{u1}
 use Rattle.scode_image.proofs.Putting.{puts_same, run_puts}
 use Rattle.scode_image.proofs.PutParts.{literal_puts}
 use Rattle.scode_image.proofs.whole.Bytes255Item.put.Goals as goal

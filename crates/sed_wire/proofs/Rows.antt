@@ -1,12 +1,12 @@
 -- Rows that are read item by item, as a loop does: what was read so far, and what is still read.
-use Rattle.std.proofs.Common.{◌≡◌, ℕ, zero, suc, ◌+◌, ◌-◌, ◌<◌, ◌≤◌, List, [], ◌∷◌, ◌++◌, Err, refl, sym, ◌∙◌, ap, append_assoc, arith}
+use Rattle.std.proofs.Common.{◌≡◌, ℕ, suc, ◌+◌, ◌-◌, ◌<◌, ◌≤◌, List, [], ◌∷◌, ◌++◌, Err, refl, sym, ◌∙◌, ap, append_assoc, arith}
 use Rattle.std.proofs.lemmas.List.{append-nil}
-use Rattle.scode_image.specs.Reading.{Reading, Found, Stuck, read_on}
-use Rattle.scode_image.specs.Form.{Form, pair_reads}
-use Rattle.scode_image.specs.Row.{row}
-use Rattle.scode_image.specs.Gives.{Gives}
-use Rattle.scode_image.specs.declared.halt.Halt.{Halt}
-use Rattle.scode_image.specs.declared.halt.Halt.TheVariants.{Fault, Memory}
+use Rattle.sed_wire.specs.FormReading.{Reading, Found, Stuck, read_on}
+use Rattle.sed_wire.specs.Form.{Form, pair_reads}
+use Rattle.sed_wire.specs.Row.{row}
+use Rattle.sed_wire.specs.Gives.{Gives}
+use Rattle.sed_wire.specs.declared.halt.Halt.{Halt}
+use Rattle.sed_wire.specs.declared.halt.Halt.TheVariants.{Fault, Memory}
 
 -- items that were read stand in front of those that are still read
 abbrev pub with_front : {A : Type 0} → List A → Reading (List A) → Reading (List A)

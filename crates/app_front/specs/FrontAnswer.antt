@@ -1,19 +1,11 @@
--- What a step of the reader answers, by what a form reads: what is found, with the bytes behind it left. Or a fault
--- where reading gets stuck, with the bytes left from there on. Want of memory is free.
+-- What is answered by what the form of a front reads. Want of memory is free.
 use Rattle.std.specs.Prelude.{◌≡◌, ℕ, List, Option, Result, Ok, Err}
 use Rattle.sed_value.specs.declared.kit.KitRef.{KitRef}
-use Rattle.scode_image.specs.Reading.{Reading, Found, Stuck}
+use Rattle.sed_wire.specs.FormReading.{Reading, Found, Stuck}
 use Rattle.app_file.specs.Reading.{DifferAt}
 use Rattle.app_file.specs.declared.refusal.AppRefusal.{AppRefusal}
 use Rattle.app_file.specs.declared.refusal.AppRefusal.TheVariants.{NotAnApp, WrongKits, OverLimit, Memory as NoMemory}
 use Rattle.app_front.specs.declared.front.Front.{Front}
-use Rattle.app_front.specs.declared.halt.Halt.{Halt}
-use Rattle.app_front.specs.declared.halt.Halt.TheVariants.{Fault, Memory}
-
-abbrev pub Gives : {X : Type 0} → Result X Halt → List ℕ → Reading X → Type 0
-Gives (Ok x) rest reading = reading ≡ Found x rest
-Gives (Err Fault) rest reading = reading ≡ Stuck rest
-Gives (Err Memory) rest reading = Unit {0}
 
 -- a front was read whose kits differ from these
 pub record ReadsOtherKits (kits : List KitRef) (reading : Reading Front) (place : ℕ)

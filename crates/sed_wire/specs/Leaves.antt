@@ -4,17 +4,16 @@ use Rattle.std.specs.Option.{option_map}
 use Rattle.std.proofs.Common.{ap, ap₂, sym, ◌∙◌, arith, take-append-drop, length-take-le, le-leb, leb-true, eqb-true}
 use Rattle.std.proofs.lemmas.Bool.{and_from, and_parts}
 use Rattle.std.proofs.lemmas.List.{take_at, drop_at, length-append}
-use Rattle.std.specs.Int.{w32, cast_signed, cast_unsigned}
+use Rattle.std.specs.Int.{w32, cast_signed}
 use Rattle.std.specs.List.{list_all}
 use Rattle.sed_wire.specs.Number.{is_byte, number_of, SpellsNumber, SpellsSigned}
 use Rattle.std.proofs.lemmas.Int.{to_z-of_z, of_z-to_z}
 use Rattle.std.proofs.Math.Facts.{Fits-of_lt, sfits_to_z}
 use Rattle.sed_wire.specs.Text.{is_character, is_text, SpellsText}
-use Rattle.sed_wire.proofs.FrontLemmas.{one_number, one_signed, number_of-below}
-use Rattle.sed_wire.proofs.TextLemmas.{one_text}
-use Rattle.scode_image.specs.Reading.{Reading, Found, Stuck, Reads}
-use Rattle.scode_image.specs.Spelling.{Begins, SpellsRun}
-use Rattle.scode_image.specs.Form.{Form, begins_again, field, seen_as, only, sized, stuck_eq, found_eq, not_found, not_stuck}
+use Rattle.sed_wire.specs.OneSpelling.{one_number, one_signed, one_text, number_of-below}
+use Rattle.sed_wire.specs.FormReading.{Reading, Found, Stuck, Reads}
+use Rattle.sed_wire.specs.FormSpelling.{Begins, SpellsRun}
+use Rattle.sed_wire.specs.Form.{Form, begins_again, field, seen_as, only, sized, stuck_eq, found_eq, not_found, not_stuck}
 
 -- the first so many bytes, where there are as many
 abbrev pub is_front : ℕ → List ℕ → Bool
@@ -73,6 +72,16 @@ number_whole width n front rest is =
 -- a number in so many bytes, the highest first
 abbrev pub number : ℕ → Form ℕ
 number width = field (SpellsNumber width) (front_reads number_of width) (one_number width) (number_sound width) (number_whole width) (front_stays number_of width)
+
+-- of the widths that there are, as calls see them
+unfoldable pub u1 : Form ℕ
+u1 = number 1
+
+unfoldable pub u2 : Form ℕ
+u2 = number 2
+
+unfoldable pub u4 : Form ℕ
+u4 = number 4
 
 abbrev pub signed_of : List ℕ → ℤ
 signed_of bytes = cast_signed w32 (number_of bytes)

@@ -4,11 +4,11 @@
 -- cut or not allowed stands at the front of the rest. Beside that it has a reading from left to right, which a reader follows,
 -- with the proofs that reading finds just what is spelled and gets stuck just at faults. So a grammar of such forms is written
 -- once: a thing has at most one spelling, bytes begin with the spelling of one thing or fault at one field, and never both.
-use Rattle.std.specs.Prelude.{◌≡◌, ◌⊎◌, ℕ, Bool, true, false, IsTrue, List, [], ◌++◌, refl}
+use Rattle.std.specs.Prelude.{◌≡◌, ◌⊎◌, ℕ, Bool, true, false, List, [], ◌++◌, refl}
 use Rattle.std.proofs.Common.{inl, inr, ap, sym, subst, ◌∙◌}
 use Rattle.std.proofs.lemmas.List.{append_assoc}
-use Rattle.scode_image.specs.Spelling.{Begins, IsLeft, NoneBegins, FieldFaults, ThenSpells, ThenFaults, OnlySpells, OnlyFaults, GivenSpells, NeverFaults}
-use Rattle.scode_image.specs.Reading.{Reading, Found, Stuck, Reads, read_on}
+use Rattle.sed_wire.specs.FormSpelling.{Begins, IsLeft, FieldFaults, ThenSpells, ThenFaults, OnlySpells, OnlyFaults, GivenSpells, NeverFaults}
+use Rattle.sed_wire.specs.FormReading.{Reading, Found, Stuck, Reads, read_on}
 
 pub record Form (A : Type 0) : Type 1 where
   pub spells : A → List ℕ → Type 0

@@ -1,9 +1,9 @@
 -- Things that stand one behind the other, as many as are said in front of them.
 use Rattle.std.specs.Prelude.{◌≡◌, ◌⊎◌, ℕ, zero, suc, List, [], ◌∷◌, ◌++◌, length, refl}
-use Rattle.std.proofs.Common.{inl, inr, ap, sym, ◌∙◌}
-use Rattle.scode_image.specs.Reading.{Reading, Found, Stuck, Reads, read_on}
-use Rattle.scode_image.specs.Spelling.{Begins, ListSpells}
-use Rattle.scode_image.specs.Form.{Form, begins_again, given, then, sized, found_eq, not_stuck, on_found, on_stuck, on_whole, on_none}
+use Rattle.std.proofs.Common.{inl, inr, ap}
+use Rattle.sed_wire.specs.FormReading.{Found, Stuck, Reads, read_on}
+use Rattle.sed_wire.specs.FormSpelling.{Begins, ListSpells}
+use Rattle.sed_wire.specs.Form.{Form, begins_again, given, then, sized, found_eq, not_stuck, on_found, on_stuck, on_whole, on_none}
 
 -- a first one and the others, as a list
 abbrev pub list_reads : {A : Type 0} → Reads (A × List A) → Reads (List A)

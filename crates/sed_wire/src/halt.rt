@@ -1,13 +1,15 @@
-//! Why reading stops.
+//! Why the reading of a form stops.
 ghost use Rattle.std.specs.Prelude.{◌≡◌};
-ghost use Rattle.app_front.specs.declared.halt.Halt.TheVariants.{Memory};
+ghost use Rattle.sed_wire.specs.declared.halt.Halt.TheVariants.{Memory};
 
 use std::alloc::{AllocError, AllocFailed};
 
-// The field at which the reader stands is cut or not allowed, or memory ran out.
+/// Why the reading of a form stops.
 #[derive(Clone, Copy)]
-pub(crate) enum Halt {
+pub enum Halt {
+    /// The field at which the reader stands is cut or not allowed.
     Fault,
+    /// Memory was wanted and refused.
     Memory,
 }
 

@@ -1,5 +1,5 @@
 -- What lower readers give, as the forms read it.
-use Rattle.std.proofs.Common.{◌≡◌, ℕ, ◌<◌, true, false, cond, IsTrue, List, ◌++◌, length, Result, Err, IsOkAnd, subst, refl, ap, ◌∙◌, arith, lt-ltb}
+use Rattle.std.proofs.Common.{◌≡◌, ℕ, ◌<◌, false, cond, List, ◌++◌, length, Result, Err, IsOkAnd, subst, refl, ap, ◌∙◌, arith}
 use Rattle.std.specs.Prelude.{nat_le, ◌&&◌, take, drop, ℤ}
 use Rattle.std.specs.Int.{w32}
 use Rattle.std.specs.List.{list_all}
@@ -7,8 +7,8 @@ use Rattle.sed_wire.specs.Number.{is_byte, SpellsNumber, SpellsSigned, number_of
 use Rattle.sed_wire.specs.Reading.{Reads}
 use Rattle.sed_wire.specs.Text.{SpellsText}
 use Rattle.sed_wire.specs.declared.fault.StrFault.{StrFault}
-use Rattle.scode_image.specs.Reading.{Reading, Found, Stuck}
-use Rattle.scode_image.specs.Leaves.{is_front, front_reads, number, number_whole, signed, signed_of, signed_whole, run, run_whole, text, text_whole}
+use Rattle.sed_wire.specs.FormReading.{Found, Stuck}
+use Rattle.sed_wire.specs.Leaves.{front_reads, number, number_whole, signed, signed_of, signed_whole, run, run_whole, text, text_whole}
 
 pub number_read : (width n : ℕ) (old new : List ℕ) → Reads (SpellsNumber width) n old new → (number width).reads old ≡ Found n new
 number_read width n old new r = ap (number width).reads r.front ∙ number_whole width n r.spelling new r.spelled
