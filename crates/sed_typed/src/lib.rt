@@ -8,6 +8,7 @@
 #![tactic(auto)]
 
 pub mod kind;
+mod laws;
 pub mod number;
 pub mod operators;
 pub mod program;
@@ -17,6 +18,10 @@ pub mod text;
 pub mod tree;
 
 pub use kind::Kind;
+pub use laws::{
+    components_begin_with_callbacks, lineages_go_by_bases, virtual_names_are_counted,
+    virtual_names_go_by_bases,
+};
 pub use number::{SlotNo, TypeNo};
 pub use operators::{Arithmetic, Binary, Comparison, Gives, TextCall, Unary, Update, Width};
 pub use program::{Field, FieldForm, Method, Program};
