@@ -15,3 +15,4 @@ pub mod Depth
 pub mod Height
 pub mod Locals
 pub mod Typed
+pub mod Spelled
