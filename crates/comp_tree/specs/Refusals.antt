@@ -1,7 +1,7 @@
 -- When a command is refused. Each table has a row for each refusal: its condition, and its name. The refusals stand in the
 -- order of their rows, and the first whose condition holds is given. Want of memory stands in none, for it may come
 -- wherever no refusal of an add or of a new link does.
-use Rattle.std.specs.Prelude.{ℕ, ◌==◌, ◌||◌, ◌&&◌, ◌+◌, ◌*◌, Bool, true, false, not, is_none, nat_le, nat_lt, List, [], ◌∷◌, length, slice_get, Option, Some, None, count_by}
+use Rattle.std.specs.Prelude.{ℕ, ◌==◌, ◌||◌, ◌&&◌, ◌+◌, ◌*◌, Bool, true, false, not, is_none, nat_le, nat_lt, List, [], ◌∷◌, length, Option, Some, None, count_by}
 use Rattle.std.specs.List.{list_all, list_any}
 use Rattle.std.specs.Option.{option_map, option_map_or, option_to_list}
 use Rattle.std.specs.FinMap as map
@@ -11,11 +11,11 @@ use Rattle.sed_value.specs.declared.refusal.Refusal.{Refusal}
 use Rattle.sed_value.specs.declared.refusal.Refusal.TheVariants.{AbstractType, AppItself, BadName, BadValue, BufferTooLong, ComponentLimit, DataFull, Faulted, LinkLimit, LinksAtComponent, LinkTypesDiffer, NameTaken, NoComponent, NoLink, NoSlot, NotTheChildren, NoType, TargetLinked, TooDeep, TooManyChildren, WrongKindOfSlot}
 use Rattle.sed_value.specs.declared.slot_type.SlotType.{SlotType}
 use Rattle.sed_typed.specs.declared.schema.ActionArg.{ActionArg}
-use Rattle.sed_typed.specs.declared.schema.ClassInfo.{ClassInfo}
 use Rattle.sed_typed.specs.declared.schema.SlotForm.{SlotForm}
 use Rattle.sed_typed.specs.declared.schema.SlotForm.TheVariants.{Prop, Action}
 use Rattle.sed_typed.specs.Schemas.{type_at as class_numbered}
-use Rattle.sed_typed.specs.SysTypes.{app_type, component_type}
+use Rattle.sed_typed.specs.SysTypes as typed
+use Rattle.sed_typed.specs.TypedSchema.{is_abstract}
 use Rattle.sed_engine.specs.Code.{Meaning}
 pub use Rattle.prop_values.specs.Properties.{config_types, argument_types}
 pub use Rattle.prop_values.specs.Rows.{first_refusal}
@@ -29,19 +29,17 @@ use Rattle.prop_values.specs.Values.{are_bad_values, have_long_buffer}
 
 -- a class is the type of kit `sys` with this number
 abbrev pub is_sys_type : Meaning → ℕ → ℕ → Bool
-is_sys_type m number class = option_map_or (λ sys. sys == class) (class_numbered m.schema.classes 0 number) false
+is_sys_type m number class = typed.is_sys_type m.schema.classes number class
 
 -- a class stands below `Component`, and is not `App`
 abbrev pub is_for_components : Meaning → ℕ → Bool
-is_for_components m class =
-    option_map_or (λ (c : ClassInfo). c.is_component) (slice_get m.schema.classes class) false
-    && not (is_sys_type m component_type class) && not (is_sys_type m app_type class)
+is_for_components m class = typed.is_for_components m.schema.classes class
 
 abbrev pub has_no_type : Meaning → ℕ → ℕ → Bool
 has_no_type m kit number = option_map_or (λ class. not (is_for_components m class)) (class_numbered m.schema.classes kit number) true
 
 abbrev pub is_abstract_class : Meaning → ℕ → Bool
-is_abstract_class m class = option_map_or (λ (c : ClassInfo). c.is_abstract) (slice_get m.schema.classes class) false
+is_abstract_class m class = is_abstract m.schema.classes class
 
 abbrev pub is_abstract_type : Meaning → ℕ → ℕ → Bool
 is_abstract_type m kit number = option_map_or (is_abstract_class m) (class_numbered m.schema.classes kit number) false

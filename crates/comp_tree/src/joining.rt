@@ -9,7 +9,7 @@ ghost use Rattle.sed_typed.specs.Classes.{reached};
 ghost use Rattle.comp_tree.specs.Allowed.{IsKindToAdd, IsNewChild, child_rows, kind_rows};
 ghost use Rattle.comp_tree.specs.Held.{by_id_of, name_in, parent_in};
 ghost use Rattle.comp_tree.specs.Order.{most_levels};
-ghost use Rattle.comp_tree.specs.Refusals.{first_refusal, is_abstract_class, is_for_components as for_components, is_sys_type as sys_type};
+ghost use Rattle.comp_tree.specs.Refusals.{first_refusal};
 
 use crate::siblings::is_named;
 use node_table::Nodes;
@@ -24,10 +24,10 @@ pub fn kind_to_add(schema: &Schema, kit: u8, number: u8) -> Result<TypeNo, Refus
     let Some(kind) = schema.type_of(kit, number) else {
         return Err(Refusal::NoType);
     };
-    if !is_for_components(schema, kind) {
+    if !schema.is_for_components(kind) {
         return Err(Refusal::NoType);
     }
-    if is_abstract(schema, kind) {
+    if schema.is_abstract(kind) {
         return Err(Refusal::AbstractType);
     }
     Ok(kind)
@@ -89,37 +89,5 @@ pub fn parent_of(nodes: &Nodes, id: Id) -> Option<Id>
     match nodes.get(id) {
         Some(node) => node.parent,
         None => None,
-    }
-}
-
-// Whether components may be made of a class, were it not abstract.
-fn is_for_components(schema: &Schema, kind: TypeNo) -> bool
-    ensures { (m : Meaning) → m.schema ≡ schema.now → result ≡ for_components m kind.0 }
-{
-    match schema.classes.as_slice().get(usize::from(kind.0)) {
-        Some(class) => {
-            class.is_component && !is_sys_type(schema, 2, kind) && !is_sys_type(schema, 3, kind)
-        }
-        None => false,
-    }
-}
-
-// Whether a class is the type of kit `sys` with this number.
-fn is_sys_type(schema: &Schema, number: u8, kind: TypeNo) -> bool
-    ensures { (m : Meaning) → m.schema ≡ schema.now → result ≡ sys_type m number kind.0 }
-{
-    match schema.type_of(0, number) {
-        Some(sys) => sys.0 == kind.0,
-        None => false,
-    }
-}
-
-// Whether a class is abstract.
-fn is_abstract(schema: &Schema, kind: TypeNo) -> bool
-    ensures { (m : Meaning) → m.schema ≡ schema.now → result ≡ is_abstract_class m kind.0 }
-{
-    match schema.classes.as_slice().get(usize::from(kind.0)) {
-        Some(class) => class.is_abstract,
-        None => false,
     }
 }

@@ -11,19 +11,9 @@ use crate::component::Component;
 use printed_text::{Collected, put_fault_line, put_property_line};
 use sed_engine::Engine;
 use sed_outside::{Sink, SinkFault};
-use sed_typed::{Schema, SlotForm, SlotInfo, SlotNo, TypeNo};
+use sed_typed::{SlotForm, SlotInfo, SlotNo};
 use sed_value::SlotBuf;
 use std::alloc::{AllocError, Global};
-
-// The slots of a class.
-fn slots_of(schema: &Schema, class: TypeNo) -> &[SlotInfo]
-    ensures { result.now ≡ classes.slots schema.now.classes class.0 }
-{
-    match schema.classes.as_slice().get(usize::from(class.0)) {
-        Some(info) => info.slots.as_slice(),
-        None => &[],
-    }
-}
 
 // Puts the line of a slot, if it is a property.
 fn put_slot_line<E: Engine, O: Sink>(
@@ -77,7 +67,7 @@ fn put_component<E: Engine, O: Sink>(
     ensures { (o : Object) → map.get (E.live engine.now) component.now.place.0 ≡ Some o → o.class ≡ component.now.class.0 →
         Puts O.Sink out.old out.new (alone.component_text (E.meaning engine.now) o component.now.fault) result }
 {
-    let slots = slots_of(engine.schema(), component.class);
+    let slots = engine.schema().slots_of(component.class);
     put_slot_lines(engine, component, slots, out)?;
     put_fault_line(component.fault, out)
 }

@@ -10,7 +10,7 @@ ghost use Rattle.comp_tree.specs.Links.{go_together as go_together_as, go_togeth
 
 use comp_tree::Tree;
 use sed_engine::Engine;
-use sed_typed::{Schema, SlotForm, TypeNo};
+use sed_typed::{Schema, SlotForm, SlotNo, TypeNo};
 use sed_value::{Id, Prim, SlotType};
 
 /// Whether a component is live.
@@ -37,11 +37,8 @@ pub fn form_at<E: Engine>(tree: &Tree<E>, id: Id, slot: u8) -> Option<SlotForm>
 fn form_of(schema: &Schema, kind: TypeNo, slot: u8) -> Option<SlotForm>
     ensures { result ≡ option_map (λ s. s.form) (slice_get (slots schema.now.classes kind.0) slot) }
 {
-    match schema.classes.as_slice().get(usize::from(kind.0)) {
-        Some(class) => match class.slots.as_slice().get(usize::from(slot)) {
-            Some(info) => Some(info.form),
-            None => None,
-        },
+    match schema.slot(kind, SlotNo(slot)) {
+        Some(info) => Some(info.form),
         None => None,
     }
 }

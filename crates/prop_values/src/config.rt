@@ -32,7 +32,7 @@ fn pass_slots(schema: &Schema, kind: TypeNo, bytes: &[u8]) -> Option<Refusal>
 {
     let mut reader = Reader::new(bytes);
     let mut long = false;
-    for slot in 0..slot_count(schema, kind) {
+    for slot in 0..schema.slot_count(kind) {
         if !pass_slot(schema, kind, slot, &mut reader, &mut long) {
             return Some(Refusal::BadValue);
         }
@@ -79,25 +79,12 @@ fn pass_slot(
     }
 }
 
-// How many slots a class has.
-fn slot_count(schema: &Schema, kind: TypeNo) -> usize
-    ensures { result ≡ length (slots schema.now.classes kind.0) }
-{
-    match schema.classes.as_slice().get(usize::from(kind.0)) {
-        Some(class) => class.slots.as_slice().len(),
-        None => 0,
-    }
-}
-
 // The type of a slot, where it is a config property.
 fn config_type(schema: &Schema, kind: TypeNo, slot: usize) -> Option<SlotType>
     ensures { result ≡ option_and_then config_type_of (slice_get (slots schema.now.classes kind.0) slot) }
 {
-    match schema.classes.as_slice().get(usize::from(kind.0)) {
-        Some(class) => match class.slots.as_slice().get(slot) {
-            Some(info) => type_if_config(info),
-            None => None,
-        },
+    match schema.slots_of(kind).get(slot) {
+        Some(info) => type_if_config(info),
         None => None,
     }
 }
@@ -124,7 +111,7 @@ pub fn store_config<E: Engine>(engine: &mut E, place: Place, kind: TypeNo, bytes
     ensures fixed { E.fixed engine.new ≡ E.fixed engine.old }
 {
     let mut reader = Reader::new(bytes);
-    for slot in 0..slot_count(engine.schema(), kind) {
+    for slot in 0..engine.schema().slot_count(kind) {
         store_slot(engine, place, kind, slot, &mut reader);
     }
 }
@@ -170,7 +157,7 @@ pub fn store_values<E: Engine>(engine: &mut E, place: Place, kind: TypeNo, value
     ensures fixed { E.fixed engine.new ≡ E.fixed engine.old }
 {
     let mut rest = values;
-    for slot in 0..slot_count(engine.schema(), kind) {
+    for slot in 0..engine.schema().slot_count(kind) {
         rest = store_next(engine, place, kind, slot, rest);
     }
 }

@@ -6,7 +6,7 @@ ghost use Rattle.sed_engine.specs.Whole.{KeepsLimits};
 ghost use Rattle.sed_typed.specs.Classes.{slots};
 ghost use Rattle.sed_wire.specs.Spelling.{can_be_held};
 
-use sed_typed::{Schema, SlotForm, TypeNo};
+use sed_typed::{Schema, SlotForm, SlotNo, TypeNo};
 
 /// The form of a slot of a class: none where the class has no such slot. A reader holds a value of
 /// each property.
@@ -14,11 +14,8 @@ pub fn form_of(schema: &Schema, kind: TypeNo, slot: u8) -> Option<SlotForm>
     ensures is { result ≡ option_map (λ s. s.form) (slice_get (slots schema.now.classes kind.0) slot) }
     ensures held { KeepsLimits schema.now → IfSome (property_type result) (λ t. IsTrue (can_be_held t)) }
 {
-    match schema.classes.as_slice().get(usize::from(kind.0)) {
-        Some(class) => match class.slots.as_slice().get(usize::from(slot)) {
-            Some(info) => Some(info.form),
-            None => None,
-        },
+    match schema.slot(kind, SlotNo(slot)) {
+        Some(info) => Some(info.form),
         None => None,
     }
 }

@@ -6,7 +6,8 @@ use Rattle.std.proofs.lemmas.List.Sums.{sum_by-cons}
 use Rattle.sed_typed.specs.declared.program.Method.{Method}
 use Rattle.sed_typed.specs.declared.program.Program.{Program}
 use Rattle.sed_typed.specs.Classes as typed
-use Rattle.sed_typed.specs.TypedSchema.{HasMembers, begins_virtual, fields_above, fields_named, virtual_methods}
+use Rattle.sed_typed.specs.TypedSchema.{HasMembers, fields_above, fields_named}
+use Rattle.sed_typed.specs.Virtual.{AreCounted, begins_virtual, virtual_names}
 use Rattle.sed_units.specs.declared.classes.Member.{Member}
 use Rattle.sed_classes.specs.declared.kit_units.KitUnits.{KitUnits}
 use Rattle.sed_classes.specs.Bases.{base_of, bases, lineage}
@@ -534,12 +535,13 @@ virtual_own units program f o p c h =
             gone true false t e = refl
             gone false y t e = refl
 
-virtual_most : (units : List KitUnits) (program : Program) → AreFree units → IsOrdered units program →
+virtual_most : AreCounted → (units : List KitUnits) (program : Program) → AreFree units → IsOrdered units program →
     IsOutlined units program → (c : ℕ) → c < places units →
-    virtual_methods program (number units c) ≤ 255
-virtual_most units program f o p c h =
+    length (virtual_names program (number units c)) ≤ 255
+virtual_most counted units program f o p c h =
     omega (
       arith,
+      counted program (number units c),
       lineage_sum units program o (λ k. count_by (begins_virtual program k) program.methods) c h,
       virtual_own units program f o p c h,
       no_more (bases units c) (bases_in units program o c h),
@@ -561,10 +563,10 @@ virtual_most units program f o p c h =
 
 -- ---- all together
 
-pub has_members : (units : List KitUnits) (program : Program) → AreFree units → IsOrdered units program →
+pub has_members : AreCounted → (units : List KitUnits) (program : Program) → AreFree units → IsOrdered units program →
     IsOutlined units program → (k : ℕ) →
     k < length program.schema.classes → HasMembers program k
-has_members units program f o p k h =
+has_members counted units program f o p k h =
     by_place
     units
     program
@@ -577,7 +579,7 @@ has_members units program f o p k h =
       methods = methods_fit units program f o p c g;
       methods_apart = methods_apart units program f o p c g;
       methods_most = methods_most units program f o p c g;
-      virtual_most = virtual_most units program f o p c g;
+      virtual_most = virtual_most counted units program f o p c g;
     })
     k
     h

@@ -11,12 +11,16 @@ ghost use Rattle.sed_typed.specs.TypedSchema.{HasMembers, IsField};
 ghost use Rattle.sed_typed.specs.declared.program.Field.{Field};
 ghost use Rattle.sed_typed.specs.declared.program.Program.{Program};
 
+use sed_typed::virtual_names_are_counted;
+
 /// The members of each class are typed: names stand once, what overrides fits, and the limits hold.
 pub fn members_are_typed()
     ensures { (units : List KitUnits) (program : Program) → AreFree units → IsOrdered units program →
         IsOutlined units program →
         (class : ℕ) → class < length program.schema.classes → HasMembers program class }
-{}
+{
+    virtual_names_are_counted();
+}
 
 /// Each instance field is typed: its class is there, its form may stand there, and it begins with a value of its form.
 pub fn fields_are_typed()

@@ -6,6 +6,7 @@ pub mod Initial
 pub mod Kinds
 pub mod Objects
 pub mod SysTypes
+pub mod Virtual
 pub mod TypedSchema
 pub mod SysMembers
 pub mod TypedExpr
@@ -16,3 +17,4 @@ pub mod Flat
 pub mod Bare
 pub mod Locals
 pub mod Typed
+pub mod Spelled

@@ -1,5 +1,5 @@
 -- What the types of kit `sys` declare, and no more.
-use Rattle.std.specs.Prelude.{ℕ, pos, ◌≡◌, ◌==◌, if◌then◌else◌, List, [], ◌∷◌, Option, Some, codes}
+use Rattle.std.specs.Prelude.{ℕ, pos, ◌≡◌, ◌==◌, if◌then◌else◌, List, [], ◌∷◌, map, Option, Some, codes}
 use Rattle.sed_value.specs.declared.value.Value.TheVariants as kept
 use Rattle.sed_value.specs.declared.slot_type.Primitive.TheVariants as prim
 use Rattle.sed_typed.specs.declared.program.Field.{Field}
@@ -26,6 +26,10 @@ sys_fields number class = if number == component_type then meta_field class ∷ 
 -- the methods that it declares, by name and argument: what a root call on a component runs, and the action of the App
 abbrev pub component_methods : List (List ℕ × ActionArg)
 component_methods = (codes "execute", Void) ∷ (codes "start", Void) ∷ (codes "stop", Void) ∷ (codes "changed", Int) ∷ []
+
+-- their names, in their order
+abbrev pub callback_names : List (List ℕ)
+callback_names = map (λ (want : List ℕ × ActionArg). want.0) component_methods
 
 abbrev pub app_methods : List (List ℕ × ActionArg)
 app_methods = (codes "save", Void) ∷ []

@@ -1,6 +1,6 @@
 -- The types of kit `sys`, which is kit 0.
-use Rattle.std.specs.Prelude.{ℕ, ◌≡◌, ◌==◌, Bool, true, false, IsSomeAnd, List, [], ◌∷◌, count_by, slice_get, Option, Some, None, codes}
-use Rattle.std.specs.Option.{option_and_then, option_map}
+use Rattle.std.specs.Prelude.{ℕ, ◌≡◌, ◌==◌, ◌&&◌, not, Bool, true, false, IsSomeAnd, List, [], ◌∷◌, count_by, slice_get, Option, Some, None, codes}
+use Rattle.std.specs.Option.{option_and_then, option_map, option_map_or}
 use Rattle.sed_value.specs.declared.slot_type.Primitive.TheVariants as prim
 use Rattle.sed_value.specs.declared.slot_type.SlotType.TheVariants as slot
 use Rattle.sed_typed.specs.declared.schema.ActionArg.TheVariants.{Void}
@@ -19,6 +19,16 @@ component_type = 2
 
 abbrev pub app_type : ℕ
 app_type = 3
+
+-- a class is the type of the kit with this number
+abbrev pub is_sys_type : List ClassInfo → ℕ → ℕ → Bool
+is_sys_type classes number class = option_map_or (λ sys. sys == class) (type_at classes 0 number) false
+
+-- a class stands below that of components, and is not the App's
+abbrev pub is_for_components : List ClassInfo → ℕ → Bool
+is_for_components classes class =
+    option_map_or (λ c. c.is_component) (slice_get classes class) false
+    && not (is_sys_type classes component_type class) && not (is_sys_type classes app_type class)
 
 -- a class as `sys` has it; its base is a type of the kit too
 pub record IsSysType (classes : List ClassInfo) (name : List ℕ) (base : Option ℕ) (abstract component : Bool) (size : ℕ) (all : List SlotInfo) (c : ClassInfo) : Type 0 where

@@ -2,7 +2,7 @@
 use Rattle.std.specs.Prelude.{ℕ, ◌≡◌, ◌≢◌, ◌==◌, ◌&&◌, ◌||◌, ◌+◌, ◌<◌, ◌≤◌, Bool, true, false, IsTrue, All, IfSome, IsSome, IsSomeAnd, List, [], ◌∷◌, ◌++◌, length, count_by, drop, filter, filter_map, slice_get, sum_by, Some, None, codes}
 use Rattle.std.specs.List.{list_any}
 use Rattle.std.specs.List.Sorted.{IsStrictlyIncreasing}
-use Rattle.std.specs.Option.{option_and_then, option_map, option_map_or}
+use Rattle.std.specs.Option.{option_map, option_map_or}
 use Rattle.std.specs.Str.{bytes_eq}
 use Rattle.sed_value.specs.Names.{is_kit_name}
 use Rattle.sed_value.specs.Value.{is_of_type}
@@ -28,6 +28,7 @@ use Rattle.sed_typed.specs.Classes.{base_of, declared_fields, declared_method, l
 use Rattle.sed_typed.specs.Sizes.{data_size, config_size, runtime_size}
 use Rattle.sed_typed.specs.Schemas.{type_at}
 use Rattle.sed_typed.specs.SysTypes.{HasSysTypes, component_type, app_type}
+use Rattle.sed_typed.specs.Virtual.{virtual_names}
 
 -- ---- kits and types
 
@@ -208,15 +209,6 @@ members_above program class name = sum_by (λ c. members_named program c name) (
 abbrev pub fields_above : Program → ℕ → List ℕ → ℕ
 fields_above program class name = sum_by (λ c. fields_named program c name) (lineage program.schema.classes class)
 
--- a method of a class that is virtual and overrides none above
-abbrev pub begins_virtual : Program → ℕ → Method → Bool
-begins_virtual program class m =
-    (m.class.0 == class) && m.is_virtual && option_map_or (λ _. false) (option_and_then (λ base. find program base m.name) (base_of program.schema.classes class)) true
-
--- how many virtual methods a class has, inherited ones among them
-abbrev pub virtual_methods : Program → ℕ → ℕ
-virtual_methods program class = sum_by (λ c. count_by (begins_virtual program c) program.methods) (lineage program.schema.classes class)
-
 -- a method overrides one above that is virtual and has its signature
 pub record Overrides (m above : Method) : Type 0 where
   pub instance : m.is_static ≡ false
@@ -235,4 +227,4 @@ pub record HasMembers (program : Program) (class : ℕ) : Type 0 where
       IfSome (find program base m.name) (λ n. IfSome (slice_get program.methods n) (Overrides m)))) program.methods
   pub methods_apart : All (λ m. m.class.0 ≡ class → fields_above program class m.name ≡ 0) program.methods
   pub methods_most : count_by (λ m. m.class.0 == class) program.methods ≤ 60
-  pub virtual_most : virtual_methods program class ≤ 255
+  pub virtual_most : length (virtual_names program class) ≤ 255

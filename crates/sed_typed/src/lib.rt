@@ -8,19 +8,26 @@
 #![tactic(auto)]
 
 pub mod kind;
+mod laws;
 pub mod number;
 pub mod operators;
 pub mod program;
 pub mod schema;
+mod spelled;
 pub mod statement;
 pub mod text;
 pub mod tree;
 
 pub use kind::Kind;
+pub use laws::{
+    components_begin_with_callbacks, lineages_go_by_bases, virtual_names_are_counted,
+    virtual_names_go_by_bases,
+};
 pub use number::{SlotNo, TypeNo};
 pub use operators::{Arithmetic, Binary, Comparison, Gives, TextCall, Unary, Update, Width};
 pub use program::{Field, FieldForm, Method, Program};
 pub use schema::{ActionArg, ClassInfo, Schema, SlotForm, SlotInfo};
+pub use spelled::{program_is_spelled_out, schema_is_spelled_out};
 pub use statement::{Label, Stmt};
 pub use text::{Bytes255, LONGEST_TEXT};
 pub use tree::{Expr, Link, Place};

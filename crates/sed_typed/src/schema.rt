@@ -1,9 +1,12 @@
 //! Schemas: kits, classes and slots, as everything above an engine sees them.
-ghost use Rattle.std.specs.Prelude.{◌≡◌, ◌==◌, ◌&&◌, position};
+ghost use Rattle.std.specs.Prelude.{◌≡◌, ◌==◌, ◌&&◌, length, option_copied, position, slice_get};
 ghost use Rattle.std.specs.Option.{option_map};
-ghost use Rattle.sed_typed.specs.Schemas.{type_at};
+ghost use Rattle.sed_typed.specs.Classes.{slots};
+ghost use Rattle.sed_typed.specs.Schemas as schemas;
+ghost use Rattle.sed_typed.specs.SysTypes as types;
+ghost use Rattle.sed_typed.specs.TypedSchema as typed;
 
-use crate::number::TypeNo;
+use crate::number::{SlotNo, TypeNo};
 use sed_value::{Items, KitRef, SlotType, Word};
 
 /// The argument of an action.
@@ -57,11 +60,75 @@ impl Schema {
     ///
     /// None exactly where there is none; of several, which a typed schema has not, the first.
     pub fn type_of(&self, kit: u8, number: u8) -> Option<TypeNo>
-        ensures { option_map (λ t. t.0) result ≡ type_at self.now.classes kit number }
+        ensures { option_map (λ t. t.0) result ≡ schemas.type_at self.now.classes kit number }
     {
         match place_of(self.classes.as_slice(), kit, number) {
             Some(at) if at <= u16::MAX as usize => Some(TypeNo(at as u16)),
             _ => None,
+        }
+    }
+
+    /// What a class is: none where there is no class of this number.
+    pub fn class(&self, class: TypeNo) -> Option<&ClassInfo>
+        ensures { option_copied result ≡ slice_get self.now.classes class.0 }
+    {
+        self.classes.as_slice().get(usize::from(class.0))
+    }
+
+    /// The slots of a class, inherited ones first: none where there is no class of this number.
+    pub fn slots_of(&self, class: TypeNo) -> &[SlotInfo]
+        ensures { result.now ≡ slots self.now.classes class.0 }
+    {
+        match self.class(class) {
+            Some(info) => info.slots.as_slice(),
+            None => &[],
+        }
+    }
+
+    /// How many slots a class has, inherited ones among them.
+    pub fn slot_count(&self, class: TypeNo) -> usize
+        ensures { result ≡ length (slots self.now.classes class.0) }
+    {
+        self.slots_of(class).len()
+    }
+
+    /// A slot of a class, by its number.
+    pub fn slot(&self, class: TypeNo, slot: SlotNo) -> Option<&SlotInfo>
+        ensures { option_copied result ≡ slice_get (slots self.now.classes class.0) slot.0 }
+    {
+        self.slots_of(class).get(usize::from(slot.0))
+    }
+
+    /// Whether a class is abstract. What is no class isn't.
+    pub fn is_abstract(&self, class: TypeNo) -> bool
+        ensures { result ≡ typed.is_abstract self.now.classes class.0 }
+    {
+        match self.class(class) {
+            Some(info) => info.is_abstract,
+            None => false,
+        }
+    }
+
+    /// Whether a class is the type of kit `sys` with this number.
+    pub fn is_sys_type(&self, number: u8, class: TypeNo) -> bool
+        ensures { result ≡ types.is_sys_type self.now.classes number class.0 }
+    {
+        match self.type_of(0, number) {
+            Some(sys) => sys.0 == class.0,
+            None => false,
+        }
+    }
+
+    /// Whether a class is below that of components and is not the App's, so that components are made of it unless it is
+    /// abstract.
+    pub fn is_for_components(&self, class: TypeNo) -> bool
+        ensures { result ≡ types.is_for_components self.now.classes class.0 }
+    {
+        match self.class(class) {
+            Some(info) => {
+                info.is_component && !self.is_sys_type(2, class) && !self.is_sys_type(3, class)
+            }
+            None => false,
         }
     }
 }

@@ -1,0 +1,3 @@
+pub mod Lineages
+pub mod VirtualNames
+pub mod Callbacks
