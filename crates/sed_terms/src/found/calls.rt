@@ -44,7 +44,7 @@ impl Found {
     }
 
     /// A call of a method of an object.
-    #[tactic(auto, using(crate::proofs::Rows::args_row, crate::proofs::FlatRows::args_flat))]
+    #[tactic(auto, using(crate::proofs::Rows::args_row))]
     pub fn invoke(
         alloc: Global,
         object: Found,
@@ -62,7 +62,7 @@ impl Found {
     }
 
     /// A call of a Str.
-    #[tactic(auto, using(crate::proofs::Rows::args_row, crate::proofs::FlatRows::args_flat))]
+    #[tactic(auto, using(crate::proofs::Rows::args_row))]
     pub fn text_call(
         alloc: Global,
         text: Found,
