@@ -1,13 +1,12 @@
 //! Reading the components of a file.
 ghost use Rattle.std.specs.Prelude.{◌≡◌};
 ghost use Rattle.sed_engine.specs.Whole.{KeepsLimits};
-ghost use Rattle.sed_typed.specs.Classes.{slots};
 ghost use Rattle.sed_wire.specs.Gives.{Gives};
 ghost use Rattle.app_front.specs.RowForm as form;
 
 use crate::rows::FileRow;
 use crate::values::values;
-use sed_typed::{Schema, SlotInfo, TypeNo};
+use sed_typed::{Schema, TypeNo};
 use sed_value::{Id, Items, Name, Value};
 use sed_wire::fields::{mark_1, u1, u2};
 use sed_wire::{Halt, Reader};
@@ -125,17 +124,7 @@ fn config(
     requires { KeepsLimits schema.now }
     ensures { Gives result reader.new ((form.config schema.now.classes kind.0).reads reader.old) }
 {
-    values(alloc, slots_of(schema, kind), reader)
-}
-
-// The slots of a class.
-fn slots_of(schema: &Schema, kind: TypeNo) -> &[SlotInfo]
-    ensures { result.now ≡ slots schema.now.classes kind.0 }
-{
-    match schema.classes.as_slice().get(usize::from(kind.0)) {
-        Some(class) => class.slots.as_slice(),
-        None => &[],
-    }
+    values(alloc, schema.slots_of(kind), reader)
 }
 
 // What ends a component.

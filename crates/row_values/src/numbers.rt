@@ -29,10 +29,7 @@ fn slots_of(schema: &Schema, kind: TypeNo) -> &[SlotInfo]
     ensures slots { result.now ≡ slots schema.now.classes kind.0 }
     ensures few { length result.now ≤ 64 }
 {
-    match schema.classes.as_slice().get(usize::from(kind.0)) {
-        Some(class) => class.slots.as_slice(),
-        None => &[],
-    }
+    schema.slots_of(kind)
 }
 
 // The numbers of the config slots among these.
