@@ -4,6 +4,7 @@ use Rattle.std.specs.List.{flat_map}
 use Rattle.std.specs.Option.{option_map_or}
 use Rattle.sed_units.specs.Tree.{Tree}
 use Rattle.sed_typed.specs.declared.statement.Stmt.{Stmt}
+use Rattle.sed_typed.specs.Flat.{IsFlatStmt}
 use Rattle.sed_typed.specs.Height.{stmt_height}
 use Rattle.sed_faults.specs.declared.fault.Fault.{Fault}
 use Rattle.sed_terms.specs.declared.judged.Fault.{Fault as TermFault}
@@ -66,10 +67,11 @@ body_faults units = flat_map (method_faults units) (methods_of units)
 
 -- ---- bodies
 
--- A tree is that of a method's body, and at most 2,080 levels high. A method without a body has none.
+-- A tree is that of a method's body: flat, so that there is one, and at most 2,080 levels high. A method without a body has
+-- none.
 abbrev pub HasTree : List KitUnits → MethodAt → Option (List Tree) → Option Stmt → Type 0
 HasTree units e None None = Unit {0}
-HasTree units e (Some all) (Some body) = (judged_body units e all ≡ Sound (stmt_term body)) × (stmt_height body ≤ 2080)
+HasTree units e (Some all) (Some body) = (judged_body units e all ≡ Sound (stmt_term body)) × IsFlatStmt body × (stmt_height body ≤ 2080)
 HasTree units e all body = ⊥
 
 abbrev pub IsBodyOf : List KitUnits → MethodAt → Option Stmt → Type 0

@@ -4,6 +4,7 @@ use Rattle.std.specs.List.{flat_map, list_all}
 use Rattle.sed_units.specs.Tree.{Tree}
 use Rattle.sed_units.specs.declared.classes.Member.{Member}
 use Rattle.sed_typed.specs.declared.statement.Stmt.{Stmt}
+use Rattle.sed_typed.specs.Flat.{IsFlatStmt}
 use Rattle.sed_typed.specs.Height.{stmt_height}
 use Rattle.sed_faults.specs.declared.fault.Fault.{Fault}
 use Rattle.sed_faults.specs.Faults.{least}
@@ -47,9 +48,9 @@ fault_in (Unknown fault) = fault
 abbrev pub least_in : {A : Type 0} → Judged A (List TermFault) → Option Fault
 least_in judged = least (map as_fault (faults_in judged))
 
--- a tree is what is found, and at most 2,080 levels high
+-- a tree is what is found, flat, and at most 2,080 levels high
 abbrev pub IsTreeOf : Judged Term (List TermFault) → Option Stmt → Type 0
-IsTreeOf judged (Some body) = (judged ≡ Sound (stmt_term body)) × (stmt_height body ≤ 2080)
+IsTreeOf judged (Some body) = (judged ≡ Sound (stmt_term body)) × IsFlatStmt body × (stmt_height body ≤ 2080)
 IsTreeOf judged None = ⊥
 
 -- a member of the class at a place, which has this number

@@ -1,6 +1,7 @@
 //! What a method is found to be.
 ghost use Rattle.std.specs.Prelude.{◌≡◌, ◌≤◌, true, List, None, IfOk};
 ghost use Rattle.std.specs.Option.{option_map};
+ghost use Rattle.sed_typed.specs.Flat.{IsFlatStmt};
 ghost use Rattle.sed_typed.specs.Height.{stmt_height};
 ghost use Rattle.sed_terms.specs.declared.judged.Fault.{Fault as TheFault};
 ghost use Rattle.sed_terms.specs.declared.judged.Judged.{Judged as TheJudged};
@@ -62,7 +63,9 @@ fn fault_of(judged: Judged<bool, Option<TermFault>>) -> Option<Fault>
 
 // A tree that is no higher than bodies are.
 fn bounded(tree: Stmt) -> Result<Stmt, Memory>
+    requires { IsFlatStmt tree }
     ensures same { IfOk result (λ t. t ≡ tree) }
+    ensures flat { IfOk result (λ t. IsFlatStmt t) }
     ensures height { IfOk result (λ t. stmt_height t ≤ 2080) }
 {
     if is_within(&tree, MOST_LEVELS) {
