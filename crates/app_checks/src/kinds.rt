@@ -2,7 +2,6 @@
 ghost use Rattle.std.specs.Prelude.{◌≡◌, ◌↔◌, not, IsTrue, codes, slice_get, Some};
 ghost use Rattle.sed_typed.specs.Schemas.{type_at as class_numbered};
 ghost use Rattle.sed_engine.specs.Code.{Meaning};
-ghost use Rattle.comp_tree.specs.Refusals.{is_abstract_class, is_for_components as for_components, is_sys_type as sys_type};
 ghost use Rattle.app_checks.specs.Checks.{AreKinds, IsKind};
 ghost use Rattle.app_told.specs.FormedFile.{IsAppRow, IsOtherRow};
 
@@ -59,37 +58,5 @@ fn is_app_class(schema: &Schema, kind: TypeNo) -> bool
 fn is_other(schema: &Schema, row: &FileRow) -> bool
     ensures { (m : Meaning) → m.schema ≡ schema.now → (IsTrue result ↔ IsOtherRow m row.now) }
 {
-    is_for_components(schema, row.kind) && !is_abstract(schema, row.kind)
-}
-
-// Whether components may be made of a class, were it not abstract.
-fn is_for_components(schema: &Schema, kind: TypeNo) -> bool
-    ensures { (m : Meaning) → m.schema ≡ schema.now → result ≡ for_components m kind.0 }
-{
-    match schema.classes.as_slice().get(usize::from(kind.0)) {
-        Some(class) => {
-            class.is_component && !is_sys_type(schema, 2, kind) && !is_sys_type(schema, 3, kind)
-        }
-        None => false,
-    }
-}
-
-// Whether a class is the type of kit `sys` with this number.
-fn is_sys_type(schema: &Schema, number: u8, kind: TypeNo) -> bool
-    ensures { (m : Meaning) → m.schema ≡ schema.now → result ≡ sys_type m number kind.0 }
-{
-    match schema.type_of(0, number) {
-        Some(sys) => sys.0 == kind.0,
-        None => false,
-    }
-}
-
-// Whether a class is abstract.
-fn is_abstract(schema: &Schema, kind: TypeNo) -> bool
-    ensures { (m : Meaning) → m.schema ≡ schema.now → result ≡ is_abstract_class m kind.0 }
-{
-    match schema.classes.as_slice().get(usize::from(kind.0)) {
-        Some(class) => class.is_abstract,
-        None => false,
-    }
+    schema.is_for_components(row.kind) && !schema.is_abstract(row.kind)
 }

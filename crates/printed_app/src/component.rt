@@ -63,7 +63,7 @@ fn put_id_and_fault<O: Sink>(id: Id, fault: u8, out: &mut O) -> Result<(), SinkF
 fn put_class<E: Engine, O: Sink>(tree: &Tree<E>, kind: TypeNo, out: &mut O) -> Result<(), SinkFault>
     ensures { Puts O.Sink out.old out.new (class_text (E.meaning tree.now.engine) kind.0) result }
 {
-    match tree.schema().classes.as_slice().get(usize::from(kind.0)) {
+    match tree.schema().class(kind) {
         Some(class) => put_class_name(tree, class, out),
         None => Ok(()),
     }

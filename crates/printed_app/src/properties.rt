@@ -12,7 +12,7 @@ use comp_tree::Tree;
 use printed_text::{put_bytes, put_property_line};
 use sed_engine::Engine;
 use sed_outside::{Sink, SinkFault};
-use sed_typed::{Schema, SlotForm, SlotInfo, TypeNo};
+use sed_typed::{SlotForm, SlotInfo, TypeNo};
 use sed_value::{Id, SlotBuf, Value, Word};
 
 /// Puts the properties of a component of this class into a sink, in the order of the slots. Takes no memory of its
@@ -27,18 +27,8 @@ pub fn put_properties<E: Engine, O: Sink>(
     ensures { Puts O.Sink out.old out.new
         (property_lines (E.meaning tree.now.engine) (components_of E.Engine tree.now).by_id id.0 kind.0) result }
 {
-    let slots = slots_of(tree.schema(), kind);
+    let slots = tree.schema().slots_of(kind);
     put_slots(tree, id, slots, out)
-}
-
-// The slots of a class.
-fn slots_of(schema: &Schema, kind: TypeNo) -> &[SlotInfo]
-    ensures { result.now ≡ classes.slots schema.now.classes kind.0 }
-{
-    match schema.classes.as_slice().get(usize::from(kind.0)) {
-        Some(class) => class.slots.as_slice(),
-        None => &[],
-    }
 }
 
 // Puts the lines of slots, one after another.
