@@ -7,7 +7,7 @@ ghost use Rattle.comp_tree.specs.Edit.{kit_bytes, schema_bytes};
 ghost use Rattle.sox_msg.specs.Reply.{Puts};
 ghost use Rattle.app_parts.specs.Told.{checksum_bytes, kits_bytes, most_kits};
 
-use crate::put::{put_bytes, put_text, put_u1};
+use crate::put::put_text;
 use sed_typed::Schema;
 use sed_value::KitRef;
 use sed_wire::Writer;
@@ -35,7 +35,7 @@ pub fn put_kits(writer: &mut Writer, schema: &Schema)
     ensures short { length (kits_bytes schema.now.kits) ≤ 465 }
 {
     let kits = schema.kits.as_slice();
-    put_u1(writer, kits.len() as u8);
+    writer.put_u1(kits.len() as u8);
     put_each_kit(writer, kits);
 }
 
@@ -65,5 +65,5 @@ fn put_checksum(writer: &mut Writer, kit: &KitRef)
     requires { 4 ≤ room writer.old }
     ensures { Appends writer.old writer.new (checksum_bytes kit.now) }
 {
-    put_bytes(writer, &kit.checksum.to_be_bytes());
+    writer.put_bytes(&kit.checksum.to_be_bytes());
 }

@@ -19,5 +19,5 @@ pub use kits::{LONGEST_SCHEMA, put_kits, write_schema};
 pub use links::put_link;
 pub use longest::longest_part;
 pub use part::{LONGEST_PART, write_part};
-pub use put::{put_bytes, put_class, put_id, put_text, put_u1, put_u2, put_value, write_value};
+pub use put::{put_class, put_id, put_text, put_value, write_value};
 pub use values::{Values, put_values};

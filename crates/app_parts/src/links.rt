@@ -4,7 +4,6 @@ ghost use Rattle.sed_wire.specs.Writing.{Appends, room};
 ghost use Rattle.std.specs.List.{flat_map};
 ghost use Rattle.comp_tree.specs.Parts.{link_bytes, link_part, links_at};
 
-use crate::put::{put_u1, put_u2};
 use link_prop::App;
 use link_table::LinkRec;
 use sed_engine::Engine;
@@ -20,10 +19,10 @@ pub fn put_link(writer: &mut Writer, link: LinkRec)
     requires { 6 ≤ room writer.old }
     ensures { Appends writer.old writer.new (link_bytes link) }
 {
-    put_u2(writer, link.from.0);
-    put_u1(writer, link.from_slot);
-    put_u2(writer, link.to.0);
-    put_u1(writer, link.to_slot);
+    writer.put_u2(link.from.0);
+    writer.put_u1(link.from_slot);
+    writer.put_u2(link.to.0);
+    writer.put_u1(link.to_slot);
 }
 
 /// Puts the links at a component, in the order of their targets, and the number that no component has: at most 362
@@ -34,7 +33,7 @@ pub fn put_link_part<E: Engine>(writer: &mut Writer, app: &App<E>, id: Id)
     ensures short { length (link_part id.0 app.now.links) ≤ 362 }
 {
     put_links_at(writer, app, id);
-    put_u2(writer, 0xffff);
+    writer.put_u2(0xffff);
 }
 
 // Puts the links at a component.

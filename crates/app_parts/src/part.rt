@@ -11,7 +11,6 @@ ghost use Rattle.sox_msg.specs.Reply.{Puts};
 ghost use Rattle.app_parts.specs.Longest.{longest_part};
 
 use crate::links::put_link_part;
-use crate::put::put_u1;
 use crate::tree::put_tree_part;
 use crate::values::{Values, put_values};
 use comp_tree::Entry;
@@ -59,7 +58,7 @@ fn put_part_told<E: Engine>(writer: &mut Writer, app: &App<E>, id: Id, entry: &E
         b'c' => put_values(writer, app.tree(), id, entry.kind, Values::Config),
         b'r' => put_values(writer, app.tree(), id, entry.kind, Values::Runtime),
         b'l' => put_link_part(writer, app, id),
-        b'f' => put_u1(writer, entry.fault),
+        b'f' => writer.put_u1(entry.fault),
         _ => {}
     }
 }

@@ -3,40 +3,13 @@ ghost use Rattle.std.specs.Prelude.{◌≡◌, ◌≤◌, ◌+◌, ◌++◌, len
 ghost use Rattle.std.specs.Option.{option_map, option_map_or};
 ghost use Rattle.sed_engine.specs.Code.{Meaning};
 ghost use Rattle.sed_wire.specs.Writing.{Appends, room};
-ghost use Rattle.comp_tree.specs.Parts.{class_bytes, no_id, text as ended, u1, u2};
+ghost use Rattle.comp_tree.specs.Parts.{class_bytes, no_id, text as ended, u2};
 ghost use Rattle.comp_tree.specs.Values.{spelling_of};
 ghost use Rattle.sox_msg.specs.Reply.{Puts};
 
 use sed_typed::{Schema, TypeNo};
 use sed_value::{Id, Value};
-use sed_wire::{Full, Writer};
-
-/// Puts bytes. There is room for them.
-pub fn put_bytes(writer: &mut Writer, bytes: &[u8])
-    requires { length bytes.now ≤ room writer.old }
-    ensures { Appends writer.old writer.new bytes.now }
-{
-    match writer.bytes(bytes) {
-        Ok(()) => {}
-        Err(Full) => unreachable!(),
-    }
-}
-
-/// Puts a number in one byte.
-pub fn put_u1(writer: &mut Writer, number: u8)
-    requires { 1 ≤ room writer.old }
-    ensures { Appends writer.old writer.new (u1 number) }
-{
-    put_bytes(writer, &[number]);
-}
-
-/// Puts a number in two bytes, the higher one first.
-pub fn put_u2(writer: &mut Writer, number: u16)
-    requires { 2 ≤ room writer.old }
-    ensures { Appends writer.old writer.new (u2 number) }
-{
-    put_bytes(writer, &number.to_be_bytes());
-}
+use sed_wire::Writer;
 
 /// Puts an id, or the number that no component has.
 pub fn put_id(writer: &mut Writer, id: Option<Id>)
@@ -44,8 +17,8 @@ pub fn put_id(writer: &mut Writer, id: Option<Id>)
     ensures { Appends writer.old writer.new (u2 (option_map_or (λ (i : _). i.0) id no_id)) }
 {
     match id {
-        Some(id) => put_u2(writer, id.0),
-        None => put_u2(writer, 0xffff),
+        Some(id) => writer.put_u2(id.0),
+        None => writer.put_u2(0xffff),
     }
 }
 
@@ -54,8 +27,8 @@ pub fn put_text(writer: &mut Writer, text: &[u8])
     requires { length text.now + 1 ≤ room writer.old }
     ensures { Appends writer.old writer.new (ended text.now) }
 {
-    put_bytes(writer, text);
-    put_bytes(writer, &[0]);
+    writer.put_bytes(text);
+    writer.put_bytes(&[0]);
 }
 
 /// Puts the kit of a class and its number there; nothing where the schema has no such class.
@@ -64,8 +37,8 @@ pub fn put_class(writer: &mut Writer, schema: &Schema, kind: TypeNo)
     ensures { (m : Meaning) → m.schema ≡ schema.now → Appends writer.old writer.new (class_bytes m kind.0) }
 {
     if let Some((kit, number)) = numbers_of(schema, kind) {
-        put_u1(writer, kit);
-        put_u1(writer, number);
+        writer.put_u1(kit);
+        writer.put_u1(number);
     }
 }
 
@@ -85,11 +58,11 @@ pub fn put_value(writer: &mut Writer, value: &Value)
     ensures { Appends writer.old writer.new (spelling_of value.now) }
 {
     match value {
-        Value::Bool(truth) => put_u1(writer, *truth),
-        Value::Byte(number) => put_u1(writer, *number),
-        Value::Short(number) => put_u2(writer, *number),
-        Value::Int(number) => put_bytes(writer, &number.to_be_bytes()),
-        Value::Long(number) => put_bytes(writer, &number.to_be_bytes()),
+        Value::Bool(truth) => writer.put_u1(*truth),
+        Value::Byte(number) => writer.put_u1(*number),
+        Value::Short(number) => writer.put_u2(*number),
+        Value::Int(number) => writer.put_bytes(&number.to_be_bytes()),
+        Value::Long(number) => writer.put_bytes(&number.to_be_bytes()),
         Value::Buf(contents) => put_contents(writer, contents.as_bytes()),
         Value::Nothing => {}
     }
@@ -101,8 +74,8 @@ fn put_contents(writer: &mut Writer, contents: &[u8])
     requires room { 2 + length contents.now ≤ room writer.old }
     ensures { Appends writer.old writer.new (u2 (length contents.now) ++ contents.now) }
 {
-    put_u2(writer, contents.len() as u16);
-    put_bytes(writer, contents);
+    writer.put_u2(contents.len() as u16);
+    writer.put_bytes(contents);
 }
 
 /// Puts what spells a value in front of `into`, and says how many bytes these are; what stood behind them stays.

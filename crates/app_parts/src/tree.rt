@@ -7,7 +7,7 @@ ghost use Rattle.comp_tree.specs.Held.{components_of};
 ghost use Rattle.comp_tree.specs.Parts.{u2};
 ghost use Rattle.app_parts.specs.Told.{tree_bytes};
 
-use crate::put::{put_class, put_id, put_text, put_u1, put_u2};
+use crate::put::{put_class, put_id, put_text};
 use comp_tree::{Entry, Tree};
 use sed_engine::Engine;
 use sed_value::Id;
@@ -25,8 +25,8 @@ pub fn put_tree_part<E: Engine>(writer: &mut Writer, tree: &Tree<E>, id: Id, ent
     put_class(writer, tree.schema(), entry.kind);
     put_text(writer, entry.name.as_bytes());
     put_id(writer, entry.parent);
-    put_u1(writer, 255);
-    put_u1(writer, entry.children);
+    writer.put_u1(255);
+    writer.put_u1(entry.children);
     put_children(writer, tree, id, entry.children);
 }
 
@@ -38,7 +38,7 @@ fn put_children<E: Engine>(writer: &mut Writer, tree: &Tree<E>, id: Id, count: u
 {
     for n in 0..count {
         match tree.child(id, n) {
-            Some(child) => put_u2(writer, child.0),
+            Some(child) => writer.put_u2(child.0),
             None => unreachable!(),
         }
     }

@@ -5,10 +5,10 @@ use Rattle.std.specs.List.{flat_map}
 use Rattle.sed_engine.specs.Code.{Meaning}
 use Rattle.sed_wire.specs.declared.writer.Writer.{Writer}
 use Rattle.sed_wire.specs.Writing.{Appends, room}
-use Rattle.sox_msg.proofs.WritingLemmas.{room-after}
 use Rattle.comp_tree.specs.Application.{Application, ById, Link}
 use Rattle.comp_tree.specs.Parts.{link_bytes, no_id, text, u1, u2}
 use Rattle.app_file.specs.Text.{app_text, front_text, greatest_of, version}
+use Rattle.sed_wire.proofs.WritingLemmas.{room-after}
 use Rattle.app_writer.specs.Written.{components_text, links_text, rows_text, tree_text}
 
 -- what is put takes its room

@@ -5,7 +5,7 @@ ghost use Rattle.app_parts.specs.Told.{most_kits};
 ghost use Rattle.sed_wire.specs.Writing.{Appends, room};
 ghost use Rattle.sox_msg.specs.Reply.{Puts};
 
-use app_parts::{put_bytes, put_kits};
+use app_parts::put_kits;
 use sed_typed::Schema;
 use sed_wire::Writer;
 
@@ -42,5 +42,5 @@ fn put_u4(writer: &mut Writer, number: u32)
     requires { 4 ≤ room writer.old }
     ensures { Appends writer.old writer.new (u4 number) }
 {
-    put_bytes(writer, &number.to_be_bytes());
+    writer.put_bytes(&number.to_be_bytes());
 }

@@ -8,7 +8,7 @@ ghost use Rattle.sox_msg.specs.Reply.{Puts};
 ghost use Rattle.app_writer.specs.Written.{found_text, head_text, ids_text, row_at};
 
 use crate::ids::sibling_of;
-use app_parts::{Values, put_class, put_id, put_text, put_u1, put_u2, put_values};
+use app_parts::{Values, put_class, put_id, put_text, put_values};
 use comp_tree::{Entry, Tree};
 use sed_engine::Engine;
 use sed_value::Id;
@@ -62,7 +62,7 @@ fn put_found<E: Engine>(
     put_head(writer, tree, id, entry);
     put_ids(writer, entry.parent, first_child, next_sibling);
     put_values(writer, tree, id, entry.kind, Values::Config);
-    put_u1(writer, 0x3b);
+    writer.put_u1(0x3b);
 }
 
 // Puts an id, a class and a name: at most 36 bytes.
@@ -71,7 +71,7 @@ fn put_head<E: Engine>(writer: &mut Writer, tree: &Tree<E>, id: Id, entry: &Entr
     ensures bytes { Appends writer.old writer.new (head_text (E.meaning tree.now.engine) id.0 entry.now) }
     ensures short { length (head_text (E.meaning tree.now.engine) id.0 entry.now) ≤ 36 }
 {
-    put_u2(writer, id.0);
+    writer.put_u2(id.0);
     put_class(writer, tree.schema(), entry.kind);
     put_text(writer, entry.name.as_bytes());
 }

@@ -13,7 +13,7 @@ use crate::full::AppFull;
 use crate::ids::end_of_ids;
 use crate::measure::text_length;
 use crate::row::write_row;
-use app_parts::{put_bytes, put_link, put_u1, put_u2};
+use app_parts::put_link;
 use comp_tree::Tree;
 use link_prop::App;
 use sed_engine::Engine;
@@ -61,8 +61,8 @@ fn put_file<E: Engine>(writer: &mut Writer, app: &App<E>)
 {
     put_tree(writer, app.tree());
     put_links(writer, app);
-    put_u2(writer, 0xffff);
-    put_u1(writer, 0x2e);
+    writer.put_u2(0xffff);
+    writer.put_u1(0x2e);
 }
 
 // Puts the front, and the components.
@@ -82,7 +82,7 @@ fn put_front(writer: &mut Writer, schema: &Schema)
 {
     let mut bytes = [0; 473];
     let count = write_front(schema, &mut bytes);
-    put_bytes(writer, &bytes[..count]);
+    writer.put_bytes(&bytes[..count]);
 }
 
 // Puts the greatest id, the components, and the number that ends them.
@@ -90,9 +90,9 @@ fn put_components<E: Engine>(writer: &mut Writer, tree: &Tree<E>)
     requires { length (components_text (E.meaning tree.now.engine) (components_of E.Engine tree.now).by_id) ≤ room writer.old }
     ensures { Appends writer.old writer.new (components_text (E.meaning tree.now.engine) (components_of E.Engine tree.now).by_id) }
 {
-    put_u2(writer, tree.greatest().0);
+    writer.put_u2(tree.greatest().0);
     put_rows(writer, tree);
-    put_u2(writer, 0xffff);
+    writer.put_u2(0xffff);
 }
 
 // Puts the rows of all components, in ascending order of their ids.
@@ -112,7 +112,7 @@ fn put_row_at<E: Engine>(writer: &mut Writer, tree: &Tree<E>, id: Id)
 {
     let mut bytes = [0; 443];
     let count = write_row(tree, id, &mut bytes);
-    put_bytes(writer, &bytes[..count]);
+    writer.put_bytes(&bytes[..count]);
 }
 
 // Puts the links.

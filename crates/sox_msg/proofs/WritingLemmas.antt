@@ -4,7 +4,6 @@ use Rattle.std.proofs.lemmas.Bool.Decides.{nat_tests}
 use Rattle.sed_wire.specs.declared.writer.Writer.{Writer}
 use Rattle.sed_wire.specs.Number.{SpellsNumber}
 use Rattle.sed_wire.specs.Writing.{Appends, Writes}
-pub use Rattle.sed_wire.proofs.WritingLemmas.{room-after}
 use Rattle.sox_msg.specs.Command.{u2}
 
 -- a number in two bytes is spelled one way

@@ -1,7 +1,7 @@
 use Rattle.std.proofs.Common.{length, ap, arith, length-append}
 use Rattle.std.specs.List.{flat_map}
-use Rattle.sox_msg.proofs.WritingLemmas.{room-after}
 use Rattle.comp_tree.specs.Edit.{kit_bytes}
+use Rattle.sed_wire.proofs.WritingLemmas.{room-after}
 use Rattle.app_parts.proofs.SoFar.{all_put, flat_map-end, length-so_far, next_item, none_yet}
 use Rattle.app_parts.proofs.kits.put_each_kit.Goals as goal
 

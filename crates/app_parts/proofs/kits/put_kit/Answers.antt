@@ -1,7 +1,6 @@
 use Rattle.std.proofs.Common.{ℕ, List, [], ◌∷◌, length, ap, subst, arith, length-append}
 use Rattle.sed_wire.specs.Writing.{Appends}
-use Rattle.sed_wire.proofs.WritingLemmas.{appends-then}
-use Rattle.sox_msg.proofs.WritingLemmas.{room-after}
+use Rattle.sed_wire.proofs.WritingLemmas.{appends-then, room-after}
 use Rattle.comp_tree.specs.Parts.{text}
 use Rattle.app_parts.specs.Told.{checksum_bytes}
 use Rattle.app_parts.proofs.ValueLemmas.{kit_name_short}

@@ -5,7 +5,7 @@ use Rattle.comp_tree.specs.Parts.{link_bytes, links_at, no_id, u2}
 use Rattle.app_parts.proofs.links.put_link_part.Goals as goal
 
 pub returns-clause-bytes : goal.returns-clause-bytes
-returns-clause-bytes g c = appends-then _ _ _ (flat_map link_bytes (links_at c.args.id.0 c.args.app.now.links)) (u2 no_id) c.put_links_at.ensures.bytes c.put_u2.ensures
+returns-clause-bytes g c = appends-then _ _ _ (flat_map link_bytes (links_at c.args.id.0 c.args.app.now.links)) (u2 no_id) c.put_links_at.ensures.bytes c.put_u2.ensures.bytes
 
 pub returns-clause-short : goal.returns-clause-short
 returns-clause-short g c =

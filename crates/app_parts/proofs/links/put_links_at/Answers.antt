@@ -1,7 +1,7 @@
 use Rattle.std.proofs.Common.{◌≡◌, length, arith, sym, ap, refl, length-append}
 use Rattle.std.specs.List.{flat_map}
-use Rattle.sox_msg.proofs.WritingLemmas.{room-after}
 use Rattle.comp_tree.specs.Parts.{link_bytes, links_at}
+use Rattle.sed_wire.proofs.WritingLemmas.{room-after}
 use Rattle.app_parts.proofs.SoFar.{all_put, flat_map-end, length-so_far, next_got, none_more, none_yet}
 use Rattle.app_parts.proofs.links.put_links_at.Goals as goal
 

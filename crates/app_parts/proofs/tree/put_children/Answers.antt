@@ -1,8 +1,8 @@
 use Rattle.std.proofs.Common.{◌≡◌, length, arith, sym, refl}
-use Rattle.sox_msg.proofs.WritingLemmas.{room-after}
 use Rattle.comp_tree.specs.Application.{children_of}
 use Rattle.comp_tree.specs.Held.{components_of}
 use Rattle.comp_tree.specs.Parts.{u2}
+use Rattle.sed_wire.proofs.WritingLemmas.{room-after}
 use Rattle.app_parts.proofs.SoFar.{next_got}
 use Rattle.app_parts.proofs.tree.put_children.Goals as goal
 
@@ -12,5 +12,5 @@ loop-n-preserved g c =
     let s = c.loop-n.invariant in
     let two : length (u2 c.in-Some.child.0) ≡ 2 = refl in
     let room = s.1 in
-    let after = room-after _ _ (u2 c.in-Some.child.0) c.put_u2.ensures in
-    (next_got u2 _ _ _ children c.loop-n.n c.in-Some.child.0 s.0 c.put_u2.ensures (sym c.in-Some.ensures), omega (arith, two, room, after))
+    let after = room-after _ _ (u2 c.in-Some.child.0) c.put_u2.ensures.bytes in
+    (next_got u2 _ _ _ children c.loop-n.n c.in-Some.child.0 s.0 c.put_u2.ensures.bytes (sym c.in-Some.ensures), omega (arith, two, room, after))

@@ -4,8 +4,7 @@ use Rattle.std.specs.Option.{option_map_or}
 use Rattle.sed_value.specs.Names.{is_name}
 use Rattle.sed_value.specs.declared.id.Id.{Id}
 use Rattle.sed_wire.specs.Writing.{Appends}
-use Rattle.sed_wire.proofs.WritingLemmas.{appends-then}
-use Rattle.sox_msg.proofs.WritingLemmas.{room-after}
+use Rattle.sed_wire.proofs.WritingLemmas.{appends-then, room-after}
 use Rattle.comp_tree.specs.Parts.{class_bytes, no_id, text, u1, u2}
 use Rattle.comp_tree.specs.Application.{children_of}
 use Rattle.comp_tree.specs.Held.{components_of}
@@ -63,7 +62,7 @@ put_u1-requires-2 g c =
     let r2 = room-after _ _ (text name) c.put_text.ensures in
     let k2 = length-append name (0 ∷ []) in
     let r3 = room-after _ _ (u2 (option_map_or (λ (i : Id). i.0) c.args.entry.now.parent no_id)) c.put_id.ensures in
-    let r4 = room-after _ _ (u1 255) c.put_u1.ensures in
+    let r4 = room-after _ _ (u1 255) c.put_u1.ensures.bytes in
     omega (arith, r1, k1, short, start, r2, k2, r3, r4)
 
 pub put_children-requires-clause-room : goal.put_children-requires-clause-room
@@ -78,8 +77,8 @@ put_children-requires-clause-room g c =
     let r2 = room-after _ _ (text name) c.put_text.ensures in
     let k2 = length-append name (0 ∷ []) in
     let r3 = room-after _ _ (u2 (option_map_or (λ (i : Id). i.0) c.args.entry.now.parent no_id)) c.put_id.ensures in
-    let r4 = room-after _ _ (u1 255) c.put_u1.ensures in
-    let r5 = room-after _ _ (u1 c.args.entry.now.children) c.put_u1-2.ensures in
+    let r4 = room-after _ _ (u1 255) c.put_u1.ensures.bytes in
+    let r5 = room-after _ _ (u1 c.args.entry.now.children) c.put_u1-2.ensures.bytes in
     let few = c.requires.few in
     omega (arith, r1, k1, short, start, r2, k2, r3, r4, r5, few)
 
@@ -88,7 +87,7 @@ returns-clause-bytes g c =
     let m = g.E.Engine.meaning c.args.tree.now.engine in
     let class = c.put_class.ensures m (sym c.schema.ensures.same) in
     let name = subst (λ (n : List ℕ). Appends c.put_class.new.writer c.put_text.new.writer (text n)) c.as_bytes.ensures.same c.put_text.ensures in
-    appends-then _ _ _ _ _ (appends-then _ _ _ _ _ (appends-then _ _ _ _ _ (appends-then _ _ _ _ _ (appends-then _ _ _ _ _ class name) c.put_id.ensures) c.put_u1.ensures) c.put_u1-2.ensures) c.put_children.ensures
+    appends-then _ _ _ _ _ (appends-then _ _ _ _ _ (appends-then _ _ _ _ _ (appends-then _ _ _ _ _ (appends-then _ _ _ _ _ class name) c.put_id.ensures) c.put_u1.ensures.bytes) c.put_u1-2.ensures.bytes) c.put_children.ensures
 
 pub returns-clause-short : goal.returns-clause-short
 returns-clause-short g c =

@@ -2,9 +2,9 @@ use Rattle.std.proofs.Common.{◌≡◌, ◌<◌, ◌≤◌, ◌+◌, length, dr
 use Rattle.sed_typed.specs.declared.schema.Schema.{Schema}
 use Rattle.sed_typed.specs.Classes.{slots}
 use Rattle.sed_wire.specs.Writing.{Appends}
-use Rattle.sox_msg.proofs.WritingLemmas.{room-after}
 use Rattle.comp_tree.specs.Application.{value_at}
 use Rattle.comp_tree.specs.Held.{components_of}
+use Rattle.sed_wire.proofs.WritingLemmas.{room-after}
 use Rattle.app_parts.specs.Values.{is_told, slot_bytes}
 use Rattle.app_parts.proofs.Lengths.{fits_longest, most_400, sizes_are}
 use Rattle.app_parts.proofs.SoFar.{all_put, length-so_far, none_yet, one_more}

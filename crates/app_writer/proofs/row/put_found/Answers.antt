@@ -39,4 +39,4 @@ put_u1-requires g c =
 pub returns : goal.returns
 returns g c =
     let m = g.E.Engine.meaning c.args.tree.now.engine in
-    appends-then _ _ _ _ _ (appends-then _ _ _ _ _ (appends-then _ _ _ _ _ c.put_head.ensures.bytes c.put_ids.ensures) c.put_values.ensures.bytes) c.put_u1.ensures
+    appends-then _ _ _ _ _ (appends-then _ _ _ _ _ (appends-then _ _ _ _ _ c.put_head.ensures.bytes c.put_ids.ensures) c.put_values.ensures.bytes) c.put_u1.ensures.bytes

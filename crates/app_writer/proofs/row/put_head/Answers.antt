@@ -11,14 +11,14 @@ use Rattle.app_writer.proofs.row.put_head.Goals as goal
 pub put_class-requires : goal.put_class-requires
 put_class-requires g c =
     let start = c.requires in
-    let id = room-left _ _ (u2 c.args.id.0) c.put_u2.ensures (omega (arith, start)) in
+    let id = room-left _ _ (u2 c.args.id.0) c.put_u2.ensures.bytes (omega (arith, start)) in
     omega (arith, start, id)
 
 pub put_text-requires : goal.put_text-requires
 put_text-requires g c =
     let m = g.E.Engine.meaning c.args.tree.now.engine in
     let start = c.requires in
-    let id = room-left _ _ (u2 c.args.id.0) c.put_u2.ensures (omega (arith, start)) in
+    let id = room-left _ _ (u2 c.args.id.0) c.put_u2.ensures.bytes (omega (arith, start)) in
     let few = class_short m c.args.entry.now.kind.0 in
     let class = room-left _ _ (class_bytes m c.args.entry.now.kind.0) (c.put_class.ensures m (sym c.schema.ensures.same)) (omega (arith, start, id, few)) in
     let short = name_short c.as_bytes.result.now (subst (λ (n : List ℕ). IsTrue (is_name n)) (sym c.as_bytes.ensures.same) c.as_bytes.ensures.form) in
@@ -28,7 +28,7 @@ pub returns-clause-bytes : goal.returns-clause-bytes
 returns-clause-bytes g c =
     let m = g.E.Engine.meaning c.args.tree.now.engine in
     let name = subst (λ (n : List ℕ). Appends c.put_class.new.writer c.put_text.new.writer (text n)) c.as_bytes.ensures.same c.put_text.ensures in
-    appends-then _ _ _ _ _ (appends-then _ _ _ _ _ c.put_u2.ensures (c.put_class.ensures m (sym c.schema.ensures.same))) name
+    appends-then _ _ _ _ _ (appends-then _ _ _ _ _ c.put_u2.ensures.bytes (c.put_class.ensures m (sym c.schema.ensures.same))) name
 
 pub returns-clause-short : goal.returns-clause-short
 returns-clause-short g c =

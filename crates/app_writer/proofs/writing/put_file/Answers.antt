@@ -45,11 +45,11 @@ put_u1-requires g c =
     let many = links-length a.links in
     let links = room-left _ _ (links_text a.links) c.put_links.ensures (omega (arith, whole, fits, tree, many)) in
     let two : length (u2 no_id) ≡ 2 = refl in
-    let none = room-left _ _ (u2 no_id) c.put_u2.ensures (omega (arith, whole, fits, tree, many, links, two)) in
+    let none = room-left _ _ (u2 no_id) c.put_u2.ensures.bytes (omega (arith, whole, fits, tree, many, links, two)) in
     omega (arith, whole, fits, tree, many, links, two, none)
 
 pub returns : goal.returns
 returns g c =
     let m = g.E.Engine.meaning c.args.app.now.tree.engine in
-    subst (Appends c.args.writer.now c.put_u1.new.writer) (text-parts m (application_of g.E.Engine c.args.app.now))
-    (appends-then _ _ _ _ _ (appends-then _ _ _ _ _ (appends-then _ _ _ _ _ (subst (λ (h : Held _). Appends c.args.writer.now c.put_tree.new.writer (tree_text (g.E.Engine.meaning h.engine) (components_of g.E.Engine h).by_id)) c.tree.ensures c.put_tree.ensures) c.put_links.ensures) c.put_u2.ensures) c.put_u1.ensures)
+    subst (Appends c.args.writer.now c.put_u1.new.self) (text-parts m (application_of g.E.Engine c.args.app.now))
+    (appends-then _ _ _ _ _ (appends-then _ _ _ _ _ (appends-then _ _ _ _ _ (subst (λ (h : Held _). Appends c.args.writer.now c.put_tree.new.writer (tree_text (g.E.Engine.meaning h.engine) (components_of g.E.Engine h).by_id)) c.tree.ensures c.put_tree.ensures) c.put_links.ensures) c.put_u2.ensures.bytes) c.put_u1.ensures.bytes)

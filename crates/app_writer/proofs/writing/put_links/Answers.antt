@@ -1,6 +1,6 @@
 use Rattle.std.proofs.Common.{◌≡◌, length, refl, sym, arith}
-use Rattle.sox_msg.proofs.WritingLemmas.{room-after}
 use Rattle.comp_tree.specs.Parts.{link_bytes}
+use Rattle.sed_wire.proofs.WritingLemmas.{room-after}
 use Rattle.app_parts.proofs.SoFar.{next_got}
 use Rattle.app_writer.proofs.writing.put_links.Goals as goal
 
