@@ -470,7 +470,7 @@ links::eval_text_call-returns-clause-end t c =
     let class = c.args.class in
     let w : Setting = setting_of plan class c.args.frames in
     let s : State = state_of plan class c.args.store.now c.args.locals.now in
-    c.call.ensures.end c.args.frames (map (seen plan class) c.eval_args.new.locals)
+    c.call.ensures.end (map (seen plan class) c.eval_args.new.locals)
     ∙ ap (λ (r : End (List Val)). then_do r (λ xs s1. text_call w.program.texts c.args.op (seen plan class c.args.value) xs s1)) c.in_ok-eval_args.ensures.end
 
 pub expressions::update_local-returns-in_err-operand-clause-end : goal.expressions::update_local-returns-in_err-operand-clause-end
