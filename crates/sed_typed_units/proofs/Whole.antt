@@ -7,6 +7,7 @@ use Rattle.sed_typed.specs.declared.program.Program.{Program}
 use Rattle.sed_typed.specs.Classes.{declared_method}
 use Rattle.sed_typed.specs.Typed.{IsBody, IsMethod, IsText, Typed}
 use Rattle.sed_typed.specs.TypedSchema.{HasKits}
+use Rattle.sed_typed.specs.Virtual.{AreCounted}
 use Rattle.sed_units.specs.declared.classes.Member.{Member}
 use Rattle.sed_classes.specs.declared.kit_units.KitUnits.{KitUnits}
 use Rattle.sed_classes.specs.Declarations.{all_classes}
@@ -71,10 +72,10 @@ heads units program f o p = record {
       none_declared units program o p class name h (omega arith);
 }
 
-pub typed : (units : List KitUnits) (program : Program) → Unbroken units → KitsNamed units → AreSpelled units →
+pub typed : AreCounted → (units : List KitUnits) (program : Program) → Unbroken units → KitsNamed units → AreSpelled units →
     SpellBytes (flat_map literals_of (all_classes units)) → IsOutlined units program → EmptyStays units program →
     All (λ (m : Method). IfSome m.body (IsBody program m)) program.methods → Typed program
-typed units program u named spelled bytes p empty bodied =
+typed counted units program u named spelled bytes p empty bodied =
     let o : IsOrdered units program = ordered units u program p.schema p.fields in
     let f : AreFree units = are_free units program u o in
     let methods : All (IsTypedHead program) program.methods = methods_typed units program f o p in
@@ -90,9 +91,9 @@ typed units program u named spelled bytes p empty bodied =
           p.fields
           f.free
           (heads units program f o p)
-          (has_members units program f o p)
+          (has_members counted units program f o p)
           class;
-      members = has_members units program f o p;
+      members = has_members counted units program f o p;
       sys = λ class. has_sys_members units u program p.fields p.statics p.methods empty p.schema class;
       fields = fields_typed units program f spelled o p;
       fields_by_class = by_class units u program p.schema p.fields;

@@ -14,6 +14,8 @@ ghost use Rattle.sed_class_laws.specs.Texts.{SpellBytes};
 ghost use Rattle.sed_class_laws.specs.Empty.{EmptyStays};
 ghost use Rattle.sed_member_laws.specs.Literals.{AreSpelled};
 
+use sed_typed::virtual_names_are_counted;
+
 /// The program that units spell is typed, where they break no rule on what they declare, and its bodies are typed.
 ///
 /// Of the names of kits and of the literals, of which no rule on declarations speaks, it asks what the readers of
@@ -22,4 +24,6 @@ pub fn what_units_spell_is_typed()
     ensures { (units : List KitUnits) (program : Program) → Unbroken units → KitsNamed units → AreSpelled units
         → SpellBytes (flat_map literals_of (all_classes units)) → IsOutlined units program → EmptyStays units program
         → All (λ (m : Method). IfSome m.body (IsBody program m)) program.methods → Typed program }
-{}
+{
+    virtual_names_are_counted();
+}
