@@ -3,7 +3,7 @@ use Rattle.std.specs.Prelude.{ℕ, ◌==◌, ◌||◌, Bool, List, refl}
 use Rattle.sed_value.specs.Names.{is_kit_name}
 use Rattle.sed_value.specs.declared.kit.KitRef.{KitRef}
 use Rattle.sed_wire.specs.Form.{Form, seen_as, only, ◌&◌}
-use Rattle.sed_wire.specs.Leaves.{u1, u4, signed, mark, text}
+use Rattle.sed_wire.specs.Leaves.{u1, u4, i4, mark, text}
 use Rattle.sed_wire.specs.Row.{counted}
 use Rattle.app_front.specs.declared.front.Front.{Front}
 
@@ -24,7 +24,7 @@ kit_name = only is_kit_name text
 unfoldable pub kit : Form KitRef
 kit =
     seen_as (λ k. record { name = k.0; checksum = k.1 }) (λ k. (k.name, k.checksum)) (λ k. refl)
-    (kit_name & signed) (λ k bytes h. refl)
+    (kit_name & i4) (λ k bytes h. refl)
 
 unfoldable pub front : Form Front
 front =

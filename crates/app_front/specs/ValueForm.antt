@@ -20,7 +20,7 @@ use Rattle.sed_wire.proofs.ValueLemmas.{one_value}
 use Rattle.prop_values.specs.Values.{value_of}
 use Rattle.prop_values.proofs.ReadLemmas.{found}
 use Rattle.sed_wire.specs.Form.{Form, begins_again, field, found_eq, given, not_found, not_stuck, stuck_eq, then}
-use Rattle.sed_wire.specs.FormReading.{Found, Stuck, Reads}
+use Rattle.sed_wire.specs.FormReading.{Found, Stuck, ReadsAs}
 use Rattle.sed_wire.specs.Row.{listed}
 use Rattle.sed_wire.specs.FormSpelling.{Begins}
 
@@ -33,7 +33,7 @@ value_front t bytes = take (size_of t bytes) bytes
 abbrev pub is_value : SlotType → List ℕ → Bool
 is_value t front = are_bytes front && is_of_type t (value_of t front)
 
-abbrev pub value_reads : SlotType → Reads Value
+abbrev pub value_reads : SlotType → ReadsAs Value
 value_reads t bytes =
     cond (nat_le (size_of t bytes) (length bytes) && is_value t (value_front t bytes))
     (Found (value_of t (value_front t bytes)) (drop (size_of t bytes) bytes)) (Stuck bytes)

@@ -11,7 +11,7 @@ use Rattle.scode_image.specs.declared.image.ImageMethod.{ImageMethod}
 use Rattle.scode_image.specs.declared.image.ImageEntry.{ImageEntry}
 use Rattle.scode_image.specs.declared.image.ImageKind.{ImageKind}
 use Rattle.sed_wire.specs.Form.{Form, then, ◌&◌, given, sized}
-use Rattle.sed_wire.specs.Leaves.{u1, u2, signed, run, counted_run, text}
+use Rattle.sed_wire.specs.Leaves.{u1, u2, i4, run, counted_run, text}
 use Rattle.sed_wire.specs.Row.{times, counted}
 use Rattle.scode_image.specs.Grammar.{u1_to, u2_from, kit, field_form, slot_form, field, slot, data_size, class_body, class_size, sized_body, class, kind_class, kind, entry, entries, length-entries, counted_entries, behind_locals, method, block_size, block, size-block, statics, head, version, end, literal, image}
 use Rattle.scode_image.specs.Steps.{Puts}
@@ -33,9 +33,9 @@ pub counted_run_puts : (count : Form ℕ) (r : List ℕ) (n : ℕ) (old middle n
 counted_run_puts count r n old middle new long first second =
     then_puts count (λ k. run k) (length r) r old middle new (puts_same count n (length r) old middle long first) (second (length r))
 
-pub kit_puts : (k : ImageKit) (old a new : List ℕ) → Puts text k.name old a → Puts signed k.checksum a new → Puts kit k old new
+pub kit_puts : (k : ImageKit) (old a new : List ℕ) → Puts text k.name old a → Puts i4 k.checksum a new → Puts kit k old new
 unfolding kit
-kit_puts k old a new p q = then_puts text (λ _. signed) k.name k.checksum old a new p q
+kit_puts k old a new p q = then_puts text (λ _. i4) k.name k.checksum old a new p q
 
 u1_to_puts : (most n : ℕ) (old new : List ℕ) → Puts u1 n old new → Puts (u1_to most) n old new
 unfolding u1_to

@@ -8,7 +8,7 @@ use Rattle.sed_wire.proofs.FrontLemmas.{one_number, one_signed, number_of-below}
 use Rattle.sed_wire.proofs.NumberLemmas.{written_spells, written_spells_signed}
 use Rattle.sed_wire.proofs.ReadingLemmas.{one_byte}
 use Rattle.sed_wire.specs.Form.{Form, then, only}
-use Rattle.sed_wire.specs.Leaves.{u1, u2, signed, run, text}
+use Rattle.sed_wire.specs.Leaves.{u1, u2, i4, run, text}
 use Rattle.scode_image.specs.Grammar.{head, version, end}
 use Rattle.sed_wire.specs.Row.{row}
 use Rattle.scode_image.specs.Steps.{Puts}
@@ -41,7 +41,7 @@ pub no_u2 : (n : ℕ) (old new : List ℕ) → 65535 < n → Puts u2 n old new
 unfolding u2
 no_u2 n old new above bytes is = let below : n < 256 ^ 2 = number-below 2 n bytes is in absurd (omega (arith, above, below))
 
-pub signed_puts : (n : ℤ) (old new : List ℕ) → new ≡ old ++ to_be_bytes w32 (cast_unsigned w32 n) → Puts signed n old new
+pub signed_puts : (n : ℤ) (old new : List ℕ) → new ≡ old ++ to_be_bytes w32 (cast_unsigned w32 n) → Puts i4 n old new
 signed_puts n old new put bytes is =
     let written : SpellsSigned w32 n (to_be_bytes w32 (cast_unsigned w32 n)) = written_spells_signed w32 n is.fits in
     behind old new (to_be_bytes w32 (cast_unsigned w32 n)) bytes put (one_signed w32 n (to_be_bytes w32 (cast_unsigned w32 n)) bytes written is)
@@ -145,6 +145,6 @@ pub puts_same : {A : Type 0} (form : Form A) (a b : A) (old new : List ℕ) → 
 puts_same {A} form a b old new same put = subst (λ (x : A). Puts form x old new) same put
 
 -- a signed number that went through its bits
-pub signed_through : (n : ℤ) (old new : List ℕ) → Puts signed (to_z w32 (of_z w32 n)) old new → Puts signed n old new
+pub signed_through : (n : ℤ) (old new : List ℕ) → Puts i4 (to_z w32 (of_z w32 n)) old new → Puts i4 n old new
 signed_through n old new put bytes is =
     put bytes (subst (λ (m : ℤ). SpellsSigned w32 m bytes) (sym (to_z-of_z w32 n is.fits)) is)

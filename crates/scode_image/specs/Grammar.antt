@@ -11,7 +11,7 @@ use Rattle.scode_image.specs.declared.image.ImageEntry.{ImageEntry}
 use Rattle.scode_image.specs.declared.image.ImageKind.{ImageKind}
 use Rattle.sed_wire.specs.FormSpelling.{Begins}
 use Rattle.sed_wire.specs.Form.{Form, seen_as, only, given, then, sized, ◌&◌}
-use Rattle.sed_wire.specs.Leaves.{u1, u2, signed, mark, run, counted_run, text}
+use Rattle.sed_wire.specs.Leaves.{u1, u2, i4, mark, run, counted_run, text}
 use Rattle.sed_wire.specs.Row.{row, length-row, times, counted}
 
 -- a number that is at most so much, and one that is at least
@@ -26,7 +26,7 @@ u2_from least = only (λ n. nat_le least n) u2
 unfoldable pub kit : Form ImageKit
 kit =
     seen_as (λ k. record { name = k.0; checksum = k.1 }) (λ k. (k.name, k.checksum)) (λ k. refl)
-    (text & signed) (λ k s h. refl)
+    (text & i4) (λ k s h. refl)
 
 -- ---- fields and slots
 

@@ -41,7 +41,7 @@ pub(crate) fn put_count(into: &mut Vec<u8>, count: usize) -> Result<(), Memory>
 }
 
 pub(crate) fn put_i4(into: &mut Vec<u8>, number: i32) -> Result<(), Memory>
-    ensures { OnOk result (Puts leaf.signed number into.old.items into.new.items) }
+    ensures { OnOk result (Puts leaf.i4 number into.old.items into.new.items) }
 {
     into.extend_from_slice(&number.to_be_bytes())?;
     Ok(())

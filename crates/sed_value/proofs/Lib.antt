@@ -4,3 +4,8 @@ pub mod InPlaceLemmas
 pub mod ByteLemmas
 pub mod ShownLemmas
 pub mod WrapLemmas
+pub mod Truths
+pub mod Options
+pub mod Lists
+pub mod Orders
+pub mod Found

@@ -1,4 +1,5 @@
--- What lower readers give, as the forms read it.
+-- What a reader of bytes gives, as the readings of the fields: where it reads a thing the field is found, where it refuses
+-- reading gets stuck.
 use Rattle.std.proofs.Common.{◌≡◌, ℕ, ◌<◌, false, cond, List, ◌++◌, length, Result, Err, IsOkAnd, subst, refl, ap, ◌∙◌, arith}
 use Rattle.std.specs.Prelude.{nat_le, ◌&&◌, take, drop, ℤ}
 use Rattle.std.specs.Int.{w32}
@@ -8,13 +9,13 @@ use Rattle.sed_wire.specs.Reading.{Reads}
 use Rattle.sed_wire.specs.Text.{SpellsText}
 use Rattle.sed_wire.specs.declared.fault.StrFault.{StrFault}
 use Rattle.sed_wire.specs.FormReading.{Found, Stuck}
-use Rattle.sed_wire.specs.Leaves.{front_reads, number, number_whole, signed, signed_of, signed_whole, run, run_whole, text, text_whole}
+use Rattle.sed_wire.specs.Leaves.{front_reads, number, number_whole, i4, signed_of, signed_whole, run, run_whole, text, text_whole}
 
 pub number_read : (width n : ℕ) (old new : List ℕ) → Reads (SpellsNumber width) n old new → (number width).reads old ≡ Found n new
 number_read width n old new r = ap (number width).reads r.front ∙ number_whole width n r.spelling new r.spelled
 
-pub signed_read : (n : ℤ) (old new : List ℕ) → Reads (SpellsSigned w32) n old new → signed.reads old ≡ Found n new
-signed_read n old new r = ap signed.reads r.front ∙ signed_whole n r.spelling new r.spelled
+pub signed_read : (n : ℤ) (old new : List ℕ) → Reads (SpellsSigned w32) n old new → i4.reads old ≡ Found n new
+signed_read n old new r = ap i4.reads r.front ∙ signed_whole n r.spelling new r.spelled
 
 front_short : {A : Type 0} (see : List ℕ → A) (n : ℕ) (old : List ℕ) → length old < n → front_reads see n old ≡ Stuck old
 front_short {A} see n old short = by_test (nat_le n (length old)) (list_all is_byte (take n old)) few
@@ -28,7 +29,7 @@ front_short {A} see n old short = by_test (nat_le n (length old)) (list_all is_b
 pub number_short : (width : ℕ) (old : List ℕ) → length old < width → (number width).reads old ≡ Stuck old
 number_short width old short = front_short number_of width old short
 
-pub signed_short : (old : List ℕ) → length old < 4 → signed.reads old ≡ Stuck old
+pub signed_short : (old : List ℕ) → length old < 4 → i4.reads old ≡ Stuck old
 signed_short old short = front_short signed_of 4 old short
 
 pub run_short : (n : ℕ) (old : List ℕ) → length old < n → (run n).reads old ≡ Stuck old

@@ -1,5 +1,5 @@
 -- Numbers in bytes, by the definitions of the kit's crate for them.
-use Rattle.std.proofs.Common.{◌≡◌, ℕ, zero, suc, ◌^◌, ◌<◌, ◌/◌, ℤ, IsTrue, List, [], ◌∷◌, ◌++◌, length, slice_index, FitsSigned, refl, sym, ◌∙◌, ap, arith}
+use Rattle.std.proofs.Common.{◌≡◌, ℕ, zero, suc, ◌^◌, ◌<◌, ◌/◌, ℤ, IsTrue, List, [], ◌∷◌, length, slice_index, FitsSigned, refl, sym, ◌∙◌, ap, arith}
 use Rattle.std.proofs.Math.Nat.{mod-lt}
 use Rattle.std.proofs.lemmas.Int.{of_z-to_z}
 use Rattle.std.proofs.Math.Facts.{Fits-of_z, Fits-of_lt, sfits_to_z}
@@ -10,6 +10,7 @@ use mir.Val.{bits}
 use Rattle.byteorder.specs.Endian.{big_from}
 use Rattle.byteorder.specs.Numbers.{big_from-cons, big_from-lt, big_number-reads_back, length-bytes_high_first}
 use Rattle.sed_wire.specs.Number.{is_byte, number_of, SpellsNumber, SpellsSigned}
+use Rattle.std.proofs.lemmas.List.{append-nil}
 
 -- what holds of each item by its place holds of all
 pub are_bytes-each : (bytes : List ℕ) → ((i : ℕ) → slice_index bytes i < 256) → IsTrue (list_all is_byte bytes)
@@ -41,10 +42,6 @@ are_bytes-high_first (suc n) x =
     let first = byte_at-below n x in
     let rest = are_bytes-high_first n x in
     grind (arith, nat_tests)
-
-append-nil : (bytes : List ℕ) → bytes ++ [] ≡ bytes
-append-nil [] = refl
-append-nil (byte ∷ behind) = ap (λ (bs : List ℕ). byte ∷ bs) (append-nil behind)
 
 -- what the library reads is spelled by the bytes that it reads
 pub read_spells : (n : ℕ) (bytes : List ℕ) → length bytes ≡ n → ((i : ℕ) → slice_index bytes i < 256)

@@ -92,3 +92,13 @@ front-put text a b count old new nothing all done counted front =
       front = front ∙ ap (λ (t : List ℕ). t ++ untouched b) is
           ∙ ap (λ (t : List ℕ). text ++ t) (done.untouched ∙ ap (drop (length text)) all);
     }
+
+-- what was put in front of a slice is its first bytes, as many as were counted
+pub puts-taken : (text : List ℕ) (count : ℕ) (old new : List ℕ) → Puts text count old new → take count new ≡ text
+puts-taken text count old new puts =
+    ap (λ (n : ℕ). take n new) puts.counted ∙ ap (take (length text)) puts.front
+    ∙ take-append_seam text (drop (length text) old)
+
+pub puts-fit : (text : List ℕ) (count : ℕ) (old new : List ℕ) → Puts text count old new → count ≤ length new
+puts-fit text count old new puts =
+    omega (arith, puts.counted, ap length puts.front, length-append text (drop (length text) old))

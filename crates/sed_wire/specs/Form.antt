@@ -8,12 +8,12 @@ use Rattle.std.specs.Prelude.{◌≡◌, ◌⊎◌, ℕ, Bool, true, false, List
 use Rattle.std.proofs.Common.{inl, inr, ap, sym, subst, ◌∙◌}
 use Rattle.std.proofs.lemmas.List.{append_assoc}
 use Rattle.sed_wire.specs.FormSpelling.{Begins, IsLeft, FieldFaults, ThenSpells, ThenFaults, OnlySpells, OnlyFaults, GivenSpells, NeverFaults}
-use Rattle.sed_wire.specs.FormReading.{Reading, Found, Stuck, Reads, read_on}
+use Rattle.sed_wire.specs.FormReading.{Reading, Found, Stuck, ReadsAs, read_on}
 
 pub record Form (A : Type 0) : Type 1 where
   pub spells : A → List ℕ → Type 0
   pub faults : List ℕ → List ℕ → Type 0
-  pub reads : Reads A
+  pub reads : ReadsAs A
   pub one : (a : A) (s t : List ℕ) → spells a s → spells a t → s ≡ t
   pub sound : (bytes : List ℕ) (a : A) (rest : List ℕ) → reads bytes ≡ Found a rest → Begins (spells a) bytes rest
   pub whole : (a : A) (front rest : List ℕ) → spells a front → reads (front ++ rest) ≡ Found a rest
@@ -41,21 +41,21 @@ not_found bytes rest a e = cc
 pub not_stuck : {A : Type 0} (bytes rest : List ℕ) (a : A) → Found a bytes ≡ Stuck rest → ⊥
 not_stuck bytes rest a e = cc
 
-pub on_found : {A B : Type 0} (o : Reading A) (next : A → Reads B) (b : B) (rest : List ℕ) → read_on o next ≡ Found b rest
+pub on_found : {A B : Type 0} (o : Reading A) (next : A → ReadsAs B) (b : B) (rest : List ℕ) → read_on o next ≡ Found b rest
     → (a : A) × (middle : List ℕ) × (o ≡ Found a middle) × (next a middle ≡ Found b rest)
 on_found (Stuck far) next b rest e = absurd (not_found far rest b e)
 on_found (Found a middle) next b rest e = (a, middle, refl, e)
 
-pub on_stuck : {A B : Type 0} (o : Reading A) (next : A → Reads B) (rest : List ℕ) → read_on o next ≡ Stuck rest
+pub on_stuck : {A B : Type 0} (o : Reading A) (next : A → ReadsAs B) (rest : List ℕ) → read_on o next ≡ Stuck rest
     → (o ≡ Stuck rest) ⊎ ((a : A) × (middle : List ℕ) × (o ≡ Found a middle) × (next a middle ≡ Stuck rest))
 on_stuck {A} {B} (Stuck far) next rest e = inl (stuck_again {A = A} far rest (stuck_eq {A = B} far rest e))
 on_stuck (Found a middle) next rest e = inr (a, middle, refl, e)
 
-pub on_whole : {A B : Type 0} (o : Reading A) (next : A → Reads B) (a : A) (middle : List ℕ) (answer : Reading B)
+pub on_whole : {A B : Type 0} (o : Reading A) (next : A → ReadsAs B) (a : A) (middle : List ℕ) (answer : Reading B)
     → o ≡ Found a middle → next a middle ≡ answer → read_on o next ≡ answer
 on_whole o next a middle answer p q = rw p q
 
-pub on_none : {A B : Type 0} (o : Reading A) (next : A → Reads B) (rest : List ℕ) → o ≡ Stuck rest → read_on o next ≡ Stuck rest
+pub on_none : {A B : Type 0} (o : Reading A) (next : A → ReadsAs B) (rest : List ℕ) → o ≡ Stuck rest → read_on o next ≡ Stuck rest
 on_none o next rest p = rw p refl
 
 -- what is begun, of equal things and with an equal rest
@@ -65,13 +65,13 @@ begins_again {A} Spells bytes a b r s p q begun =
 
 -- ---- a field
 
-pub field_none : {A : Type 0} (spells : A → List ℕ → Type 0) (reads : Reads A)
+pub field_none : {A : Type 0} (spells : A → List ℕ → Type 0) (reads : ReadsAs A)
     → ((a : A) (front rest : List ℕ) → spells a front → reads (front ++ rest) ≡ Found a rest)
     → (bytes rest : List ℕ) (a : A) (behind : List ℕ) → reads bytes ≡ Stuck rest → Begins (spells a) bytes behind → ⊥
 field_none spells reads whole bytes rest a behind e (front, spelled, parted) =
     not_found rest behind a (sym e ∙ ap reads parted ∙ whole a front behind spelled)
 
-pub field_stuck : {A : Type 0} (spells : A → List ℕ → Type 0) (reads : Reads A)
+pub field_stuck : {A : Type 0} (spells : A → List ℕ → Type 0) (reads : ReadsAs A)
     → ((bytes : List ℕ) (a : A) (rest : List ℕ) → reads bytes ≡ Found a rest → Begins (spells a) bytes rest)
     → ((bytes rest : List ℕ) → reads bytes ≡ Stuck rest → bytes ≡ rest)
     → (bytes rest : List ℕ) → FieldFaults spells bytes rest → reads bytes ≡ Stuck rest
@@ -81,7 +81,7 @@ field_stuck {A} spells reads sound stays bytes rest h = by_answer (reads bytes) 
     by_answer (Found a behind) e = absurd (h.0 a behind (sound bytes a behind e))
     by_answer (Stuck far) e = e ∙ stuck_again {A = A} far rest (sym (stays bytes far e) ∙ h.1)
 
-abbrev pub field : {A : Type 0} → (spells : A → List ℕ → Type 0) → (reads : Reads A)
+abbrev pub field : {A : Type 0} → (spells : A → List ℕ → Type 0) → (reads : ReadsAs A)
     → (one : (a : A) (s t : List ℕ) → spells a s → spells a t → s ≡ t)
     → (sound : (bytes : List ℕ) (a : A) (rest : List ℕ) → reads bytes ≡ Found a rest → Begins (spells a) bytes rest)
     → (whole : (a : A) (front rest : List ℕ) → spells a front → reads (front ++ rest) ≡ Found a rest)
@@ -104,7 +104,7 @@ field spells reads one sound whole stays = record {
 abbrev pub pair_reads : {A B : Type 0} → A → Reading B → Reading (A × B)
 pair_reads a second = read_on second (λ b rest. Found (a, b) rest)
 
-abbrev pub then_reads : {A B : Type 0} → Reads A → (A → Reads B) → Reads (A × B)
+abbrev pub then_reads : {A B : Type 0} → ReadsAs A → (A → ReadsAs B) → ReadsAs (A × B)
 then_reads p q bytes = read_on (p bytes) (λ a middle. pair_reads a (q a middle))
 
 pub then_sound : {A B : Type 0} (p : Form A) (f : A → Form B) (bytes : List ℕ) (both : A × B) (rest : List ℕ)
@@ -196,7 +196,7 @@ p & q = then p (λ _. q)
 
 -- ---- a thing seen as another, and only such as pass a test
 
-abbrev pub as_reads : {A B : Type 0} → (A → B) → Reads A → Reads B
+abbrev pub as_reads : {A B : Type 0} → (A → B) → ReadsAs A → ReadsAs B
 as_reads to p bytes = read_on (p bytes) (λ a rest. Found (to a) rest)
 
 pub as_sound : {A B : Type 0} (to : A → B) (from : B → A) (p : Form A) (forth : (a : A) (s : List ℕ) → p.spells a s → from (to a) ≡ a)
@@ -243,10 +243,7 @@ pub passed_stuck : {A : Type 0} (b : Bool) (a : A) (middle bytes rest : List ℕ
 passed_stuck true a middle bytes rest e = absurd (not_stuck middle rest a e)
 passed_stuck {A} false a middle bytes rest e = (refl, stuck_eq {A = A} bytes rest e)
 
-abbrev pub where_reads : {A : Type 0} → (A → Bool) → Reads A → Reads A
-where_reads test p bytes = read_on (p bytes) (λ a rest. passed (test a) a rest bytes)
-
-abbrev pub only_reads : {A : Type 0} → (A → Bool) → Reads A → Reads A
+abbrev pub only_reads : {A : Type 0} → (A → Bool) → ReadsAs A → ReadsAs A
 only_reads test p bytes = read_on (p bytes) (λ a rest. passed (test a) a rest bytes)
 
 pub only_sound : {A : Type 0} (test : A → Bool) (p : Form A) (bytes : List ℕ) (a : A) (rest : List ℕ)

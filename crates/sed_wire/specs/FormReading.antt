@@ -7,10 +7,11 @@ pub data Reading (A : Type 0) : Type 0 where
   Found : A → List ℕ → Reading A
   Stuck : List ℕ → Reading A
 
-abbrev pub Reads : Type 0 → Type 0
-Reads A = List ℕ → Reading A
+-- how bytes are read as such a thing
+abbrev pub ReadsAs : Type 0 → Type 0
+ReadsAs A = List ℕ → Reading A
 
 -- reading goes on with what follows, by what was found
-abbrev pub read_on : {A B : Type 0} → Reading A → (A → Reads B) → Reading B
+abbrev pub read_on : {A B : Type 0} → Reading A → (A → ReadsAs B) → Reading B
 read_on (Stuck rest) next = Stuck rest
 read_on (Found a rest) next = next a rest

@@ -11,7 +11,7 @@ use Rattle.std.proofs.lemmas.Int.{to_z-of_z, of_z-to_z}
 use Rattle.std.proofs.Math.Facts.{Fits-of_lt, sfits_to_z}
 use Rattle.sed_wire.specs.Text.{is_character, is_text, SpellsText}
 use Rattle.sed_wire.specs.OneSpelling.{one_number, one_signed, one_text, number_of-below}
-use Rattle.sed_wire.specs.FormReading.{Reading, Found, Stuck, Reads}
+use Rattle.sed_wire.specs.FormReading.{Reading, Found, Stuck, ReadsAs}
 use Rattle.sed_wire.specs.FormSpelling.{Begins, SpellsRun}
 use Rattle.sed_wire.specs.Form.{Form, begins_again, field, seen_as, only, sized, stuck_eq, found_eq, not_found, not_stuck}
 
@@ -19,7 +19,7 @@ use Rattle.sed_wire.specs.Form.{Form, begins_again, field, seen_as, only, sized,
 abbrev pub is_front : ℕ → List ℕ → Bool
 is_front n bytes = nat_le n (length bytes) && list_all is_byte (take n bytes)
 
-abbrev pub front_reads : {A : Type 0} → (List ℕ → A) → ℕ → Reads A
+abbrev pub front_reads : {A : Type 0} → (List ℕ → A) → ℕ → ReadsAs A
 front_reads see n bytes = cond (is_front n bytes) (Found (see (take n bytes)) (drop n bytes)) (Stuck bytes)
 
 -- so many bytes
@@ -108,8 +108,8 @@ signed_whole n front rest is =
     ∙ ap (λ (m : ℤ). Found m rest) (to_z-of_z w32 n is.fits)
 
 -- a signed number in four bytes
-abbrev pub signed : Form ℤ
-signed = field (SpellsSigned w32) (front_reads signed_of 4) (one_signed w32) signed_sound signed_whole (front_stays signed_of 4)
+abbrev pub i4 : Form ℤ
+i4 = field (SpellsSigned w32) (front_reads signed_of 4) (one_signed w32) signed_sound signed_whole (front_stays signed_of 4)
 
 pub mark_is : (n m : ℕ) → IsTrue (m == n) → n ≡ m
 mark_is n m is = sym (eqb-true m n is)
@@ -120,7 +120,7 @@ mark width n = seen_as (λ m. tt) (λ u. n) (λ u. refl) (only (λ m. m == n) (n
 
 -- ---- runs of bytes
 
-abbrev pub run_reads : ℕ → Reads (List ℕ)
+abbrev pub run_reads : ℕ → ReadsAs (List ℕ)
 run_reads n bytes = cond (nat_le n (length bytes)) (Found (take n bytes) (drop n bytes)) (Stuck bytes)
 
 pub run_sound : (n : ℕ) (bytes run rest : List ℕ) → run_reads n bytes ≡ Found run rest → Begins (SpellsRun n run) bytes rest
@@ -173,7 +173,7 @@ abbrev pub told : {A : Type 0} → Option (A × List ℕ) → List ℕ → Readi
 told None bytes = Stuck bytes
 told (Some read) bytes = Found read.0 read.1
 
-abbrev pub text_reads : Reads (List ℕ)
+abbrev pub text_reads : ReadsAs (List ℕ)
 text_reads bytes = told (text_at bytes) bytes
 
 pub told_found : {A : Type 0} (o : Option (A × List ℕ)) (bytes : List ℕ) (a : A) (rest : List ℕ) → told o bytes ≡ Found a rest → o ≡ Some (a, rest)

@@ -1,12 +1,12 @@
 -- Things that stand one behind the other, as many as are said in front of them.
 use Rattle.std.specs.Prelude.{◌≡◌, ◌⊎◌, ℕ, zero, suc, List, [], ◌∷◌, ◌++◌, length, refl}
 use Rattle.std.proofs.Common.{inl, inr, ap}
-use Rattle.sed_wire.specs.FormReading.{Found, Stuck, Reads, read_on}
+use Rattle.sed_wire.specs.FormReading.{Found, Stuck, ReadsAs, read_on}
 use Rattle.sed_wire.specs.FormSpelling.{Begins, ListSpells}
 use Rattle.sed_wire.specs.Form.{Form, begins_again, given, then, sized, found_eq, not_stuck, on_found, on_stuck, on_whole, on_none}
 
 -- a first one and the others, as a list
-abbrev pub list_reads : {A : Type 0} → Reads (A × List A) → Reads (List A)
+abbrev pub list_reads : {A : Type 0} → ReadsAs (A × List A) → ReadsAs (List A)
 list_reads p bytes = read_on (p bytes) (λ both rest. Found (both.0 ∷ both.1) rest)
 
 pub list_one : {A : Type 0} (p : Form (A × List A)) (xs : List A) (s t : List ℕ) → ListSpells p.spells xs s → ListSpells p.spells xs t → s ≡ t

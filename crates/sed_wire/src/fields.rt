@@ -1,4 +1,5 @@
-//! Reading the fields that forms of bytes are made of. Where none stands the reader stays at the field's start.
+//! Reading the fields that forms of bytes are made of. Where none stands the answer is `Halt::Fault`, and the reader stays
+//! at the field's start.
 ghost use Rattle.std.specs.Prelude.{◌≡◌};
 ghost use Rattle.sed_wire.specs.Gives.{Gives};
 ghost use Rattle.sed_wire.specs.Leaves as leaf;
@@ -42,7 +43,7 @@ pub fn u4(reader: &mut Reader) -> Result<u32, Halt>
 /// A signed number in four bytes.
 #[tactic(auto, using(crate::proofs::LeafLemmas::signed_read, crate::proofs::LeafLemmas::signed_short))]
 pub fn i4(reader: &mut Reader) -> Result<i32, Halt>
-    ensures { Gives result reader.new (leaf.signed.reads reader.old) }
+    ensures { Gives result reader.new (leaf.i4.reads reader.old) }
 {
     match reader.i4() {
         Ok(number) => Ok(number),

@@ -5,7 +5,7 @@ ghost use Rattle.sed_wire.specs.declared.halt.Halt.TheVariants.{Memory};
 use std::alloc::{AllocError, AllocFailed};
 
 /// Why the reading of a form stops.
-#[derive(Clone, Copy)]
+#[derive(Clone, Copy, Debug, PartialEq, Eq)]
 pub enum Halt {
     /// The field at which the reader stands is cut or not allowed.
     Fault,

@@ -1,6 +1,6 @@
 //! Writing what spells a value.
 ghost use Rattle.std.specs.Prelude.{◌≡◌, ℕ, ◌+◌, ◌<◌, ◌≤◌, ◌↔◌, ◌++◌, [], List, length, take, drop, IsTrue, IsErr, OnOk, OnErr};
-ghost use Rattle.std.specs.Int.{bytes_high_first, w32, w64};
+ghost use Rattle.std.specs.Int.{w32, w64};
 
 use crate::fault::Full;
 use crate::number::{signed_spelling_in_4, signed_spelling_in_8, spelling_in_2, spelling_in_4};
@@ -18,7 +18,7 @@ pub struct Writer<'a> {
 }
 
 impl<'a> Writer<'a> {
-    ghost use Rattle.sed_wire.specs.Number.{SpellsNumber, SpellsSigned};
+    ghost use Rattle.sed_wire.specs.Number.{SpellsNumber, SpellsSigned, u1, u2};
     ghost use Rattle.sed_wire.specs.Spelling.{SpellsContents, SpellsValue, has_spelling};
     ghost use Rattle.sed_wire.specs.Text.{SpellsText, is_text};
     ghost use Rattle.sed_wire.specs.Writing.{written, untouched, room, Appends, Writes, Stays};
@@ -163,7 +163,7 @@ impl<'a> Writer<'a> {
     pub fn put_u1(&mut self, v: u8)
         requires { 1 ≤ room self.old }
         ensures spells { Writes (SpellsNumber 1) v self.old self.new }
-        ensures bytes { Appends self.old self.new (bytes_high_first 1 v) }
+        ensures bytes { Appends self.old self.new (u1 v) }
     {
         match self.u1(v) {
             Ok(()) => {}
@@ -175,7 +175,7 @@ impl<'a> Writer<'a> {
     pub fn put_u2(&mut self, v: u16)
         requires { 2 ≤ room self.old }
         ensures spells { Writes (SpellsNumber 2) v self.old self.new }
-        ensures bytes { Appends self.old self.new (bytes_high_first 2 v) }
+        ensures bytes { Appends self.old self.new (u2 v) }
     {
         match self.u2(v) {
             Ok(()) => {}
