@@ -33,8 +33,8 @@ pub record IsFault (units : List KitUnits) (rule file at : ℕ) (f : PlacedFault
 
 -- ---- the program
 
--- What is declared, and each body as it is judged. A body is told by its term, so there is one such program, but for how the
--- chains in its trees are grouped.
+-- What is declared, and each body as it is judged. A body is told by its term and its tree is flat, so there is one such
+-- program, but for where its trees lie in memory.
 pub record IsSpelled (units : List KitUnits) (program : Program) : Type 0 where
   pub outlined : IsOutlined units program
   pub bodies : AreBodies units (methods_of units) (map (λ (m : Method). m.body) program.methods)

@@ -1,18 +1,19 @@
 -- Classes at and below others: which methods they have, and which fields.
-use Rattle.std.proofs.Common.{◌≡◌, ◌<◌, ℕ, zero, suc, ◌==◌, ◌&&◌, ◌||◌, Bool, true, false, not, nat_lt, List, [], ◌∷◌, ◌++◌, length, get_or, Option, Some, None, refl, sym, ap, subst, ◌∙◌}
-use Rattle.std.specs.Prelude.{All, IfSome, IsSomeAnd, ⊤, position, slice_get}
-use Rattle.std.specs.List.{flat_map, list_any, position_or_len}
+use Rattle.std.proofs.Common.{◌≡◌, ℕ, zero, suc, ◌==◌, ◌&&◌, ◌||◌, Bool, true, false, List, [], ◌∷◌, ◌++◌, length, Option, Some, None, refl, sym, ap, subst, ◌∙◌}
+use Rattle.std.specs.Prelude.{All, IsSomeAnd, slice_get}
+use Rattle.std.specs.List.{flat_map, list_any}
 use Rattle.std.specs.Str.{bytes_eq}
-use Rattle.std.proofs.lemmas.Bool.{not-false, eqb-true, ltb-true, and_parts}
+use Rattle.std.proofs.lemmas.Bool.{eqb-true, and_parts}
 use Rattle.std.proofs.lemmas.List.Elements.{All-get_or}
-use Rattle.std.proofs.lemmas.List.Sums.{prefix_len_stops}
-use Rattle.std.proofs.lemmas.Option.{MatchOption-at_some, cond_some, same_Some, none-some, slice_get_within, slice_get-get_or, get_or_from_slice_get}
+use Rattle.std.proofs.lemmas.Option.{same_Some, none-some, slice_get_within, get_or_from_slice_get}
 use Rattle.std.proofs.lemmas.Slice.Eq.{bytes_eq-Decides}
+pub use Rattle.sed_typed.proofs.Nearest.{IsPassed, position_passes}
+use Rattle.sed_typed.proofs.Nearest.{Goes, Inherits, Declares, declared_at, found_here, found_later, goes}
 use Rattle.sed_typed.specs.declared.program.Field.{Field}
 use Rattle.sed_typed.specs.declared.program.Method.{Method}
 use Rattle.sed_typed.specs.declared.program.Program.{Program}
 use Rattle.sed_typed.specs.declared.schema.ClassInfo.{ClassInfo}
-use Rattle.sed_typed.specs.Classes.{base_of, reached, lineage, first_found, declared_fields, declared_method, fields, find}
+use Rattle.sed_typed.specs.Classes.{base_of, reached, first_found, declared_fields, declared_method, fields, find}
 use Rattle.sed_typed.specs.Typed.{Typed}
 use Rattle.sed_typed.specs.TypedSchema.{is_below, Overrides}
 use Rattle.sed_engine.proofs.FieldLists.{has_info, none_reached, lineage_of_base, fields_of_base}
@@ -52,12 +53,6 @@ below_of classes above class h = reached_below classes above (length classes) cl
 
 -- ---- what is found
 
-found_here : (look : ℕ → Option ℕ) (at : ℕ) (rest : List ℕ) (n : ℕ) → look at ≡ Some n → first_found look (at ∷ rest) ≡ Some n
-found_here look at rest n e = rw e refl
-
-found_later : (look : ℕ → Option ℕ) (at : ℕ) (rest : List ℕ) → look at ≡ None → first_found look (at ∷ rest) ≡ first_found look rest
-found_later look at rest e = rw e refl
-
 -- a class at or above, which has what is found
 pub record FoundAt (classes : List ClassInfo) (look : ℕ → Option ℕ) (class n : ℕ) : Type 0 where
   pub at : ℕ
@@ -90,25 +85,6 @@ pub of_some : {X : Type 0} {P : X → Type 0} (o : Option X) → IsSomeAnd o P �
 of_some None h = absurd h
 of_some (Some x) h = (x, refl, h)
 
--- an element that passes a test, at a place
-pub record IsPassed {X : Type 0} (p : X → Bool) (xs : List X) (n : ℕ) : Type 0 where
-  pub value : X
-  pub is : slice_get xs n ≡ Some value
-  pub passes : p value ≡ true
-
-pub position_passes : {X : Type 0} (p : X → Bool) (xs : List X) (n : ℕ) → position p xs ≡ Some n → IsPassed p xs n
-position_passes p [] n e = absent n e
-position_passes p (x ∷ xs) n e =
-    let at : ℕ = position_or_len p (x ∷ xs) in
-    let parts : (nat_lt at (length (x ∷ xs)) ≡ true) × (at ≡ n) = cond_some (nat_lt at (length (x ∷ xs))) at n e in
-    let inside : at < length (x ∷ xs) = ltb-true at (length (x ∷ xs)) parts.0 in
-    let here : slice_get (x ∷ xs) at ≡ Some (get_or (x ∷ xs) at x) = slice_get-get_or (x ∷ xs) at x inside in
-    record {
-      value = get_or (x ∷ xs) at x;
-      is = subst (λ (k : ℕ). slice_get (x ∷ xs) k ≡ Some (get_or (x ∷ xs) at x)) parts.1 here;
-      passes = not-false (p (get_or (x ∷ xs) at x)) (prefix_len_stops (λ y. not (p y)) (x ∷ xs) x inside);
-    }
-
 -- ---- methods
 
 -- a method that is called in the place of another
@@ -125,46 +101,16 @@ pub record FoundFor (program : Program) (class : ℕ) (name : List ℕ) (x : Met
   pub is : slice_get program.methods number ≡ Some method
   pub same : SameCall x method
 
--- the method that a class itself declares
-declared_at : (program : Program) (class n : ℕ) (name : List ℕ) → declared_method program.methods name class ≡ Some n → IsPassed (λ (m : Method). (m.class.0 == class) && bytes_eq m.name name) program.methods n
-declared_at program class n name e = position_passes (λ (m : Method). (m.class.0 == class) && bytes_eq m.name name) program.methods n e
-
-overrides_at : (program : Program) → Typed program → (class base n : ℕ) (y x : Method) → base_of program.schema.classes class ≡ Some base → y.class.0 ≡ class →
-    All (λ m. m.class.0 ≡ class → IfSome (base_of program.schema.classes class) (λ low. IfSome (find program low m.name) (λ k. IfSome (slice_get program.methods k) (Overrides m)))) program.methods →
-    (k : ℕ) → slice_get program.methods k ≡ Some y → find program base y.name ≡ Some n → slice_get program.methods n ≡ Some x → Overrides y x
-overrides_at program typed class base n y x b own all k is found above =
-    MatchOption-at_some ⊤ (Overrides y) x above
-    (MatchOption-at_some ⊤ (λ j. IfSome (slice_get program.methods j) (Overrides y)) n found
-    (MatchOption-at_some ⊤ (λ low. IfSome (find program low y.name) (λ j. IfSome (slice_get program.methods j) (Overrides y))) base b
-    (at_place (λ m. m.class.0 ≡ class → IfSome (base_of program.schema.classes class) (λ low. IfSome (find program low m.name) (λ j. IfSome (slice_get program.methods j) (Overrides m)))) program.methods k y all is own)))
-
-find_at : (program : Program) → Typed program → (class base : ℕ) (name : List ℕ) → base_of program.schema.classes class ≡ Some base →
-    find program class name ≡ first_found (declared_method program.methods name) (class ∷ lineage program.schema.classes base)
-find_at program typed class base name b = ap (first_found (declared_method program.methods name)) (lineage_of_base program typed class base b)
-
 -- what is found from the base on, or a method of the class itself that overrides it
-found_based : (program : Program) → Typed program → (class base : ℕ) (name : List ℕ) (x : Method) → base_of program.schema.classes class ≡ Some base → FoundFor program base name x →
-    (o : Option ℕ) → declared_method program.methods name class ≡ o → FoundFor program class name x
-found_based program typed class base name x b r None e = record {
-  number = r.number;
-  method = r.method;
-  found = find_at program typed class base name b ∙ found_later (declared_method program.methods name) class (lineage program.schema.classes base) e ∙ r.found;
-  is = r.is;
-  same = r.same;
-}
-found_based program typed class base name x b r (Some n) e =
-    let d : IsPassed (λ (m : Method). (m.class.0 == class) && bytes_eq m.name name) program.methods n = declared_at program class n name e in
-    let y : Method = d.value in
-    let parts : ((y.class.0 == class) ≡ true) × (bytes_eq y.name name ≡ true) = and_parts (y.class.0 == class) (bytes_eq y.name name) d.passes in
-    let named : y.name ≡ name = (bytes_eq-Decides y.name name).0 parts.1 in
-    let within : class < length program.schema.classes = has_info program.schema.classes class base (slice_get program.schema.classes class) refl b in
-    let o : Overrides y r.method =
-    overrides_at program typed class base r.number y r.method b (eqb-true y.class.0 class parts.0) (typed.members class within).methods n d.is (ap (find program base) named ∙ r.found) r.is in
+found_based : (program : Program) (class base : ℕ) (name : List ℕ) (x : Method) → FoundFor program base name x → Goes program class base name → FoundFor program class name x
+found_based program class base name x r (Inherits none e) = record { number = r.number; method = r.method; found = e ∙ r.found; is = r.is; same = r.same }
+found_based program class base name x r (Declares n y own is e over) =
+    let o : Overrides y r.method = over r.number r.method r.found r.is in
     record {
       number = n;
       method = y;
-      found = find_at program typed class base name b ∙ found_here (declared_method program.methods name) class (lineage program.schema.classes base) n e;
-      is = d.is;
+      found = e;
+      is = is;
       same = record { params = o.params ∙ r.same.params; result = o.result ∙ r.same.result; static = o.instance ∙ sym o.instance_above ∙ r.same.static };
     }
 
@@ -173,7 +119,7 @@ pub found_below : (program : Program) → Typed program → (above class m : ℕ
     find program above name ≡ Some m → slice_get program.methods m ≡ Some x → FoundFor program class name x
 found_below program typed above class m name x Itself e is = record { number = m; method = x; found = e; is = is; same = record { params = refl; result = refl; static = refl } }
 found_below program typed above class m name x (Based base low b rest) e is =
-    found_based program typed class base name x b (found_below program typed above base m name x rest e is) (declared_method program.methods name class) refl
+    found_based program class base name x (found_below program typed above base m name x rest e is) (goes program typed class base name b)
 
 -- the class of what is found is at or above
 pub found_above : (program : Program) (class n : ℕ) (name : List ℕ) (x : Method) → find program class name ≡ Some n → slice_get program.methods n ≡ Some x →

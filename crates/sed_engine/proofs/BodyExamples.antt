@@ -16,7 +16,7 @@ use Rattle.sed_typed.specs.declared.tree.Place.TheVariants as place
 use Rattle.sed_typed.specs.Depth.{depth_of, place_depth, stmt_depth}
 use Rattle.sed_typed.specs.Height.{height_of, place_height, stmt_height}
 use Rattle.sed_typed.specs.Typed.{IsBody, IsMethod, IsStorable, locals_of}
-use Rattle.sed_typed.specs.TypedExpr.{Context, IsExpr}
+use Rattle.sed_typed.specs.TypedExpr.{Context}
 use Rattle.sed_typed.specs.TypedStmt.{Around, IsStmt}
 use Rattle.sed_engine.proofs.Building.{Pointer, one, int, chain, chain_of_two, by, this, y, y_is, block_of_three, method_of}
 use Rattle.sed_engine.proofs.MemberNames.{all_of}

@@ -21,6 +21,7 @@ use Rattle.sed_engine.specs.Fits.{form_at}
 use Rattle.sed_engine.specs.Program.{code_of, meaning_of}
 use Rattle.sed_engine.specs.Root.{calls_with}
 use Rattle.sed_engine.specs.Whole.{AnswersWell, EndsWell, FollowsBase, HasTables, IsWhole, SaysNothing, field_form}
+use Rattle.sed_engine.proofs.Asking.{Asked, may_from, may_then}
 use Rattle.sed_engine.proofs.Building.{Pointer}
 use Rattle.sed_engine.proofs.MaskedCodes.{masked_whole}
 use Rattle.sed_engine.proofs.Ramp.{ramp_class, int_slot, ramp, sys_kit}
@@ -101,8 +102,10 @@ twice_tables p =
 
 twice_answers : (p : Pointer) (q : Question) → MayAsk (twice_named p) q → AnswersWell (twice_named p) q
 twice_answers p q h =
+    let b : Asked (twice_named p) q = may_from (twice_named p) q h in
     let a : AnswersWell (code_of (ramp p)) q =
-    answers_of (ramp p) (ramp_is_typed p) q (record { creatable = h.creatable; contents = h.contents; statics = h.statics; argument = h.argument; some_turns = h.some_turns; most_turns = h.most_turns; moment = h.moment }) in
+    answers_of (ramp p) (ramp_is_typed p) q
+    (may_then (code_of (ramp p)) q (record { creatable = b.creatable; contents = b.contents; statics = b.statics; argument = b.argument; some_turns = b.some_turns; most_turns = b.most_turns; moment = b.moment })) in
     record { contents = a.contents; statics = a.statics; end = a.end }
 
 pub twice_is_whole : (p : Pointer) → IsWhole (masked (twice_named p))
@@ -170,9 +173,9 @@ ends_as end p = record (code_of (ramp p)) { root = λ q. record ((code_of (ramp 
 well_of : (end : CallEnd) (p : Pointer) → IsWhole (masked (ends_as end p)) → EndsWell 10 end
 unfolding ends_as may_ask
 well_of end p whole =
-    let a : MayAsk (meaning_of (ramp p)) (new_ramp p) = ramp_asked p in
+    let a : Asked (meaning_of (ramp p)) (new_ramp p) = may_from (meaning_of (ramp p)) (new_ramp p) (ramp_asked p) in
     (whole.answers (new_ramp p)
-    (record { creatable = a.creatable; contents = a.contents; statics = a.statics; argument = a.argument; some_turns = a.some_turns; most_turns = a.most_turns; moment = a.moment })).end
+    (may_then (masked (ends_as end p)) (new_ramp p) (record { creatable = a.creatable; contents = a.contents; statics = a.statics; argument = a.argument; some_turns = a.some_turns; most_turns = a.most_turns; moment = a.moment }))).end
 
 -- a trap that there is not, and more turns left than the 10 that were given
 by_trap_77 : (p : Pointer) → IsWhole (masked (ends_as (Trap 77) p)) → ⊥

@@ -1,59 +1,14 @@
 -- The fields of a class are those of its base and then its own.
-use Rattle.std.proofs.Common.{◌≡◌, ℕ, zero, suc, ◌<◌, List, [], ◌∷◌, ◌++◌, length, reverse, Option, Some, None, refl, sym, ap, subst, ◌∙◌, arith}
-use Rattle.std.specs.Prelude.{All, IfSome, slice_get, ◌==◌}
+use Rattle.std.proofs.Common.{◌≡◌, ℕ, List, [], ◌∷◌, ◌++◌, reverse, Some, ap, ◌∙◌}
+use Rattle.std.specs.Prelude.{All, ◌==◌}
 use Rattle.std.specs.List.{flat_map}
-use Rattle.std.specs.Option.{option_and_then, option_map}
 use Rattle.std.proofs.lemmas.Grind.{reverse_onto, flat_map-append}
 use Rattle.std.proofs.lemmas.List.Elements.{All-nil, All-append, All-filter}
-use Rattle.std.proofs.lemmas.Option.{slice_get_within}
 use Rattle.sed_typed.specs.declared.program.Field.{Field}
 use Rattle.sed_typed.specs.declared.program.Program.{Program}
-use Rattle.sed_typed.specs.declared.schema.ClassInfo.{ClassInfo}
-use Rattle.sed_typed.specs.Classes.{base_of, reached, lineage, declared_fields, fields}
+use Rattle.sed_typed.specs.Classes.{base_of, lineage, declared_fields, fields}
 use Rattle.sed_typed.specs.Typed.{Typed}
-use Rattle.sed_typed.specs.TypedSchema.{IsClass, HasBase}
-
-pub none_is : {P : Type 0} {A : Type 0} (x : A) → None ≡ Some x → P
-none_is x e = let never : ⊥ = cc in absurd never
-
--- ---- of a base what a typed program says of it
-
-of_info : (program : Program) (class base : ℕ) (o : Option ClassInfo) → IfSome o (IsClass program class) → option_and_then (λ info. option_map (λ b. b.0) info.base) o ≡ Some base → IfSome (base_of program.schema.classes class) (HasBase program class)
-of_info program class base None h e = none_is base e
-of_info program class base (Some info) h e = h.base
-
-pub has_base : (program : Program) → Typed program → (class base : ℕ) → base_of program.schema.classes class ≡ Some base → HasBase program class base
-has_base program typed class base e =
-    subst (λ (o : Option ℕ). IfSome o (HasBase program class)) e (of_info program class base (slice_get program.schema.classes class) (typed.classes class) e)
-
-pub has_info : (classes : List ClassInfo) (class base : ℕ) (o : Option ClassInfo) → slice_get classes class ≡ o → option_and_then (λ info. option_map (λ b. b.0) info.base) o ≡ Some base → class < length classes
-has_info classes class base None is e = none_is base e
-has_info classes class base (Some info) is e = slice_get_within classes class info is
-
--- ---- the lineage of a class is the class and then the lineage of its base
-
-pub none_reached : (next : ℕ → Option ℕ) (n : ℕ) → reached next n None ≡ []
-none_reached next zero = refl
-none_reached next (suc n) = refl
-
-further : (next : ℕ → Option ℕ) (n at : ℕ) → ((b : ℕ) → next at ≡ Some b → reached next (suc n) (Some b) ≡ reached next n (Some b)) → (o : Option ℕ) → next at ≡ o → reached next (suc n) o ≡ reached next n o
-further next n at again None e = sym (none_reached next n)
-further next n at again (Some b) e = again b e
-
--- where each step goes down, more steps than numbers below reach no more
-reached_all : (next : ℕ → Option ℕ) → ((at base : ℕ) → next at ≡ Some base → base < at) → (n at : ℕ) → at < n → reached next (suc n) (Some at) ≡ reached next n (Some at)
-reached_all next falls zero at h = absurd (omega (arith, h))
-reached_all next falls (suc n) at h =
-    ap (λ (rest : List ℕ). at ∷ rest)
-    (further next n at (λ b e. let below : b < at = falls at b e in reached_all next falls n b (omega (arith, h, below))) (next at) refl)
-
-pub lineage_of_base : (program : Program) → Typed program → (class base : ℕ) → base_of program.schema.classes class ≡ Some base →
-    lineage program.schema.classes class ≡ class ∷ lineage program.schema.classes base
-lineage_of_base program typed class base e =
-    let falls : (at low : ℕ) → base_of program.schema.classes at ≡ Some low → low < at = λ at low is. (has_base program typed at low is).before in
-    let inside : class < length program.schema.classes = has_info program.schema.classes class base (slice_get program.schema.classes class) refl e in
-    sym (reached_all (base_of program.schema.classes) falls (length program.schema.classes) class inside)
-    ∙ ap (λ (o : Option ℕ). class ∷ reached (base_of program.schema.classes) (length program.schema.classes) o) e
+pub use Rattle.sed_typed.proofs.Lineages.{has_base, has_info, lineage_of_base, none_is, none_reached}
 
 -- ---- fields
 

@@ -1,12 +1,12 @@
 -- A code that answers well whatever it may be asked is whole once it is masked.
-use Rattle.std.proofs.Common.{◌≡◌, ◌≤◌, inl, inr, Bool, true, false, if◌then◌else◌, sym, ap, subst, ◌∙◌, arith}
+use Rattle.std.proofs.Common.{◌≡◌, inl, inr, Bool, true, false, if◌then◌else◌, sym, ap, subst, ◌∙◌}
 use Rattle.std.proofs.lemmas.Bool.{cases_Bool, both_ways}
 use Rattle.sed_engine.specs.Asked.{MayAsk, may_ask, unasked, masked}
 use Rattle.sed_engine.specs.Code.{Meaning, Question}
 use Rattle.sed_engine.specs.Fits.{Fits}
 use Rattle.sed_engine.specs.Root.{RootEnd}
 use Rattle.sed_engine.specs.Whole.{AnswersWell, EndsWell, HasTables, IsWhole, FollowsBase, SaysNothing}
-use Rattle.sed_engine.proofs.Asking.{may_from, may_then, masked_asks}
+use Rattle.sed_engine.proofs.Asking.{masked_asks}
 
 -- ---- what a masked code answers
 
@@ -18,13 +18,13 @@ other b x y e = ap (λ (t : Bool). if t then x else y) e
 
 -- the code's own answer, where it may be asked; what an engine uses
 pub answer_is : (m : Meaning) (q : Question) → MayAsk m q → (masked m).root q ≡ m.root q
-answer_is m q h = own (may_ask m q) (m.root q) (unasked q) (may_then m q h)
+answer_is m q h = own (may_ask m q) (m.root q) (unasked q) h
 
 pub to_masked : (m : Meaning) (q : Question) → MayAsk m q → MayAsk (masked m) q
-to_masked m q h = may_from (masked m) q (masked_asks m q ∙ may_then m q h)
+to_masked m q h = masked_asks m q ∙ h
 
 pub from_masked : (m : Meaning) (q : Question) → MayAsk (masked m) q → MayAsk m q
-from_masked m q h = may_from m q (sym (masked_asks m q) ∙ may_then (masked m) q h)
+from_masked m q h = sym (masked_asks m q) ∙ h
 
 -- ---- the masked code is whole
 
@@ -47,7 +47,7 @@ tables_masked m t = record {
 module _ (m : Meaning) (well : (q : Question) → MayAsk m q → AnswersWell m q) where
   unasked_masked : (q : Question) → (MayAsk (masked m) q → ⊥) → (masked m).root q ≡ unasked q
   unasked_masked q h = elim (cases_Bool (may_ask m q)) [
-    | inl e ↦ absurd (h (to_masked m q (may_from m q e)))
+    | inl e ↦ absurd (h (to_masked m q e))
     | inr e ↦ other (may_ask m q) (m.root q) (unasked q) e
   ]
 
@@ -72,8 +72,8 @@ pub whole_leaves : (m : Meaning) → IsWhole m → (q : Question) → Fits m.fie
     Fits m.fields m.static_fields m.initial_statics q.statics →
     Fits m.fields (m.fields q.class) (m.initial q.class) (m.root q).contents × Fits m.fields m.static_fields m.initial_statics (m.root q).statics
 whole_leaves m whole q given given_statics = elim (cases_Bool (may_ask m q)) [
-  | inl e ↦ let a : AnswersWell m q = whole.answers q (may_from m q e) in (a.contents, a.statics)
+  | inl e ↦ let a : AnswersWell m q = whole.answers q e in (a.contents, a.statics)
   | inr e ↦
       subst (λ (x : RootEnd). Fits m.fields (m.fields q.class) (m.initial q.class) x.contents × Fits m.fields m.static_fields m.initial_statics x.statics)
-      (sym (whole.unasked q (λ h. both_ways (may_ask m q) e (may_then m q h)))) (given, given_statics)
+      (sym (whole.unasked q (λ h. both_ways (may_ask m q) e h))) (given, given_statics)
 ]

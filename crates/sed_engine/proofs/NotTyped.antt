@@ -17,14 +17,13 @@ use Rattle.sed_typed.specs.declared.schema.SlotForm.TheVariants.{Prop, Action}
 use Rattle.sed_typed.specs.declared.statement.Label.TheVariants.{Case}
 use Rattle.sed_typed.specs.declared.statement.Stmt.{Stmt, end_of-Stmt, more_of-Stmt}
 use Rattle.sed_typed.specs.declared.statement.Stmt.TheVariants as stmt
-use Rattle.sed_typed.specs.declared.tree.Expr.{Expr, end_of-Expr, more_of-Expr}
+use Rattle.sed_typed.specs.declared.tree.Expr.{end_of-Expr, more_of-Expr}
 use Rattle.sed_typed.specs.declared.tree.Expr.TheVariants as expr
 use Rattle.sed_typed.specs.declared.tree.Link.TheVariants as link
 use Rattle.sed_typed.specs.declared.tree.Place.TheVariants as place
 use Rattle.sed_typed.specs.SysTypes.{meta_slot}
 use Rattle.sed_typed.specs.Typed.{Typed, IsBody}
 use Rattle.sed_typed.specs.TypedSchema.{HasSlot}
-use Rattle.sed_typed.specs.declared.operators.Arithmetic.TheVariants as op
 use Rattle.sed_engine.proofs.Building.{Pointer, vec_of, none, one, two, int, chain, this, field, set}
 use Rattle.sed_engine.proofs.Ramp.{class_of, based_on, ramp_class, int_slot, int_property, meta_field, step_field, out_field, nothing, adding, void_method, changed_method, sys_methods_in, program_with, ramp}
 

@@ -11,7 +11,6 @@ use Rattle.sed_engine.specs.Asked.{may_ask}
 use Rattle.sed_engine.specs.Carries.{Carries}
 use Rattle.sed_engine.specs.Code.{Meaning, Question, property_type, slot_type}
 use Rattle.sed_engine.specs.Whole.{IsWhole}
-use Rattle.sed_engine.proofs.Asking.{may_from, may_then}
 
 -- a code with the answers of another
 abbrev with_answers : Meaning → Meaning → Meaning
@@ -71,10 +70,10 @@ module _ {m n : Meaning} (c : Carries m n) (p : IsWhole m) (r : IsWhole n) where
 
   answers_same : (q : Question) → m.root q ≡ n.root q
   answers_same q = elim (cases_Bool (may_ask m q)) [
-    | inl e ↦ c.roots q (may_from m q e)
+    | inl e ↦ c.roots q e
     | inr e ↦
-        p.unasked q (λ h. both_ways (may_ask m q) e (may_then m q h))
-        ∙ sym (r.unasked q (λ h. both_ways (may_ask m q) e (may_alike q ∙ may_then n q h)))
+        p.unasked q (λ h. both_ways (may_ask m q) e h)
+        ∙ sym (r.unasked q (λ h. both_ways (may_ask m q) e (may_alike q ∙ h)))
   ]
 
   pub one_code : m ≡ n

@@ -26,6 +26,7 @@ use Rattle.sed_engine.specs.Asked.{MayAsk}
 use Rattle.sed_engine.specs.Code.{Question, asked_of, new_object}
 use Rattle.sed_engine.specs.Program.{meaning_of}
 use Rattle.sed_engine.specs.Whole.{EndsWell, IsWhole}
+use Rattle.sed_engine.proofs.Asking.{may_then}
 use Rattle.sed_engine.proofs.Building.{Pointer}
 use Rattle.sed_engine.proofs.FieldLists.{of_fields}
 use Rattle.sed_engine.proofs.TypedCodes.{whole_of}
@@ -461,7 +462,7 @@ abbrev pub new_ramp : Pointer → Question
 new_ramp p = asked_of (new_object (meaning_of (ramp p)) 5) (meaning_of (ramp p)).initial_statics Execute kept.Nothing 10 (pos 0)
 
 pub ramp_asked : (p : Pointer) → MayAsk (meaning_of (ramp p)) (new_ramp p)
-ramp_asked p = record {
+ramp_asked p = may_then (meaning_of (ramp p)) (new_ramp p) (record {
   creatable = refl;
   contents = (ramp_is_whole p).tables.first 5 (lit< tt);
   statics = (ramp_is_whole p).tables.first_statics;
@@ -469,7 +470,7 @@ ramp_asked p = record {
   some_turns = lit≤ tt;
   most_turns = lit≤ tt;
   moment = refl;
-}
+})
 
 pub ramp_ends : (p : Pointer) → EndsWell 10 ((meaning_of (ramp p)).root (new_ramp p)).end
 ramp_ends p = ((ramp_is_whole p).answers (new_ramp p) (ramp_asked p)).end

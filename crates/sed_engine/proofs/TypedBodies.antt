@@ -1,8 +1,7 @@
 -- Typed statements end as they may where they stand; so typed methods come to values of their results, or to traps.
 use Rattle.std.proofs.Common.{◌≡◌, ◌≤◌, ◌+◌, ℕ, zero, suc, Bool, true, false, if◌then◌else◌, List, [], ◌∷◌, ◌++◌, drop, length, map, Option, Some, None, Result, Ok, Err, refl, sym, ap, subst, length-append, arith}
-use Rattle.std.specs.Prelude.{All, IfSome, slice_get}
+use Rattle.std.specs.Prelude.{IfSome, slice_get}
 use Rattle.std.proofs.lemmas.List.{length-map}
-use Rattle.std.proofs.lemmas.List.Elements.{All-nil, All-cons, All-append}
 use Rattle.sed_typed.specs.declared.kind.Kind.{Kind}
 use Rattle.sed_typed.specs.declared.kind.Kind.TheVariants as kind
 use Rattle.sed_typed.specs.declared.operators.Width.TheVariants as width
@@ -13,7 +12,7 @@ use Rattle.sed_typed.specs.declared.statement.Stmt.TheVariants as stmt
 use Rattle.sed_typed.specs.declared.tree.Expr.{Expr}
 use Rattle.sed_typed.specs.Kinds.{kind_of}
 use Rattle.sed_typed.specs.Locals.{Declared}
-use Rattle.sed_typed.specs.Typed.{Typed, IsMethod, IsBody, IsStorable, receiver_of, declared_by, locals_of}
+use Rattle.sed_typed.specs.Typed.{Typed, IsMethod, IsBody, receiver_of, declared_by, locals_of}
 use Rattle.sed_typed.specs.TypedExpr.{Context}
 use Rattle.sed_typed.specs.TypedStmt.{Around, in_loop, in_switch, IsTest, IsLast, IsBegun, IsReturned, IsStmt, AreStmts}
 use Rattle.sed_engine.specs.declared.trap.Trap.TheVariants.{TurnsSpent}

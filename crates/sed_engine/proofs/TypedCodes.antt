@@ -15,6 +15,7 @@ use Rattle.sed_engine.specs.Asked.{MayAsk}
 use Rattle.sed_engine.specs.Code.{Question}
 use Rattle.sed_engine.specs.Program.{shape_of, code_of, meaning_of}
 use Rattle.sed_engine.specs.Whole.{AnswersWell, HasTables, IsWhole, FollowsBase, SaysNothing}
+use Rattle.sed_engine.proofs.Asking.{Asked, may_from}
 use Rattle.sed_engine.proofs.FieldLists.{has_base, fields_of_base}
 use Rattle.sed_engine.proofs.FirstFits.{BeginWell, initial_kept, statics_kept}
 use Rattle.sed_engine.proofs.FirstValues.{values_of}
@@ -85,8 +86,9 @@ tables_of program typed = record {
 
 pub answers_of : (program : Program) → Typed program → (q : Question) → MayAsk (code_of program) q → AnswersWell (code_of program) q
 answers_of program typed q h =
-    let left = roots_fit program q h.contents h.statics in
-    record { contents = left.0; statics = left.1; end = roots_end program typed q h.creatable h.contents h.statics h.argument h.moment }
+    let a : Asked (code_of program) q = may_from (code_of program) q h in
+    let left = roots_fit program q a.contents a.statics in
+    record { contents = left.0; statics = left.1; end = roots_end program typed q a.creatable a.contents a.statics a.argument a.moment }
 
 -- the code of a typed program is whole
 pub whole_of : (program : Program) → Typed program → IsWhole (meaning_of program)

@@ -9,11 +9,11 @@ use Rattle.sed_typed.specs.declared.operators.TextCall.TheVariants as text
 use Rattle.sed_typed.specs.declared.program.Method.{Method}
 use Rattle.sed_typed.specs.declared.statement.Stmt.{Stmt}
 use Rattle.sed_typed.specs.declared.statement.Stmt.TheVariants as stmt
-use Rattle.sed_typed.specs.declared.tree.Expr.{Expr, end_of-Expr, more_of-Expr}
+use Rattle.sed_typed.specs.declared.tree.Expr.{Expr, end_of-Expr}
 use Rattle.sed_typed.specs.declared.tree.Expr.TheVariants as expr
 use Rattle.sed_typed.specs.declared.tree.Link.TheVariants as link
 use Rattle.sed_engine.specs.Root.{calls_with}
-use Rattle.sed_engine.proofs.Building.{Pointer, none, one, int, chain, by, this, own, set_y, int_field, class_info, program_of, simple, method, method_of, execute, run, outcome, trapped}
+use Rattle.sed_engine.proofs.Building.{Pointer, none, int, chain, by, this, own, set_y, int_field, class_info, program_of, simple, method, method_of, execute, run, outcome, trapped}
 
 -- `execute` of a class with the int property y, which is not typed
 abbrev body_goes_wrong : Pointer → Stmt → Type 0

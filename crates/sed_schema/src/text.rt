@@ -54,7 +54,7 @@ fn push_type(
     let Some(class) = schema.type_of(kit, number) else {
         return Ok(());
     };
-    match schema.classes.as_slice().get(class.0 as usize) {
+    match schema.class(class) {
         Some(info) => push_class(alloc, out, schema, info),
         None => Ok(()),
     }
@@ -89,7 +89,7 @@ fn push_base(out: &mut Vec<u8>, schema: &Schema, class: &ClassInfo) -> Result<()
     ensures { OnOk result (out.new.items ≡ out.old.items ++ canonical.base_word schema.now class.now) }
 {
     match class.base {
-        Some(base) => match schema.classes.as_slice().get(base.0 as usize) {
+        Some(base) => match schema.class(base) {
             Some(info) => push_full_name(out, schema, info),
             None => Ok(()),
         },
@@ -113,11 +113,8 @@ fn push_full_name(out: &mut Vec<u8>, schema: &Schema, class: &ClassInfo) -> Resu
 fn inherited_slots(schema: &Schema, class: &ClassInfo) -> usize
     ensures { result ≡ canonical.inherited_slots schema.now class.now }
 {
-    let Some(base) = class.base else {
-        return 0;
-    };
-    match schema.classes.as_slice().get(base.0 as usize) {
-        Some(info) => info.slots.len(),
+    match class.base {
+        Some(base) => schema.slot_count(base),
         None => 0,
     }
 }

@@ -24,13 +24,14 @@ pub struct FoundStmt {
     made: Box<Stmt>,
 }
 
-/// Typed statements in the making, one after another. Contracts see the row of their terms.
+/// Typed statements in the making, one after another. Contracts see the row of their terms; their trees are flat.
 #[derive(Drop)]
 pub struct FoundStmts {
     items: Vec<Stmt>,
 }
 
-/// The labels of a `switch` in the making, each with the block behind it.
+/// The labels of a `switch` in the making, each with the block behind it. Contracts see the row of their terms; the trees of
+/// the blocks are flat.
 #[derive(Drop)]
 pub struct FoundCases {
     labels: Vec<Label>,

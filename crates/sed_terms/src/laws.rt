@@ -43,8 +43,8 @@ pub fn trees_nest_as_their_terms()
     ensures locals { (s : Stmt) → declared_in s ≡ declared_term (stmt_term s) }
 {}
 
-/// A term has one tree. In a flat tree, what follows an operand stands in one chain; two flat trees with the same term
-/// are the same wherever they lie in memory. Trees that are the same have the same term, flat or not.
+/// A term has at most one flat tree. In a flat tree, what follows an operand stands in one chain; two flat trees with the
+/// same term are the same wherever they lie in memory. Trees that are the same have the same term, flat or not.
 pub fn terms_have_one_tree()
     ensures expression { (a b : Expr) → IsFlat a → IsFlat b → term_of a ≡ term_of b → bare_expr a ≡ bare_expr b }
     ensures place { (a b : Place) → IsFlatPlace a → IsFlatPlace b → place_term a ≡ place_term b → bare_place a ≡ bare_place b }

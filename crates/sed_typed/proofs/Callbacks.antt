@@ -1,28 +1,28 @@
 -- The virtual methods of a class are those of its base and then its own, and those of components begin with what `Component` declares.
-use Rattle.std.proofs.Common.{◌≡◌, ℕ, zero, suc, ◌<◌, ◌==◌, Bool, true, false, List, [], ◌∷◌, ◌++◌, length, map, reverse, get_or, cond, Option, Some, None, refl, sym, ap, subst, ◌∙◌, arith, append_assoc}
+use Rattle.std.proofs.Common.{◌≡◌, ℕ, ◌<◌, ◌==◌, Bool, true, false, List, [], ◌∷◌, ◌++◌, length, map, reverse, get_or, cond, Option, Some, None, refl, sym, ap, subst, ◌∙◌, arith, append_assoc}
 use Rattle.std.specs.Prelude.{IfSome, IsSomeAnd, IsTrue, ◌&&◌, ◌^◌, nat_lt, slice_get, filter, position}
-use Rattle.std.specs.List.{flat_map, list_any, position_or_len}
+use Rattle.std.specs.List.{flat_map, position_or_len}
 use Rattle.std.specs.Option.{option_and_then, option_map, option_map_or}
 use Rattle.std.specs.Str.{bytes_eq}
 use Rattle.std.proofs.lemmas.Grind.{reverse_onto, flat_map-append}
 use Rattle.std.proofs.lemmas.List.{append-nil}
 use Rattle.std.proofs.lemmas.List.Concat.{flat_map-cons}
 use Rattle.std.proofs.lemmas.List.Quantifiers.{position-Some}
-use Rattle.std.proofs.lemmas.Option.{slice_get_within, get_or_from_slice_get}
+use Rattle.std.proofs.lemmas.Option.{slice_get_within, get_or_from_slice_get, same_Some}
 use Rattle.std.proofs.lemmas.Bool.{and_parts, eqb-true}
 use Rattle.sed_typed.specs.declared.program.Method.{Method}
 use Rattle.sed_typed.specs.declared.program.Program.{Program}
 use Rattle.sed_typed.specs.declared.schema.ActionArg.{ActionArg}
 use Rattle.sed_typed.specs.declared.schema.ClassInfo.{ClassInfo}
 use Rattle.sed_typed.specs.declared.schema.SlotInfo.{SlotInfo}
-use Rattle.sed_typed.specs.Classes.{base_of, reached, lineage, declared_method, declared_methods, find, first_found}
+use Rattle.sed_typed.specs.Classes.{base_of, lineage, declared_method, declared_methods, find, first_found}
 use Rattle.sed_typed.specs.Schemas.{numbered, type_at}
-use Rattle.sed_typed.specs.SysMembers.{AreSysMethods, HasSysMembers, callback_names, component_methods, sys_methods}
+use Rattle.sed_typed.specs.SysMembers.{AreSysMethods, HasSysMembers, component_names, component_methods, sys_methods}
 use Rattle.sed_typed.specs.SysTypes.{IsSysType, HasSysType, component_type}
 use Rattle.sed_typed.specs.Typed.{Typed}
 use Rattle.sed_typed.specs.TypedSchema.{Begins, is_below, is_below_sys}
 use Rattle.sed_typed.specs.Virtual.{new_virtual_names, virtual_names}
-use Rattle.sed_typed.proofs.Lineages.{has_base, lineage_of_base, lineage_alone, none_reached}
+use Rattle.sed_typed.proofs.Lineages.{going_down, lineage_of_base, lineage_alone}
 
 -- ---- by the base
 
@@ -38,7 +38,18 @@ goes_on program typed class base e =
     ∙ flat_map-append (new_virtual_names program) (reverse line) (class ∷ [])
     ∙ ap (λ (own : List (List ℕ)). virtual_names program base ++ own) (one program class)
 
-pub alone : (program : Program) (class : ℕ) → class < length program.schema.classes → base_of program.schema.classes class ≡ None →
+-- those of a class stand at the same places in each class below
+pub keep_places : (program : Program) → Typed program → (above class : ℕ) → is_below program.schema.classes above class ≡ true → Begins (virtual_names program above) (virtual_names program class)
+keep_places program typed above class is =
+    going_down program.schema.classes (λ c. Begins (virtual_names program above) (virtual_names program c)) above ([], sym (append-nil (virtual_names program above)))
+    (λ c base e front. (
+      front.0 ++ new_virtual_names program c,
+      goes_on program typed c base e
+          ∙ ap (λ (names : List (List ℕ)). names ++ new_virtual_names program c) front.1
+          ∙ append_assoc (virtual_names program above) front.0 (new_virtual_names program c),
+    )) class is
+
+pub alone : (program : Program) (class : ℕ) → 0 < length program.schema.classes → base_of program.schema.classes class ≡ None →
     virtual_names program class ≡ new_virtual_names program class
 alone program class h e =
     ap (λ (all : List ℕ). flat_map (new_virtual_names program) (reverse all)) (lineage_alone program.schema.classes class h e) ∙ one program class
@@ -188,16 +199,16 @@ module _ (program : Program) (typed : Typed program) where
   none_above name =
       ap (first_found (declared_method program.methods name))
       (lineage_of_base program typed virtual.class object.class virtual_based
-      ∙ ap (λ (rest : List ℕ). virtual.class ∷ rest) (lineage_alone program.schema.classes object.class object.within object_alone))
+      ∙ ap (λ (rest : List ℕ). virtual.class ∷ rest) (lineage_alone program.schema.classes object.class (omega (arith, object.within)) object_alone))
       ∙ first_of_two (declared_method program.methods name) virtual.class object.class (declares_none program virtual.class virtual_none name) (declares_none program object.class object_none name)
 
   virtual_has_none : virtual_names program virtual.class ≡ []
   virtual_has_none =
       goes_on program typed virtual.class object.class virtual_based
-      ∙ ap (λ (names : List (List ℕ)). names ++ new_virtual_names program virtual.class) (alone program object.class object.within object_alone ∙ begins_none program object.class object_none)
+      ∙ ap (λ (names : List (List ℕ)). names ++ new_virtual_names program virtual.class) (alone program object.class (omega (arith, object.within)) object_alone ∙ begins_none program object.class object_none)
       ∙ begins_none program virtual.class virtual_none
 
-  component_begins : new_virtual_names program component.class ≡ callback_names
+  component_begins : new_virtual_names program component.class ≡ component_names
   component_begins =
       let above : Method → Bool = λ m. option_map_or (λ _. false) (option_and_then (λ base. find program base m.name) (base_of program.schema.classes component.class)) true in
       ap (map (λ (m : Method). m.name))
@@ -208,7 +219,7 @@ module _ (program : Program) (typed : Typed program) where
       ∙ ap (λ (o : Option ℕ). option_map_or (λ _. false) o true) (none_above m.name))
       component_methods (declared_methods program.methods component.class) component.methods
 
-  component_has : virtual_names program component.class ≡ callback_names
+  component_has : virtual_names program component.class ≡ component_names
   component_has =
       goes_on program typed component.class virtual.class component_based
       ∙ ap (λ (names : List (List ℕ)). names ++ new_virtual_names program component.class) virtual_has_none
@@ -216,48 +227,14 @@ module _ (program : Program) (typed : Typed program) where
 
   -- ---- and the classes below it
 
-  at_component : (class : ℕ) → class ≡ component.class → Begins callback_names (virtual_names program class)
-  at_component class e = ([], ap (virtual_names program) e ∙ component_has ∙ sym (append-nil callback_names))
-
-  only_itself : (n class : ℕ) → list_any (λ c. c == component.class) (reached (base_of program.schema.classes) n (Some class)) ≡ true →
-      base_of program.schema.classes class ≡ None → class ≡ component.class
-  only_itself zero class h e = let never : ⊥ = cc in absurd never
-  only_itself (suc n) class h e =
-      let line : reached (base_of program.schema.classes) n (base_of program.schema.classes class) ≡ [] =
-      ap (reached (base_of program.schema.classes) n) e ∙ none_reached (base_of program.schema.classes) n in
-      by_test (class == component.class) refl
-      (ap (λ (rest : List ℕ). list_any (λ c. c == component.class) (class ∷ rest)) (sym line) ∙ h)
-    where
-      by_test : (b : Bool) → (class == component.class) ≡ b → list_any (λ c. c == component.class) (class ∷ []) ≡ true → class ≡ component.class
-      by_test true t h = eqb-true class component.class t
-      by_test false t h = cc
-
-  abbrev Above : ℕ → Type 0
-  Above class = (base : ℕ) → base < class → is_below program.schema.classes component.class base ≡ true → Begins callback_names (virtual_names program base)
-
-  below : (n class : ℕ) → class < n → is_below program.schema.classes component.class class ≡ true → Begins callback_names (virtual_names program class)
-  below zero class h is = absurd (omega (arith, h))
-  below (suc n) class h is = by_base (λ base falls up. below n base (omega (arith, h, falls)) up) (base_of program.schema.classes class) refl
-    where
-      by_test : Above class → (base : ℕ) → base_of program.schema.classes class ≡ Some base → (b : Bool) → (class == component.class) ≡ b →
-          list_any (λ c. c == component.class) (class ∷ lineage program.schema.classes base) ≡ true → Begins callback_names (virtual_names program class)
-      by_test front_of base e true t any = at_component class (eqb-true class component.class t)
-      by_test front_of base e false t any =
-          let falls : base < class = (has_base program typed class base e).before in
-          let up : is_below program.schema.classes component.class base ≡ true = cc in
-          let front = front_of base falls up in (
-            front.0 ++ new_virtual_names program class,
-            goes_on program typed class base e
-                ∙ ap (λ (names : List (List ℕ)). names ++ new_virtual_names program class) front.1
-                ∙ append_assoc callback_names front.0 (new_virtual_names program class),
-          )
-
-      by_base : Above class → (o : Option ℕ) → base_of program.schema.classes class ≡ o → Begins callback_names (virtual_names program class)
-      by_base front_of None e = at_component class (only_itself (length program.schema.classes) class is e)
-      by_base front_of (Some base) e =
-          by_test front_of base e (class == component.class) refl (ap (list_any (λ c. c == component.class)) (sym (lineage_of_base program typed class base e)) ∙ is)
-
-  pub begin : (class : ℕ) → IsTrue (is_below_sys program.schema.classes component_type class) → Begins callback_names (virtual_names program class)
+  pub begin : (class : ℕ) → IsTrue (is_below_sys program.schema.classes component_type class) → Begins component_names (virtual_names program class)
   begin class is =
-      below (suc class) class (omega arith)
-      (ap (λ (o : Option ℕ). option_map_or (λ above. is_below program.schema.classes above class) o false) (sym component.at) ∙ is)
+      subst (λ (front : List (List ℕ)). Begins front (virtual_names program class)) component_has
+      (keep_places program typed component.class class
+      (ap (λ (o : Option ℕ). option_map_or (λ above. is_below program.schema.classes above class) o false) (sym component.at) ∙ is))
+
+  pub begins_at : (class : ℕ) → type_at program.schema.classes 0 component_type ≡ Some class → virtual_names program class ≡ component_names
+  begins_at class is = ap (virtual_names program) (let same : class ≡ component.class = same_Some class component.class (sym is ∙ component.at) in same) ∙ component_has
+
+  pub some_classes : 0 < length program.schema.classes
+  some_classes = omega (arith, component.within)

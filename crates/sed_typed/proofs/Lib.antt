@@ -1,3 +1,4 @@
 pub mod Lineages
 pub mod VirtualNames
 pub mod Callbacks
+pub mod Nearest

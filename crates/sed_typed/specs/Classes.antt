@@ -58,6 +58,10 @@ abbrev pub find : Program → ℕ → List ℕ → Option ℕ
 find program class name =
     first_found (declared_method program.methods name) (lineage program.schema.classes class)
 
+-- that method
+abbrev pub nearest : Program → ℕ → List ℕ → Option Method
+nearest program class name = option_and_then (slice_get program.methods) (find program class name)
+
 -- the name of a method
 abbrev pub method_name : Program → ℕ → List ℕ
 method_name program method = option_map_or (λ m. m.name) (slice_get program.methods method) []

@@ -1,5 +1,5 @@
 -- What every program has that a value holds, typed or not: names of the forms that the language gives them, and numbers
--- that fit their bytes.
+-- that fit their bytes. Nothing is said of initial values, of the kinds in signatures, or of bodies.
 use Rattle.std.specs.Prelude.{◌^◌, ◌<◌, IsTrue, All, IfSome}
 use Rattle.std.specs.Int.{w32}
 use Rattle.sed_value.specs.Names.{is_kit_name, is_word}

@@ -27,9 +27,9 @@ sys_fields number class = if number == component_type then meta_field class ∷ 
 abbrev pub component_methods : List (List ℕ × ActionArg)
 component_methods = (codes "execute", Void) ∷ (codes "start", Void) ∷ (codes "stop", Void) ∷ (codes "changed", Int) ∷ []
 
--- their names, in their order
-abbrev pub callback_names : List (List ℕ)
-callback_names = map (λ (want : List ℕ × ActionArg). want.0) component_methods
+-- their names, in their order; `execute` is no callback, the others are
+abbrev pub component_names : List (List ℕ)
+component_names = map (λ (want : List ℕ × ActionArg). want.0) component_methods
 
 abbrev pub app_methods : List (List ℕ × ActionArg)
 app_methods = (codes "save", Void) ∷ []

@@ -52,7 +52,8 @@ abbrev pub is_default : Label → Bool
 is_default (Case m) = false
 is_default Default = true
 
--- each case once, and one default at most
+-- Each case once, and one default at most. A case has 32 bits by its type, in whatever statement a value holds, so nothing is
+-- asked of its number here.
 pub record AreLabels (labels : List Label) : Type 0 where
   pub cases : (n : ℤ) → count_by (same_label n) labels ≤ 1
   pub default : count_by is_default labels ≤ 1

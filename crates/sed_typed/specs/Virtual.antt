@@ -1,7 +1,8 @@
 -- The virtual methods of a class.
 use Rattle.std.specs.Prelude.{ℕ, ◌≡◌, ◌==◌, ◌&&◌, Bool, true, false, List, length, count_by, filter, map, reverse, sum_by}
-use Rattle.std.specs.List.{flat_map}
+use Rattle.std.specs.List.{flat_map, list_any}
 use Rattle.std.specs.Option.{option_and_then, option_map_or}
+use Rattle.std.specs.Str.{bytes_eq}
 use Rattle.sed_typed.specs.declared.program.Method.{Method}
 use Rattle.sed_typed.specs.declared.program.Program.{Program}
 use Rattle.sed_typed.specs.Classes.{base_of, find, lineage}
@@ -19,6 +20,10 @@ new_virtual_names program class = map (λ m. m.name) (filter (begins_virtual pro
 -- keeps the inherited place
 abbrev pub virtual_names : Program → ℕ → List (List ℕ)
 virtual_names program class = flat_map (new_virtual_names program) (reverse (lineage program.schema.classes class))
+
+-- a name is among them
+abbrev pub has_virtual_name : Program → ℕ → List ℕ → Bool
+has_virtual_name program class name = list_any (λ n. bytes_eq n name) (virtual_names program class)
 
 -- there are as many as the classes at and above begin
 abbrev pub AreCounted : Type 0

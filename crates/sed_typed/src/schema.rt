@@ -58,7 +58,8 @@ pub struct Schema {
 impl Schema {
     /// The class with this number in this kit.
     ///
-    /// None exactly where there is none; of several, which a typed schema has not, the first.
+    /// Of several, which a typed schema has not, the first. None where there is none, or where its place is no class's
+    /// number, as in no typed schema.
     pub fn type_of(&self, kit: u8, number: u8) -> Option<TypeNo>
         ensures { option_map (λ t. t.0) result ≡ schemas.type_at self.now.classes kit number }
     {
@@ -75,7 +76,7 @@ impl Schema {
         self.classes.as_slice().get(usize::from(class.0))
     }
 
-    /// The slots of a class, inherited ones first: none where there is no class of this number.
+    /// The slots of a class, inherited ones first: none of them where there is no class of this number.
     pub fn slots_of(&self, class: TypeNo) -> &[SlotInfo]
         ensures { result.now ≡ slots self.now.classes class.0 }
     {
@@ -85,14 +86,14 @@ impl Schema {
         }
     }
 
-    /// How many slots a class has, inherited ones among them.
+    /// How many slots a class has, inherited ones among them: 0 where there is no class of this number.
     pub fn slot_count(&self, class: TypeNo) -> usize
         ensures { result ≡ length (slots self.now.classes class.0) }
     {
         self.slots_of(class).len()
     }
 
-    /// A slot of a class, by its number.
+    /// A slot of a class, by its number: none where there is no such class or slot.
     pub fn slot(&self, class: TypeNo, slot: SlotNo) -> Option<&SlotInfo>
         ensures { option_copied result ≡ slice_get (slots self.now.classes class.0) slot.0 }
     {
@@ -109,7 +110,7 @@ impl Schema {
         }
     }
 
-    /// Whether a class is the type of kit `sys` with this number.
+    /// Whether a class is the type of kit `sys` with this number. What is no class isn't.
     pub fn is_sys_type(&self, number: u8, class: TypeNo) -> bool
         ensures { result ≡ types.is_sys_type self.now.classes number class.0 }
     {
@@ -120,7 +121,7 @@ impl Schema {
     }
 
     /// Whether a class is below that of components and is not the App's, so that components are made of it unless it is
-    /// abstract.
+    /// abstract. What is no class isn't.
     pub fn is_for_components(&self, class: TypeNo) -> bool
         ensures { result ≡ types.is_for_components self.now.classes class.0 }
     {

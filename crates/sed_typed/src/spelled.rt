@@ -1,4 +1,5 @@
-//! What holds of a program by the types of its parts.
+//! What holds of a program by the types of its parts. Nothing is said of initial values, of the kinds in signatures, or
+//! of bodies.
 ghost use Rattle.std.specs.Prelude.{◌<◌, ◌^◌, nat_lt, IsTrue, All, IfSome};
 ghost use Rattle.std.specs.List.{list_all};
 ghost use Rattle.std.specs.Int.{w32};
@@ -14,7 +15,8 @@ use crate::schema::{ClassInfo, Schema, SlotForm, SlotInfo};
 use crate::text::Bytes255;
 use sed_value::{KitRef, SlotType};
 
-/// The names in a program are of the language's forms, and its numbers fit their bytes. This reads them and does nothing.
+/// The names in a program are of the language's forms, and its numbers fit their bytes: those of its schema, those of the
+/// classes, slots and forms of its members, and those in its texts. This reads them and does nothing.
 pub fn program_is_spelled_out(program: &Program)
     ensures { IsSpelledOut program.now }
 {
@@ -25,7 +27,7 @@ pub fn program_is_spelled_out(program: &Program)
     texts_are_spelled_out(program.texts.as_slice());
 }
 
-/// The same of a schema.
+/// The names and numbers of a schema are of their forms too.
 pub fn schema_is_spelled_out(schema: &Schema)
     ensures { IsSpelledSchema schema.now }
 {

@@ -1,5 +1,8 @@
-use Rattle.sed_typed.proofs.Callbacks.{begin}
+use Rattle.sed_typed.proofs.Callbacks.{begin, begins_at}
 use Rattle.sed_typed.proofs.laws.components_begin_with_callbacks.Goals as goal
 
-pub returns : goal.returns
-returns c = begin
+pub returns-clause-begins : goal.returns-clause-begins
+returns-clause-begins c = begin
+
+pub returns-clause-component : goal.returns-clause-component
+returns-clause-component c = begins_at
