@@ -3,4 +3,3 @@ pub mod AskedLemmas
 pub mod LimitLemmas
 pub mod ReadingLemmas
 pub mod TextLemmas
-pub mod WritingLemmas
