@@ -3,18 +3,11 @@ use Rattle.std.proofs.Common.{◌≡◌, ℕ, zero, suc, ◌<◌, Bool, true, fa
 use Rattle.std.specs.Prelude.{◌||◌, map as map_list}
 use Rattle.std.specs.List.{AllByRecursion, IsDistinct, list_any}
 use Rattle.std.specs.Str.{bytes_eq}
+use Rattle.sed_value.proofs.Truths.{or_left as left_false, or_right as right_false}
 
 -- none behind a place has the name of the one there
 abbrev pub NoneBehind : (ℕ → List ℕ) → List ℕ → ℕ → Type 0
 NoneBehind name places k = list_any (λ p. bytes_eq (name (get_or places k 0)) (name p)) (drop (suc k) places) ≡ false
-
-left_false : (a b : Bool) → (a || b) ≡ false → a ≡ false
-left_false false b is = refl
-left_false true b is = absurd (let no : true ≡ false = is in cc)
-
-right_false : (a b : Bool) → (a || b) ≡ false → b ≡ false
-right_false false b is = is
-right_false true b is = absurd (let no : true ≡ false = is in cc)
 
 both_false : (a b : Bool) → a ≡ false → b ≡ false → (a || b) ≡ false
 both_false false b is rest = rest

@@ -11,12 +11,10 @@ use Rattle.link_table.specs.Links.{AreInOrder, is_before}
 use Rattle.comp_tree.specs.Links.{go_together_if_there}
 use Rattle.app_front.specs.declared.rows.FileRow.{FileRow}
 use Rattle.app_told.specs.FormedFile.{IsLinkIn, row_with, type_in}
+pub use Rattle.sed_value.proofs.Lists.{at_place as at_each}
 
 some_link : (k l : Link) → ◌≡◌ {A = Option Link} (Some k) (Some l) → k ≡ l
 some_link k l e = cc
-
-pub at_each : {A : Type 0} (P : A → Type 0) (xs : List A) (k : ℕ) (x : A) → All P xs → slice_get xs k ≡ Some x → P x
-at_each {A} P xs k x all is = subst P (get_or_from_slice_get xs k x x is) (all k x (slice_get_within xs k x is))
 
 pub all_before : {A : Type 0} (P : A → Type 0) (xs : List A) (n : ℕ) → length xs ≤ n → ((k : ℕ) (x : A) → k < n → slice_get xs k ≡ Some x → P x) → All P xs
 all_before P xs n over each = λ k d lt. each k (get_or xs k d) (omega (arith, lt, over)) (slice_get-get_or xs k d lt)

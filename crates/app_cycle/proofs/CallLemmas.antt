@@ -3,8 +3,6 @@ use Rattle.std.proofs.Common.{ℕ, ℤ, ◌≡◌, ◌≢◌, Bool, true, false,
 use Rattle.std.specs.Prelude.{Option, Some, None, IsSome, IsSomeAnd, is_some, ◌==◌, if◌then◌else◌}
 use Rattle.std.specs.Option.{option_map_or}
 use Rattle.std.specs.FinMap as map
-use Rattle.std.specs.Ordering.{nat_cmp, eq_by_cmp}
-use Rattle.std.specs.Cmp.{nat_cmp_total}
 use Rattle.std.proofs.lemmas.Bool.{cases_eq}
 use Rattle.std.proofs.lemmas.Bool.Decides.{nat_tests}
 use Rattle.sed_value.specs.declared.value.Value.{Value}
@@ -16,6 +14,7 @@ use Rattle.comp_tree.specs.declared.entry.Entry.{Entry}
 use Rattle.comp_tree.specs.Application.{ById, Component, Components, fault_of, is_live, object_of}
 use Rattle.comp_tree.specs.Calls.{Call, Ran, callback_argument, ended, not_run, run_at, with_end}
 use Rattle.comp_tree.specs.Told.{IsEntry}
+use Rattle.sed_value.proofs.Orders.{put_at, put_beside}
 
 -- ---- what an entry tells
 
@@ -47,18 +46,6 @@ module _ (m : Meaning) (a : Components) (id : ℕ) (which : Root) (argument : Va
   run_faulted ne = by_fault (map.get a.by_id id) ne
 
 -- ---- a root call leaves each component that is live so
-
-tied_same : (n : ℕ) → eq_by_cmp nat_cmp n n ≡ true
-tied_same n = grind (arith, nat_tests)
-
-tied_apart : (n k : ℕ) → n ≢ k → eq_by_cmp nat_cmp n k ≡ false
-tied_apart n k ne = grind (arith, nat_tests)
-
-put_at : (all : ById) (id : ℕ) (d : Component) → map.get (map.insert all id d) id ≡ Some d
-put_at all id d = map.get-insert nat_cmp_total all id d id ∙ rw (tied_same id) refl
-
-put_beside : (all : ById) (id : ℕ) (d : Component) (q : ℕ) → q ≢ id → map.get (map.insert all id d) q ≡ map.get all q
-put_beside all id d q ne = map.get-insert nat_cmp_total all id d q ∙ rw (tied_apart q id ne) refl
 
 put_live : (all : ById) (id : ℕ) (c d : Component) → map.get all id ≡ Some c → (q : ℕ) → is_live (map.insert all id d) q ≡ is_live all q
 put_live all id c d there q = elim (cases_eq q id) [

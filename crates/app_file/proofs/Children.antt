@@ -25,7 +25,7 @@ apart k x (y ∷ ks) zero all at =
 apart k x (y ∷ ks) (suc n) all at = apart k x ks n all.1 at
 
 -- the next item is the one behind this one
-next_item : (xs : List ℕ) (n : ℕ) → IsDistinct nat_eq xs → slice_get xs (suc n) ≡ option_and_then (λ x. behind x xs) (slice_get xs n)
+pub next_item : (xs : List ℕ) (n : ℕ) → IsDistinct nat_eq xs → slice_get xs (suc n) ≡ option_and_then (λ x. behind x xs) (slice_get xs n)
 unfolding IsDistinct
 next_item [] n distinct = refl
 next_item (k ∷ ks) zero distinct =

@@ -24,9 +24,7 @@ use Rattle.app_file.proofs.FormedRows.{contains_item, links_fit, rows_fit}
 use Rattle.app_file.proofs.OneWay.{same_front}
 use Rattle.app_file.proofs.ToldRows.{pairs}
 use Rattle.app_file.proofs.RowsOneWay.{AreNumbered, links_are_one, rows_are_one}
-
-some_is : {A : Type 0} (x y : A) → ◌≡◌ {A = Option A} (Some x) (Some y) → x ≡ y
-some_is x y e = cc
+use Rattle.std.proofs.lemmas.Option.{same_Some as some_is}
 
 -- ---- a row by its id
 

@@ -1,6 +1,6 @@
 -- What is whole is formed, and passes no limit.
 use Rattle.std.proofs.Common.{◌≡◌, ℕ, ◌<◌, ◌≤◌, Bool, true, false, IsTrue, List, [], ◌∷◌, length, refl, sym, subst, ◌∙◌, ap, arith}
-use Rattle.std.specs.Prelude.{Option, Some, None, IfSome, IsSomeAnd, is_some, nat_eq, nat_le, nat_lt, ◌||◌, map as map_list}
+use Rattle.std.specs.Prelude.{Option, Some, None, IfSome, is_some, nat_eq, nat_le, nat_lt, ◌||◌, map as map_list}
 use Rattle.std.specs.Option.{option_and_then, option_map_or}
 use Rattle.std.specs.List.{AllByRecursion, Contains, IsDistinct, list_any}
 use Rattle.std.specs.Str.{bytes_eq}
@@ -16,6 +16,7 @@ use Rattle.comp_tree.specs.Whole.{Whole}
 use Rattle.app_file.specs.Formed.{IsFormed}
 use Rattle.app_file.specs.Limits.{first_passed, limit_passed}
 use Rattle.app_file.proofs.EntriesOfMaps.{entries_are_got}
+use Rattle.sed_value.proofs.Options.{some_and}
 
 -- what is walked from the App is shallow
 abbrev pub AreShallow : Type 0
@@ -65,10 +66,6 @@ not_above most n le = grind (arith, nat_tests)
 
 not_from : (most n : ℕ) → n < most → nat_le most n ≡ false
 not_from most n lt = grind (arith, nat_tests)
-
-some_and : {A : Type 0} {P : A → Type 0} (o : Option A) → IsSomeAnd o P → (x : A) × (◌≡◌ {A = Option A} o (Some x)) × P x
-some_and None h = absurd h
-some_and (Some x) h = (x, refl, h)
 
 module _ (shallow : AreShallow) (m : Meaning) (a : Application) (whole : Whole m a) where
   at_component : (P : ℕ → Component → Type 0) (id : ℕ) (c : Component) → map.get a.components.by_id id ≡ Some c → IfSome (map.get a.components.by_id id) (P id) → P id c

@@ -1,5 +1,5 @@
 -- What is checked part by part is what has to hold of rows and links.
-use Rattle.std.proofs.Common.{◌≡◌, ℕ, zero, suc, ◌<◌, Bool, true, false, List, [], ◌∷◌, length, get_or, refl, sym, subst, ◌∙◌, ap, arith}
+use Rattle.std.proofs.Common.{◌≡◌, ℕ, suc, ◌<◌, Bool, true, false, List, [], ◌∷◌, length, get_or, refl, sym, subst, ◌∙◌, ap, arith}
 use Rattle.std.specs.Prelude.{Option, Some, All, IsTrue, slice_get, map as map_list}
 use Rattle.std.specs.Option.{option_and_then, option_map, option_map_or}
 use Rattle.std.specs.List.{Contains, IsDistinct}
@@ -16,14 +16,7 @@ use Rattle.app_front.specs.declared.rows.FileRows.{FileRows}
 use Rattle.app_told.specs.FormedFile.{GivesItsValues, IsFormedFile, name_in, tree_row, tree_rows}
 use Rattle.app_checks.specs.Checks.{SiblingsDiffer, name_at}
 use Rattle.app_formed.specs.Checked.{IsChecked}
-
-some_item : {A : Type 0} (xs : List A) (n : ℕ) → n < length xs → (x : A) × (slice_get xs n ≡ Some x)
-some_item [] n lt = absurd (omega (arith, lt))
-some_item (x ∷ xs) zero lt = (x, refl)
-some_item (x ∷ xs) (suc n) lt = some_item xs n (omega (arith, lt))
-
-at_each : {A : Type 0} (P : A → Type 0) (xs : List A) (k : ℕ) (x : A) → All P xs → slice_get xs k ≡ Some x → P x
-at_each {A} P xs k x all is = subst P (get_or_from_slice_get xs k x x is) (all k x (slice_get_within xs k x is))
+use Rattle.sed_value.proofs.Lists.{item_there as some_item, at_place as at_each}
 
 contains_at : (xs : List ℕ) (n x : ℕ) → slice_get xs n ≡ Some x → Contains xs x
 contains_at xs n x at = (n, slice_get_within xs n x at, get_or_from_slice_get xs n x x at)

@@ -18,6 +18,7 @@ use Rattle.sed_wire.specs.Faults.{size_of}
 use Rattle.sed_wire.specs.Number.{number_of}
 use Rattle.sed_wire.proofs.FrontLemmas.{number_of-below}
 use Rattle.comp_tree.specs.Values.{are_bad_values, have_long_buffer, is_bad_truth, is_too_long, taken, value_of, values_of}
+use Rattle.std.proofs.lemmas.Bool.{or_parts as neither}
 
 -- ---- fronts of bytes
 
@@ -101,10 +102,6 @@ EachOf [] [] = Unit {0}
 EachOf [] (v ∷ values) = ⊥
 EachOf (t ∷ types) [] = ⊥
 EachOf (t ∷ types) (v ∷ values) = IsTrue (is_of_type t v) × EachOf types values
-
-neither : (a b : Bool) → (a || b) ≡ false → (a ≡ false) × (b ≡ false)
-neither false b h = (refl, h)
-neither true b h = absurd cc
 
 some_one : (x y : List Value) → ◌≡◌ {A = Option (List Value)} (Some x) (Some y) → x ≡ y
 some_one x y e = cc

@@ -18,10 +18,7 @@ use Rattle.app_parts.specs.Values.{is_told, values_bytes}
 use Rattle.app_parts.specs.declared.values.Values.{Values}
 use Rattle.app_parts.specs.declared.values.Values.TheVariants.{Config, Runtime}
 use Rattle.sed_value.specs.declared.value.Value.TheVariants.{Nothing}
-
-pub some_and : {A : Type 0} {P : A → Type 0} (o : Option A) → IsSomeAnd o P → (x : A) × (◌≡◌ {A = Option A} o (Some x)) × P x
-some_and None h = absurd h
-some_and (Some x) h = (x, refl, h)
+pub use Rattle.sed_value.proofs.Options.{some_and}
 
 is_not : (a b : ℕ) → a ≢ b → (a == b) ≡ false
 is_not a b apart = grind (arith, nat_tests)

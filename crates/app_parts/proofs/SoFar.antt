@@ -1,5 +1,5 @@
 -- A text that is put piece by piece.
-use Rattle.std.proofs.Common.{◌≡◌, ℕ, ◌+◌, ◌≤◌, ◌<◌, List, [], ◌∷◌, ◌++◌, length, drop, get_or, refl, sym, ◌∙◌, ap, subst, append_assoc, length-append, add-one, inl, inr}
+use Rattle.std.proofs.Common.{◌≡◌, ℕ, ◌+◌, ◌≤◌, ◌<◌, List, [], ◌++◌, length, drop, get_or, refl, sym, ◌∙◌, ap, subst, append_assoc, length-append, add-one, inl, inr}
 use Rattle.std.proofs.Math.Seq.{drop-cons}
 use Rattle.std.specs.List.{flat_map}
 use Rattle.std.specs.Prelude.{Option, Some, None, slice_get}
@@ -8,10 +8,7 @@ use Rattle.std.proofs.lemmas.Option.{get_or_from_slice_get, slice_get_cases, sli
 use Rattle.sed_wire.specs.declared.writer.Writer.{Writer}
 use Rattle.sed_wire.specs.Writing.{Appends}
 use Rattle.sed_wire.proofs.WritingLemmas.{appends-none, appends-then}
-
-append-nil : (bytes : List ℕ) → bytes ++ [] ≡ bytes
-append-nil [] = refl
-append-nil (byte ∷ behind) = ap (λ (bs : List ℕ). byte ∷ bs) (append-nil behind)
+use Rattle.std.proofs.lemmas.List.{append-nil}
 
 -- of a text the front is put, and this is left to put
 pub record SoFar (before now : Writer) (all rest : List ℕ) : Type 0 where

@@ -1,6 +1,6 @@
 -- The limits that rows pass, and those of the application that they tell.
 use Rattle.std.proofs.Common.{◌≡◌, ℕ, zero, suc, ◌<◌, ◌≤◌, Bool, true, false, List, [], ◌∷◌, ◌++◌, refl, sym, ◌∙◌, ap, arith}
-use Rattle.std.specs.Prelude.{Option, Some, None, ◌||◌, nat_lt, if◌then◌else◌, slice_get}
+use Rattle.std.specs.Prelude.{Option, Some, None, nat_lt, if◌then◌else◌, slice_get}
 use Rattle.std.specs.List.{list_any}
 use Rattle.std.proofs.lemmas.Bool.Decides.{nat_tests}
 use Rattle.sed_engine.specs.Code.{Meaning}
@@ -10,16 +10,9 @@ use Rattle.app_told.specs.FormedFile.{tree_rows}
 use Rattle.app_limits.specs.Passed.{passed_by}
 use Rattle.app_reader.specs.Ready.{application_told, components_told}
 use Rattle.app_reader.specs.declared.ready.FormedRows.{FormedRows}
+use Rattle.sed_value.proofs.Truths.{or_left as first_false, or_right as rest_false}
 
 -- ---- tests on lists
-
-first_false : (a b : Bool) → (a || b) ≡ false → a ≡ false
-first_false false b is = refl
-first_false true b is = absurd (let no : true ≡ false = is in cc)
-
-rest_false : (a b : Bool) → (a || b) ≡ false → b ≡ false
-rest_false false b is = is
-rest_false true b is = absurd (let no : true ≡ false = is in cc)
 
 -- what no item passes, the one at a place doesn't
 pub none_at : {A : Type 0} (p : A → Bool) (xs : List A) (k : ℕ) (x : A) → list_any p xs ≡ false → slice_get xs k ≡ Some x → p x ≡ false

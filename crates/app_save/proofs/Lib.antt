@@ -1,5 +1,5 @@
 mod Bytes
-mod Moments
+pub mod Moments
 mod Newest
 mod Torn
 mod Stages

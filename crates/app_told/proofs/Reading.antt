@@ -1,6 +1,6 @@
 -- Rows and links that tell an application hold together.
 use Rattle.std.proofs.Common.{◌≡◌, ℕ, ◌<◌, ◌≤◌, Bool, true, false, List, [], refl, sym, subst, ◌∙◌, ap, ap₂}
-use Rattle.std.specs.Prelude.{Option, Some, None, IfSome, IsSomeAnd, is_some, slice_get, length, map as map_list}
+use Rattle.std.specs.Prelude.{Option, Some, None, IfSome, is_some, slice_get, length, map as map_list}
 use Rattle.std.specs.Option.{option_map}
 use Rattle.std.specs.List.{IsDistinct}
 use Rattle.std.specs.Str.{bytes_eq}
@@ -26,10 +26,7 @@ use Rattle.app_told.specs.FormedFile.{GivesItsValues, IsAppRow, IsFormedFile, Is
 use Rattle.app_told.specs.Tells.{Tells, rows_told}
 use Rattle.app_told.proofs.RowsById.{all_map, all_of, ascend_of, at_each, at_first, at_map, behind_first, children_of_is, entries_are, got, if_some, keys_are, live_is, live_row, name_of_is, of_some, parent_of_is, row_at, row_of_place, some_is, type_at_is}
 use Rattle.app_told.proofs.Telling.{rows_stand}
-
-some_and : {A : Type 0} {P : A → Type 0} (o : Option A) → IsSomeAnd o P → (x : A) × (◌≡◌ {A = Option A} o (Some x)) × P x
-some_and None h = absurd h
-some_and (Some x) h = (x, refl, h)
+use Rattle.sed_value.proofs.Options.{some_and}
 
 module _ (m : Meaning) (f : FileRows) (children : ℕ → List ℕ) (limit : ℕ) (agree : RowsAgree m children (rows_told f)) (formed : IsFormed m (told_application m children (rows_told f) f.links limit)) where
   abbrev all : ById

@@ -1,6 +1,6 @@
 -- The components that rows tell, by their ids.
 use Rattle.std.proofs.Common.{◌≡◌, ℕ, zero, suc, ◌<◌, Bool, true, false, cond, List, [], ◌∷◌, refl, sym, subst, ◌∙◌, ap, arith, eqb-true}
-use Rattle.std.specs.Prelude.{Option, Some, None, T, IfSome, is_some, ◌==◌, ◌&&◌, if◌then◌else◌, slice_get, map as map_list, All}
+use Rattle.std.specs.Prelude.{Option, Some, None, T, IfSome, is_some, ◌==◌, if◌then◌else◌, slice_get, map as map_list, All}
 use Rattle.std.specs.Option.{option_and_then, option_map, option_map_or}
 use Rattle.std.specs.List.{AllByRecursion}
 use Rattle.std.specs.FinMap as map
@@ -9,7 +9,7 @@ use Rattle.std.specs.FinMap.Entries.{below_all}
 use Rattle.std.specs.Ordering.{nat_cmp, eq_by_cmp, is_lt}
 use Rattle.std.proofs.lemmas.Bool.Decides.{nat_tests}
 use Rattle.std.proofs.lemmas.List.Elements.{All-from_recursion}
-use Rattle.std.proofs.lemmas.Option.{get_or_from_slice_get, slice_get_within, slice_get-map}
+use Rattle.std.proofs.lemmas.Option.{slice_get-map}
 use Rattle.sed_engine.specs.Code.{Meaning, property_type, slot_form}
 use Rattle.comp_tree.specs.Application.{ById, Component, children_of, is_live, name_of, parent_of, type_at}
 use Rattle.row_tree.specs.Rows.{Ascend, is_row, parent_in, place_of}
@@ -19,11 +19,13 @@ use Rattle.app_front.specs.Rows.{number_of_id, told_row}
 use Rattle.app_front.specs.declared.rows.FileRow.{FileRow}
 use Rattle.row_tree.proofs.Places.{at_place, found_place}
 use Rattle.app_told.specs.FormedFile.{name_in, row_with, tree_row, tree_rows, type_in}
+pub use Rattle.sed_value.proofs.Lists.{at_place as at_each}
+pub use Rattle.std.proofs.lemmas.Option.{same_Some as some_is}
+use Rattle.sed_value.proofs.Orders.{below_is as less_is}
+use Rattle.std.proofs.lemmas.Bool.{and_from as both}
+use Rattle.sed_value.proofs.Truths.{and_left as first_true, and_right as rest_true}
 
 -- ---- lists
-
-pub at_each : {A : Type 0} (P : A → Type 0) (xs : List A) (k : ℕ) (x : A) → All P xs → slice_get xs k ≡ Some x → P x
-at_each {A} P xs k x all is = subst P (get_or_from_slice_get xs k x x is) (all k x (slice_get_within xs k x is))
 
 by_recursion : {A : Type 0} (P : A → Type 0) (xs : List A) → ((k : ℕ) (x : A) → slice_get xs k ≡ Some x → P x) → AllByRecursion P xs
 by_recursion P [] each = tt
@@ -37,9 +39,6 @@ record Mapped {A B : Type 0} (g : A → B) (xs : List A) (k : ℕ) (y : B) : Typ
   item : A
   at : slice_get xs k ≡ Some item
   same : g item ≡ y
-
-pub some_is : {A : Type 0} (x y : A) → ◌≡◌ {A = Option A} (Some x) (Some y) → x ≡ y
-some_is x y e = cc
 
 mapped : {A B : Type 0} (g : A → B) (xs : List A) (k : ℕ) (y : B) → slice_get (map_list g xs) k ≡ Some y → Mapped g xs k y
 mapped {A} {B} g xs k y is = by_item (slice_get xs k) refl (sym (slice_get-map g xs k) ∙ is)
@@ -56,23 +55,8 @@ at_map g P xs k x all is = at_each P (map_list g xs) k (g x) all (slice_get-map 
 
 -- ---- ids that ascend
 
-less_is : (a b : ℕ) → T (is_lt (nat_cmp a b)) → a < b
-less_is a b is = grind (arith, nat_tests)
-
 less_of : (a b : ℕ) → a < b → is_lt (nat_cmp a b) ≡ true
 less_of a b lt = grind (arith, nat_tests)
-
-both : (a b : Bool) → a ≡ true → b ≡ true → (a && b) ≡ true
-both true b is rest = rest
-both false b is rest = absurd (let no : false ≡ true = is in cc)
-
-first_true : (a b : Bool) → (a && b) ≡ true → a ≡ true
-first_true true b is = refl
-first_true false b is = absurd (let no : false ≡ true = is in cc)
-
-rest_true : (a b : Bool) → (a && b) ≡ true → b ≡ true
-rest_true true b is = is
-rest_true false b is = absurd (let no : false ≡ true = is in cc)
 
 is_t : (b : Bool) → b ≡ true → T b
 is_t true is = tt

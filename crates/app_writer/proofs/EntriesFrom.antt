@@ -6,18 +6,10 @@ use Rattle.std.specs.FinMap.{find, is_sorted}
 use Rattle.std.specs.FinMap.Entries.{below_all}
 use Rattle.std.specs.Ordering.{nat_cmp, eq_by_cmp, is_lt}
 use Rattle.std.proofs.lemmas.Bool.Decides.{nat_tests}
-
-tied_same : (a : ℕ) → eq_by_cmp nat_cmp a a ≡ true
-tied_same a = grind (arith, nat_tests)
-
-tied_apart : (a b : ℕ) → a ≢ b → eq_by_cmp nat_cmp a b ≡ false
-tied_apart a b ne = grind (arith, nat_tests)
+use Rattle.sed_value.proofs.Orders.{tied_same, tied_apart, below_is}
 
 pub tied_is : (a b : ℕ) → eq_by_cmp nat_cmp a b ≡ true → a ≡ b
 tied_is a b is = grind (arith, nat_tests)
-
-below_is : (a b : ℕ) → T (is_lt (nat_cmp a b)) → a < b
-below_is a b is = grind (arith, nat_tests)
 
 at_most : (a b : ℕ) → a ≤ b → nat_le a b ≡ true
 at_most a b le = grind (arith, nat_tests)

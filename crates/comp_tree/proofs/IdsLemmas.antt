@@ -1,6 +1,6 @@
 -- Ids in two bytes each, one read after another.
 use Rattle.std.proofs.Common.{ℕ, ◌≡◌, ◌+◌, ◌*◌, ◌<◌, ◌≤◌, List, [], ◌∷◌, ◌++◌, length, refl, sym, ◌∙◌, ap, append_assoc, arith}
-use Rattle.std.proofs.lemmas.List.{length-append}
+use Rattle.std.proofs.lemmas.List.{length-append, append-nil as append_none}
 use Rattle.std.specs.Prelude.{Option, Some, None, is_some}
 use Rattle.std.specs.Option.{option_map}
 use Rattle.sed_wire.specs.Number.{SpellsNumber, number_of}
@@ -64,10 +64,6 @@ pub left_over_byte : (ids left : List ℕ) (k : ℕ) (whole : Option (List ℕ))
 left_over_byte ids [] k whole some_left few e some is = absurd (some_left refl)
 left_over_byte ids (a ∷ []) k whole some_left few e some is = absurd (let never = ap is_some (e ∙ is) in cc)
 left_over_byte ids (a ∷ b ∷ left) k whole some_left few e some is = absurd (omega arith)
-
-append_none : (ids : List ℕ) → ids ++ [] ≡ ids
-append_none [] = refl
-append_none (x ∷ ids) = ap (λ (xs : List ℕ). x ∷ xs) (append_none ids)
 
 pub all_read : (ids left : List ℕ) (whole : Option (List ℕ)) → left ≡ [] → so_far ids left ≡ whole → whole ≡ Some ids
 all_read ids left whole none e = sym e ∙ ap (so_far ids) none ∙ ap Some (append_none ids)

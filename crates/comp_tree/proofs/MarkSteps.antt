@@ -1,7 +1,7 @@
 -- What a step does to the marks and to the bytes of parts.
 use Rattle.std.proofs.Common.{ℕ, ◌≡◌, ◌≢◌, ◌<◌, ◌⊎◌, length, inl, inr, Bool, true, false, List, refl, sym, ◌∙◌, ap, subst, arith}
 use Rattle.std.proofs.Math.ListN.{get_or-map}
-use Rattle.std.proofs.lemmas.Bool.{cases_eq}
+use Rattle.std.proofs.lemmas.Bool.{cases_eq, or_parts as or_cases}
 use Rattle.std.proofs.lemmas.List.{get_or-set_same, get_or-set_other}
 use Rattle.std.proofs.lemmas.Bool.Decides.{nat_tests}
 use Rattle.std.specs.Prelude.{Option, Some, None, IsTrue, is_some, ◌==◌, ◌&&◌, ◌||◌, if◌then◌else◌}
@@ -97,10 +97,6 @@ pub record Touches {E : Type 0} (g : Ghosts E) (row : ℕ → Parts) (before aft
   pub marks : (id place : ℕ) → IsTrue (is_live (components_of g after).by_id id) → marks_at after id place ≡ with_parts (row id) (marks_at before id place)
   pub bytes : (id : ℕ) (part : Part) → IsTrue (is_live (components_of g after).by_id id) → is_among part (row id) ≡ false
       → part_at (g.meaning before.engine) (components_of g before).by_id id part ≡ part_at (g.meaning after.engine) (components_of g after).by_id id part
-
-or_cases : (a b : Bool) → (a || b) ≡ false → (a ≡ false) × (b ≡ false)
-or_cases true b e = absurd (let no = e in cc)
-or_cases false b e = (refl, e)
 
 or_set : (a b : Bool) → (a || b) ≡ true → (a ≡ true) ⊎ (b ≡ true)
 or_set true b e = inl refl

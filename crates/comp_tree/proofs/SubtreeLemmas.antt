@@ -19,6 +19,7 @@ use Rattle.comp_tree.specs.Order.{down_from}
 use Rattle.comp_tree.specs.Shape.{IsTree, down_by, up_by}
 use Rattle.comp_tree.proofs.MapLemmas.{kept_beside, len_less, taken_out}
 use Rattle.comp_tree.proofs.ShapeLemmas.{In, Once, below_once, below_up}
+use Rattle.sed_value.proofs.Truths.{either_true as or_more}
 
 -- ---- a subtree
 
@@ -100,10 +101,6 @@ same_number x = grind (arith, nat_tests)
 
 other_number : (x y : ℕ) → y ≢ x → (y == x) ≡ false
 other_number x y ne = grind (arith, nat_tests)
-
-or_more : (a b : Bool) → b ≡ true → (a || b) ≡ true
-or_more true b e = refl
-or_more false b e = e
 
 or_none : (a b : Bool) → b ≡ false → (a || b) ≡ a
 or_none true b e = refl

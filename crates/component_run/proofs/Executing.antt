@@ -1,10 +1,8 @@
 -- What a new component stands for, and one that was executed.
-use Rattle.std.proofs.Common.{◌≡◌, ℕ, ℤ, ◌==◌, if◌then◌else◌, Bool, true, cond, Option, Some, None, sym, ap, subst, ◌∙◌, arith}
+use Rattle.std.proofs.Common.{◌≡◌, ℕ, ℤ, ◌==◌, if◌then◌else◌, Bool, cond, Option, Some, None, sym, ap, subst, ◌∙◌}
 use Rattle.std.specs.Prelude.{IfSome, IsSomeAnd}
 use Rattle.std.specs.FinMap as map
-use Rattle.std.specs.Ordering.{nat_cmp, eq_by_cmp}
 use Rattle.std.specs.Cmp.{nat_cmp_total}
-use Rattle.std.proofs.lemmas.Bool.Decides.{nat_tests}
 use Rattle.sed_value.specs.declared.value.Value.{Value}
 use Rattle.sed_value.specs.declared.value.Value.TheVariants.{Nothing}
 use Rattle.sed_typed.specs.Contents.{Contents}
@@ -15,9 +13,7 @@ use Rattle.sed_engine.specs.Root.{RootEnd}
 use Rattle.component_run.specs.declared.component.Component.{Component}
 use Rattle.component_run.specs.Alone.{Alone, executed, fault_by, left_by}
 use Rattle.component_run.specs.Standing.{StandsFor}
-
-tied_same : (p : ℕ) → eq_by_cmp nat_cmp p p ≡ true
-tied_same p = grind (arith, nat_tests)
+use Rattle.sed_value.proofs.Orders.{tied_same}
 
 -- what was put at a place is there
 pub there : (before after : Places) (p : ℕ) (o : Object) → after ≡ map.insert before p o → map.get after p ≡ Some o

@@ -16,6 +16,7 @@ use Rattle.dasp_session.specs.Session.{Session}
 use Rattle.dasp_session.specs.Ticking as ticking
 use Rattle.dasp_session.specs.Ticking.{resends, again_if_due}
 use Rattle.dasp_session.specs.Doing.{resends_of}
+use Rattle.std.proofs.Math.Bool.{and-true as and_true}
 
 resend_eq : {a b : ℕ} → Resend a ≡ Resend b → a ≡ b
 resend_eq e = cc
@@ -257,10 +258,6 @@ nothing_or now (message ∷ later) index never =
           let e : first_due now index (message ∷ later) ≡ first_due now (suc index) later = cond-false (is_due now message) (Resend (wire_number index)) (first_due now (suc index) later) other in
           e ∙ nothing_or now later (suc index) (λ number is. never number (e ∙ is))
     ]
-
-and_true : (b : Bool) → (b && true) ≡ b
-and_true true = refl
-and_true false = refl
 
 -- a session of which no message is due stays as it is
 pub record Rests (session : Session) (now : ℤ) : Type 0 where

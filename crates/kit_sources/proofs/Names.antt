@@ -7,7 +7,6 @@ use Rattle.std.proofs.lemmas.List.{get_or-map, length-map}
 use Rattle.std.proofs.lemmas.List.Concat.{length-flat_map}
 use Rattle.std.proofs.lemmas.List.Sums.{sum_by-cons}
 use Rattle.std.proofs.lemmas.List.Elements.{Contains-get_or}
-use Rattle.std.proofs.lemmas.Slice.Eq.{bytes_eq-Decides}
 use Rattle.sed_value.specs.Names.{is_kit_name}
 use Rattle.file_steps.specs.Steps.{Read, stops, goes_on, Each}
 use Rattle.kit_manifest.specs.Order.{name_of, DependsOn, IsOrderOf, IsPermutationOf}
@@ -20,6 +19,7 @@ use Rattle.kit_sources.specs.declared.sources.Sources.{Sources}
 use Rattle.kit_sources.specs.Sources.{ManifestRead, SourceRead, KitRead, KitsRead, kit_of, manifest_at, files_in}
 use Rattle.kit_sources.proofs.Places.{permutation_length}
 use Rattle.kit_sources.proofs.Whole.{each_length}
+use Rattle.sed_value.proofs.Lists.{same_bytes as eq_of}
 
 apart : {E X : Type 0} (x : X) (e : E) → ◌≡◌ {A = Result X E} (Ok x) (Err e) → ⊥
 apart x e same = cc
@@ -139,9 +139,6 @@ name_same (m ∷ ms) (suc i) = name_same ms i
 -- names that are all different, each once
 weight : Bool → ℕ
 weight b = if b then 1 else 0
-
-eq_of : (a b : List ℕ) → bytes_eq a b ≡ true → a ≡ b
-eq_of a b is = grind (arith, bytes_eq-Decides a b)
 
 count_head : (name x : List ℕ) (xs : List (List ℕ)) → count_by (λ n. bytes_eq n name) (x ∷ xs) ≡ weight (bytes_eq x name) + count_by (λ n. bytes_eq n name) xs
 unfolding weight

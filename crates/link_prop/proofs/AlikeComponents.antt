@@ -3,11 +3,7 @@ use Rattle.std.proofs.Common.{ℕ, ℤ, ◌≡◌, ◌≢◌, Bool, true, false,
 use Rattle.std.specs.Prelude.{Option, Some, None, Result, Ok, Err, IfOk, OnOk, OnErr, IsTrue, is_some, List, ◌==◌, if◌then◌else◌}
 use Rattle.std.specs.Option.{option_map, option_and_then, option_map_or}
 use Rattle.std.specs.FinMap as map
-use Rattle.std.specs.Ordering.{nat_cmp, eq_by_cmp}
-use Rattle.std.specs.Cmp.{nat_cmp_total}
-use Rattle.std.proofs.Common.{arith}
 use Rattle.std.proofs.lemmas.Bool.{cases_eq}
-use Rattle.std.proofs.lemmas.Bool.Decides.{nat_tests}
 use Rattle.sed_value.specs.declared.id.Id.{Id}
 use Rattle.sed_value.specs.declared.refusal.Refusal.{Refusal}
 use Rattle.sed_value.specs.declared.value.Value.{Value}
@@ -28,6 +24,7 @@ use Rattle.comp_tree.specs.Refusals.{config_types, invoke_types, write_types}
 use Rattle.comp_tree.specs.Values.{taken}
 use Rattle.comp_tree.specs.Whole.{IsLink}
 use Rattle.link_prop.specs.Linked.{AreLinked}
+use Rattle.sed_value.proofs.Orders.{put_at, put_beside}
 
 -- the class of a component
 abbrev pub class_at : ById → ℕ → Option ℕ
@@ -96,18 +93,6 @@ alike_same all id = refl
 
 pub alike_more : (a b c : ById) → AreAlike a b → AreAlike b c → AreAlike a c
 alike_more a b c first next id = next id ∙ first id
-
-tied_same : (n : ℕ) → eq_by_cmp nat_cmp n n ≡ true
-tied_same n = grind (arith, nat_tests)
-
-tied_apart : (n k : ℕ) → n ≢ k → eq_by_cmp nat_cmp n k ≡ false
-tied_apart n k ne = grind (arith, nat_tests)
-
-pub put_at : (all : ById) (id : ℕ) (d : Component) → map.get (map.insert all id d) id ≡ Some d
-put_at all id d = map.get-insert nat_cmp_total all id d id ∙ rw (tied_same id) refl
-
-pub put_beside : (all : ById) (id : ℕ) (d : Component) (q : ℕ) → q ≢ id → map.get (map.insert all id d) q ≡ map.get all q
-put_beside all id d q ne = map.get-insert nat_cmp_total all id d q ∙ rw (tied_apart q id ne) refl
 
 pub alike_put : (all : ById) (id : ℕ) (c d : Component) → map.get all id ≡ Some c → d.class ≡ c.class → AreAlike all (map.insert all id d)
 alike_put all id c d there same q = elim (cases_eq q id) [

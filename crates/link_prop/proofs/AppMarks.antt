@@ -20,14 +20,11 @@ use Rattle.link_prop.specs.Linked.{Linked}
 use Rattle.link_prop.specs.Marks.{AppPart, KeepsAppMarks, Tells, is_in_mask, is_in_row, is_marked, links_at_ends, links_of_new, no_links}
 use Rattle.link_prop.specs.Marks.AppPart.{OfTree, OfLinks}
 use Rattle.link_prop.proofs.LinkParts.{neither}
+use Rattle.sed_value.proofs.Truths.{either_true as or_keeps}
 
 either : (a b : Bool) → (a || b) ≡ true → (b ≡ true) ⊎ (a ≡ true)
 either true b h = inr refl
 either false b h = inl h
-
-or_keeps : (a b : Bool) → b ≡ true → (a || b) ≡ true
-or_keeps true b h = refl
-or_keeps false b h = h
 
 -- these links are marked besides, and the others have the same bytes
 module _ {E : Type 0} (g : Ghosts E) (own : ℕ → Parts) (linked : ℕ → Bool) (before after : Linked E) (tree : KeepsMarks g own before.tree after.tree)

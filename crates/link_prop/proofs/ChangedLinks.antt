@@ -2,7 +2,7 @@
 use Rattle.std.proofs.Common.{ℕ, ◌≡◌, Bool, true, false, ◌<◌, ◌≤◌, refl, sym, subst, arith}
 use Rattle.std.specs.Prelude.{Option, Some, None, IsTrue, not, nat_le, List, [], ◌∷◌, length, ◌==◌, ◌||◌, if◌then◌else◌}
 use Rattle.std.specs.List.{All, list_any}
-use Rattle.std.proofs.lemmas.Bool.{eqb-true}
+use Rattle.std.proofs.lemmas.Bool.{eqb-true, or_parts as neither}
 use Rattle.std.proofs.lemmas.List.Elements.{All-cons, All-filter, All-head, All-tail}
 use Rattle.sed_value.specs.declared.refusal.Refusal.{Refusal}
 use Rattle.sed_engine.specs.Code.{Meaning}
@@ -42,10 +42,6 @@ neither_not false b h = absurd cc
 not_not : (a : Bool) → not a ≡ false → IsTrue a
 not_not true h = refl
 not_not false h = absurd cc
-
-neither : (a b : Bool) → (a || b) ≡ false → (a ≡ false) × (b ≡ false)
-neither false b h = (refl, h)
-neither true b h = absurd cc
 
 -- ---- a link that comes
 

@@ -14,6 +14,7 @@ use Rattle.sed_engine.specs.declared.call.Root.{Root}
 use Rattle.sed_engine.specs.declared.call.Root.TheVariants.{Callback}
 use Rattle.sed_engine.specs.Code.{Meaning, root_of}
 use Rattle.sed_value.specs.declared.value.Value.{Value}
+use Rattle.sed_value.proofs.Orders.{put_at, put_beside}
 use Rattle.link_table.specs.Link.{Link}
 use Rattle.link_table.specs.Links.{links_at, without_links_at}
 use Rattle.comp_tree.specs.Application.{ById, Component, Components, change_at, children_of, object_of, parent_of}
@@ -22,7 +23,7 @@ use Rattle.comp_tree.specs.Edits.{after_delete, removed, without_all, without_ch
 use Rattle.comp_tree.specs.Order.{down_from, subtree}
 use Rattle.comp_tree.specs.Whole.{IsLink}
 use Rattle.link_prop.specs.Linked.{AreLinked}
-use Rattle.link_prop.proofs.AlikeComponents.{AreAlike, alike_change, alike_more, alike_run, alike_same, class_at, link_with_classes, put_at, put_beside}
+use Rattle.link_prop.proofs.AlikeComponents.{AreAlike, alike_change, alike_more, alike_run, alike_same, class_at, link_with_classes}
 
 -- ---- the ids of a subtree
 

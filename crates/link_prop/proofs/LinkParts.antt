@@ -8,12 +8,9 @@ use Rattle.link_table.specs.Links.{is_before, is_same_link, links_at, with_link,
 use Rattle.link_table.specs.Marks.{AreMarked, is_at_mark, is_marked}
 use Rattle.comp_tree.specs.Parts.{link_bytes, link_part, no_id, u2}
 use Rattle.link_prop.specs.Marks.{links_at_ends, links_with}
+pub use Rattle.std.proofs.lemmas.Bool.{or_parts as neither}
 
 -- ---- truth values
-
-pub neither : (a b : Bool) → (a || b) ≡ false → (a ≡ false) × (b ≡ false)
-neither false b h = (refl, h)
-neither true b h = absurd cc
 
 same_ends : (a b c d : Bool) → not (a && b && c && d) ≡ false → (a ≡ true) × (c ≡ true)
 same_ends true b true d h = (refl, refl)

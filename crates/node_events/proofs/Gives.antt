@@ -12,14 +12,14 @@ use Rattle.app_laws.specs.Bytes.{GivesBytes}
 use Rattle.node_events.specs.Giving.{HeardGivesBytes, WishGivesBytes}
 use Rattle.node_events.specs.Heard.{Heard, IsHeard, IsWish, Wish, asks, is_refused}
 
-behind_one : (x : ℕ) (xs : List ℕ) → are_bytes (x ∷ xs) ≡ true → are_bytes xs ≡ true
+pub behind_one : (x : ℕ) (xs : List ℕ) → are_bytes (x ∷ xs) ≡ true → are_bytes xs ≡ true
 behind_one x xs all = (and_parts (nat_lt x 256) (are_bytes xs) all).1
 
-behind_all : (xs ys : List ℕ) → are_bytes (xs ++ ys) ≡ true → are_bytes ys ≡ true
+pub behind_all : (xs ys : List ℕ) → are_bytes (xs ++ ys) ≡ true → are_bytes ys ≡ true
 behind_all [] ys all = all
 behind_all (x ∷ xs) ys all = behind_all xs ys (behind_one x (xs ++ ys) all)
 
-of_body : (command : Asked) → are_bytes (body_of command) ≡ true → GivesBytes (command_of command)
+pub of_body : (command : Asked) → are_bytes (body_of command) ≡ true → GivesBytes (command_of command)
 of_body (add parent kit kind name config) all =
     behind_all (str name) config
     (behind_one kind (str name ++ config)

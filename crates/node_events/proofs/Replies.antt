@@ -17,9 +17,7 @@ use Rattle.node_events.specs.Mishap.{Mishap}
 use Rattle.node_events.specs.Node.{Node, Setup}
 use Rattle.node_events.specs.Saving.{Save, answer_to_save, save_of}
 use Rattle.node_events.specs.Serving.{Serving, done_by, given, lacks_memory, served, subscribed_after}
-
-some_eq : {A : Type 0} (x y : A) → ◌≡◌ {A = Option A} (Some x) (Some y) → x ≡ y
-some_eq x y is = cc
+use Rattle.std.proofs.lemmas.Option.{same_Some as some_eq}
 
 no_some : {A : Type 0} (x : A) → ◌≡◌ {A = Option A} None (Some x) → ⊥
 no_some x is = cc

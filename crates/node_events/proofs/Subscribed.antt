@@ -37,6 +37,7 @@ use Rattle.node_events.specs.Running.{Event, comes, one_event, passes, run}
 use Rattle.node_events.specs.Serving.{done_by, given, lacks_memory, served, subscribed_after}
 use Rattle.node_events.specs.Ticking.{advanced_to, at_place, cycle_of, places, ticked, timed, without_ended}
 use Rattle.node_events.proofs.Living.{Stays, change_stays, cycle_stays, put_stays, run_stays}
+use Rattle.sed_value.proofs.Truths.{and_left as first_true}
 
 abbrev Only : ById → Subscriptions → Type 0
 Only all subs = (place id : ℕ) (part : Part) → is_live all id ≡ false → subs place id part ≡ None
@@ -52,10 +53,6 @@ apart a b ne = grind (arith, nat_tests)
 and_false : (a b : Bool) → b ≡ false → (a && b) ≡ false
 and_false true b is = is
 and_false false b is = refl
-
-first_true : (a b : Bool) → (a && b) ≡ true → a ≡ true
-first_true true b is = refl
-first_true false b is = absurd (let no : false ≡ true = is in cc)
 
 not_same : (all : ById) (i id : ℕ) → is_live all id ≡ true → is_live all i ≡ false → i ≢ id
 not_same all i id live dead = λ e. let no : true ≡ false = sym live ∙ sym (ap (is_live all) e) ∙ dead in cc

@@ -8,17 +8,12 @@ use Rattle.std.specs.Ordering.{nat_cmp, eq_by_cmp}
 use Rattle.std.specs.Cmp.{nat_cmp_total}
 use Rattle.std.proofs.lemmas.Grind.{common_steps}
 use Rattle.std.proofs.lemmas.Bool.{cases_eq, cases_lt}
-use Rattle.std.proofs.lemmas.Bool.Decides.{nat_tests}
 use Rattle.std.proofs.lemmas.List.Sums.{sum_by-cons}
 use Rattle.std.proofs.lemmas.List.{get_or-replicate, get_or-set_same, get_or-set_other, length-set, length-replicate}
 use Rattle.slab.specs.Slab.{Slab, get, slab_len, Updates}
 use Rattle.node_table.specs.Indexed.{kept_at, kept, numbered, by_number, IsIndexed}
-
-pub tied_same : (a : ℕ) → eq_by_cmp nat_cmp a a ≡ true
-tied_same a = grind (arith, nat_tests)
-
-pub tied_apart : (a b : ℕ) → a ≢ b → eq_by_cmp nat_cmp a b ≡ false
-tied_apart a b ne = grind (arith, nat_tests)
+pub use Rattle.sed_value.proofs.Orders.{tied_same, tied_apart}
+use Rattle.std.proofs.lemmas.Option.{same_Some as some_inj}
 
 module _ {T : Type 0} where
   -- ---- a list of slots as a map
@@ -134,9 +129,6 @@ count_all (Some x ∷ xs) all = let rest = count_all xs (λ k lt. all (suc k) (o
 
 pub in_range : (xs : List (Option ℕ)) (id key : ℕ) → get_or xs id None ≡ Some key → id < length xs
 in_range xs id key some = elim (cases_lt id (length xs)) [ inl lt ↦ lt | inr le ↦ absurd (let no = sym (get_or-eq_default xs None le) ∙ some in cc) ]
-
-some_inj : {A : Type 0} (x y : A) → ◌≡◌ {A = Option A} (Some x) (Some y) → x ≡ y
-some_inj x y e = cc
 
 module _ {T : Type 0} (most : ℕ) (index : List (Option ℕ)) (slab : Slab T) (was : IsIndexed most index slab) where
   pub none_here : (id : ℕ) → finite.get (by_number (kept index slab)) id ≡ None → get_or index id None ≡ None

@@ -1,5 +1,5 @@
 -- Bits of words as ids that are taken.
-use Rattle.std.proofs.Common.{ℕ, zero, suc, ◌≡◌, ◌≢◌, ◌<◌, ◌≤◌, ◌+◌, ◌*◌, ◌/◌, ◌%◌, ◌^◌, inl, inr, true, false, List, length, replicate, refl, sym, ◌∙◌, ap, subst, arith}
+use Rattle.std.proofs.Common.{ℕ, ◌≡◌, ◌≢◌, ◌<◌, ◌≤◌, ◌+◌, ◌*◌, ◌/◌, ◌%◌, ◌^◌, inl, inr, true, false, List, length, replicate, sym, ◌∙◌, ap, subst, arith}
 use Rattle.std.proofs.Math.ListN.{set, get_or}
 use Rattle.std.proofs.lemmas.List.{get_or-set_same, get_or-set_other}
 use Rattle.std.proofs.lemmas.Bool.{cases_eq, cases_lt}
@@ -7,6 +7,7 @@ use Rattle.std.proofs.lemmas.Nat.Bits.{bit_at-zero, bit_at_set_same, bit_at_set_
 use Rattle.std.specs.Int.{w64, bit_at, bit_not, trailing_ones}
 use Rattle.std.specs.Int.RustNames.{bit_or}
 use Rattle.std.specs.Prelude.{◌==◌, bit_and}
+use Rattle.sed_value.proofs.Lists.{zeros}
 use Rattle.node_table.specs.Taken.{is_taken}
 
 -- two ids in one word differ in their bits
@@ -15,11 +16,6 @@ same_word a b words bits = omega arith
 
 bit_of : (words : List ℕ) (id word : ℕ) (b : ℕ) → get_or words (id / 64) 0 ≡ word → bit_at word (id % 64) ≡ b → is_taken words id ≡ (b == 1)
 bit_of words id word b is at = ap (λ (w : ℕ). bit_at w (id % 64) == 1) is ∙ ap (λ (n : ℕ). n == 1) at
-
-zeros : (n k : ℕ) → ◌≡◌ {A = ℕ} (get_or (replicate n 0) k 0) 0
-zeros zero k = refl
-zeros (suc n) zero = refl
-zeros (suc n) (suc k) = zeros n k
 
 pub none_taken : (words : List ℕ) (n : ℕ) → words ≡ replicate n 0 → (id : ℕ) → is_taken words id ≡ false
 none_taken words n is id = bit_of words id 0 0 (ap (λ ws. get_or ws (id / 64) 0) is ∙ zeros n (id / 64)) (bit_at-zero (id % 64))

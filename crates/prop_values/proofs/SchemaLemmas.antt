@@ -1,9 +1,8 @@
 -- What a whole code says of its slots.
-use Rattle.std.proofs.Common.{ℕ, ◌≡◌, List, [], refl, ap, subst, arith}
+use Rattle.std.proofs.Common.{ℕ, ◌≡◌, [], refl, ap, subst, arith}
 use Rattle.std.specs.Prelude.{Option, Some, None, All, Bool, true, false, IfSome, IsTrue, is_some, slice_get, ◌&&◌, if◌then◌else◌}
 use Rattle.std.specs.Option.{option_and_then, option_map, option_map_or}
 use Rattle.std.proofs.lemmas.Bool.Decides.{nat_tests}
-use Rattle.std.proofs.lemmas.Option.{get_or_from_slice_get, slice_get_within}
 use Rattle.sed_value.specs.declared.slot_type.SlotType.{SlotType}
 use Rattle.sed_value.specs.declared.slot_type.SlotType.TheVariants.{Prim as PrimSlot, Buf as BufSlot}
 use Rattle.sed_typed.specs.declared.schema.ClassInfo.{ClassInfo}
@@ -17,9 +16,7 @@ use Rattle.prop_values.specs.Properties.{is_property_form}
 use Rattle.prop_values.specs.Read.{CanBeHeld, config_type_of}
 use Rattle.sed_engine.specs.Whole.{HasBufSize, KeepsLimits}
 use Rattle.sed_wire.specs.Spelling.{can_be_held}
-
-pub at_place : {A : Type 0} (P : A → Type 0) (xs : List A) (k : ℕ) (x : A) → All P xs → slice_get xs k ≡ Some x → P x
-at_place {A} P xs k x all is = subst P (get_or_from_slice_get xs k x x is) (all k x (slice_get_within xs k x is))
+pub use Rattle.sed_value.proofs.Lists.{at_place}
 
 held_by : (t : SlotType) → HasBufSize (Prop t) → IsTrue (can_be_held t)
 held_by (PrimSlot p) size = refl

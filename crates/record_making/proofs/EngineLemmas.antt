@@ -1,13 +1,12 @@
 -- An engine without live places, to which one object is added and from which it is removed again.
-use Rattle.std.proofs.Common.{◌≡◌, ◌≢◌, ℕ, inl, inr, ◌<◌, true, false, List, [], ◌∷◌, length, refl, sym, ◌∙◌, ap, subst, arith}
+use Rattle.std.proofs.Common.{◌≡◌, ℕ, inl, inr, ◌<◌, true, false, List, [], ◌∷◌, length, refl, sym, ◌∙◌, ap, subst, arith}
 use Rattle.std.specs.Prelude.{Option, Some, None, IsTrue, IfSome, map as map_list, sum_by, slice_get, ◌&&◌, not}
 use Rattle.std.specs.List.{list_all}
 use Rattle.std.specs.Option.{option_map_or}
 use Rattle.std.specs.FinMap as map
-use Rattle.std.specs.Ordering.{nat_cmp, eq_by_cmp}
+use Rattle.std.specs.Ordering.{nat_cmp}
 use Rattle.std.specs.Cmp.{nat_cmp_total}
 use Rattle.std.proofs.lemmas.Bool.{cases_eq}
-use Rattle.std.proofs.lemmas.Bool.Decides.{nat_tests}
 use Rattle.std.proofs.lemmas.Option.{get_or_from_slice_get, slice_get_within}
 use Rattle.sed_typed.specs.declared.schema.ClassInfo.{ClassInfo}
 use Rattle.sed_typed.specs.declared.schema.Schema.{Schema}
@@ -21,20 +20,9 @@ use Rattle.record_making.specs.declared.class.Sort.TheVariants.{Config}
 use Rattle.record_making.specs.Slots.{is_of, numbers_that}
 use Rattle.record_making.specs.Types.{initial_config}
 use Rattle.record_making.proofs.ValueLemmas.{config_are_properties}
+use Rattle.sed_value.proofs.Orders.{tied_same, tied_apart, put_at as get_put, put_beside as get_beside}
 
 -- ---- places
-
-tied_same : (a : ℕ) → eq_by_cmp nat_cmp a a ≡ true
-tied_same a = grind (arith, nat_tests)
-
-tied_apart : (a b : ℕ) → a ≢ b → eq_by_cmp nat_cmp a b ≡ false
-tied_apart a b ne = grind (arith, nat_tests)
-
-get_put : (live : Places) (k : ℕ) (x : Object) → map.get (map.insert live k x) k ≡ Some x
-get_put live k x = map.get-insert nat_cmp_total live k x k ∙ rw (tied_same k) refl
-
-get_beside : (live : Places) (k : ℕ) (x : Object) (q : ℕ) → q ≢ k → map.get (map.insert live k x) q ≡ map.get live q
-get_beside live k x q ne = map.get-insert nat_cmp_total live k x q ∙ rw (tied_apart q k ne) refl
 
 -- what is added to none and removed leaves none
 pub bare_again : (live : Places) (k : ℕ) (x : Object) → live ≡ map.empty → map.remove (map.insert live k x) k ≡ map.empty

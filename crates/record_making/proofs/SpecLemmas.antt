@@ -14,6 +14,7 @@ use Rattle.record_making.specs.declared.asked.GenAsked.{GenAsked}
 use Rattle.record_making.specs.Spec.{IsAllowed, spec_with}
 use Rattle.record_making.specs.Types.{drawn_types}
 use Rattle.record_making.proofs.TypeLemmas.{types_are_few, types_are_some}
+use Rattle.sed_value.proofs.Truths.{and_right as second_of}
 
 -- ---- a user's form
 
@@ -32,10 +33,6 @@ user_bytes (byte ∷ name) h = by (is_name_byte byte) refl (user_bytes name) h
         → (b && list_all is_name_byte name) ≡ true → (is_user_byte byte && list_all is_user_byte name) ≡ true
     by true is rest h = ap (λ b. b && list_all is_user_byte name) (user_byte byte is) ∙ rest h
     by false is rest h = absurd (let no : false ≡ true = h in cc)
-
-second_of : (a b : Bool) → (a && b) ≡ true → b ≡ true
-second_of true b h = h
-second_of false b h = absurd (let no : false ≡ true = h in cc)
 
 of_user : (name : List ℕ) → IsTrue (is_user_name name) → IsTrue (is_user name)
 of_user name h =

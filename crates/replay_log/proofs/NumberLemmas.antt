@@ -12,9 +12,8 @@ use Rattle.sed_wire.specs.Number.{is_byte, number_of, SpellsNumber, SpellsSigned
 use Rattle.sed_wire.specs.Reading.{Reads}
 use Rattle.sed_wire.proofs.FrontLemmas.{number_of-below}
 use Rattle.replay_log.specs.Reading.{number_at, moment_at, bytes_at}
-
-pub some_eq : {A : Type 0} (x y : A) → Some x ≡ Some y → x ≡ y
-some_eq x y e = cc
+pub use Rattle.std.proofs.lemmas.Option.{same_Some as some_eq}
+use Rattle.std.proofs.lemmas.Bool.{and_parts as both}
 
 -- which way a test went
 pub split : {A : Type 0} (t : Bool) (x y z : A) → (if t then x else y) ≡ z → ((t ≡ true) × (x ≡ z)) ⊎ ((t ≡ false)
@@ -32,11 +31,6 @@ pub step_found : {A B : Type 0} (o : Option A) (f : A → Option B) (y : B) → 
     → (x : A) × (o ≡ Some x) × (f x ≡ Some y)
 step_found None f y e = absurd cc
 step_found (Some x) f y e = (x, refl, e)
-
-both : (p q : Bool) → (p && q) ≡ true → (p ≡ true) × (q ≡ true)
-both true true e = (refl, refl)
-both true false e = absurd cc
-both false q e = absurd cc
 
 pub number_at-complete : (width number : ℕ) (spelling rest : List ℕ) → SpellsNumber width number spelling
     → number_at width (spelling ++ rest) ≡ Some (number, rest)

@@ -2,12 +2,13 @@
 use Rattle.std.proofs.Common.{◌≡◌, ℕ, zero, suc, ◌<◌, ◌≤◌, ◌+◌, Bool, true, false, List, [], ◌∷◌, length, get_or, refl, sym, subst, ◌∙◌, ap, arith}
 use Rattle.std.specs.Prelude.{Option, Some, None, ◌==◌, nat_eq, is_some, if◌then◌else◌, slice_get, map as map_list}
 use Rattle.std.specs.Option.{option_and_then, option_map, option_map_or}
-use Rattle.std.specs.List.{All, AllByRecursion, Contains, IsDistinct}
+use Rattle.std.specs.List.{Contains, IsDistinct}
 use Rattle.std.proofs.lemmas.Bool.Decides.{nat_tests}
-use Rattle.std.proofs.lemmas.Option.{get_or_from_slice_get, slice_get_within, slice_get-get_or, slice_get_past, slice_get-map}
+use Rattle.std.proofs.lemmas.Option.{slice_get_within, slice_get-get_or, slice_get_past, slice_get-map, same_Some as some_is}
 use Rattle.comp_tree.specs.Shape.{up_by}
 use Rattle.app_file.specs.Formed.{IsRooted}
 use Rattle.app_file.specs.Rows.{behind, sibling_behind}
+use Rattle.app_file.proofs.Children.{next_item}
 use Rattle.row_tree.specs.Chains.{AreLists, IsChain, IsChild, LacksChain, next_at}
 use Rattle.row_tree.specs.Reached.{AllReached, LacksOne, Reached, StayWithin, root, below}
 use Rattle.row_tree.specs.Root.{HasRoot}
@@ -17,38 +18,12 @@ use Rattle.row_tree.specs.declared.rows.TreeRow.{TreeRow}
 use Rattle.row_tree.proofs.Chaining.{all_from_each, apart_test, chain_apart, chain_child, chain_one}
 use Rattle.row_tree.proofs.Meeting.{at_of, contains_at}
 use Rattle.row_tree.proofs.Places.{at_place, found_place, one_place}
+use Rattle.sed_value.proofs.Lists.{at_place as at_each}
 
 -- ---- lists and options
 
-some_is : {A : Type 0} (x y : A) → ◌≡◌ {A = Option A} (Some x) (Some y) → x ≡ y
-some_is x y e = cc
-
 none_listed : {A : Type 0} (x : A) → Contains {X = A} [] x → ⊥
 none_listed x there = let lt = there.1 in omega arith
-
-at_each : {A : Type 0} (P : A → Type 0) (xs : List A) (k : ℕ) (x : A) → All P xs → slice_get xs k ≡ Some x → P x
-at_each {A} P xs k x all is = subst P (get_or_from_slice_get xs k x x is) (all k x (slice_get_within xs k x is))
-
-apart : (k x : ℕ) (ks : List ℕ) (n : ℕ) → AllByRecursion (λ y. nat_eq k y ≡ false) ks → slice_get ks n ≡ Some x → (k == x) ≡ false
-apart k x [] n all at = absurd (let no : ◌≡◌ {A = Option ℕ} None (Some x) = at in cc)
-apart k x (y ∷ ks) zero all at =
-    let same : y ≡ x = cc in
-    let first = all.0 in
-    rw (sym same) first
-apart k x (y ∷ ks) (suc n) all at = apart k x ks n all.1 at
-
--- of a list without repeats the next item is the one behind
-next_item : (xs : List ℕ) (n : ℕ) → IsDistinct nat_eq xs → slice_get xs (suc n) ≡ option_and_then (λ x. behind x xs) (slice_get xs n)
-unfolding IsDistinct
-next_item [] n distinct = refl
-next_item (k ∷ ks) zero distinct =
-    let same : (k == k) ≡ true = grind (arith, nat_tests) in
-    rw same refl
-next_item (k ∷ ks) (suc n) distinct = next_item ks n distinct.1 ∙ by_item (slice_get ks n) refl
-  where
-    by_item : (r : Option ℕ) → slice_get ks n ≡ r → option_and_then (λ x. behind x ks) r ≡ option_and_then (λ x. behind x (k ∷ ks)) r
-    by_item None at = refl
-    by_item (Some x) at = ap (λ b. if b then slice_get ks 0 else behind x ks) (sym (apart k x ks n distinct.0 at))
 
 -- ---- rows by their ids
 

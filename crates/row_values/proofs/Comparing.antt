@@ -1,8 +1,8 @@
 -- Values that are the same, and pairs that agree.
 use Rattle.std.proofs.Common.{◌≡◌, ℕ, ◌<◌, ◌≤◌, ◌+◌, Bool, true, false, IsTrue, List, length, refl, sym, ◌∙◌, ap, arith, eqb-true}
-use Rattle.std.specs.Prelude.{Option, Some, ℤ, pos, negsuc, ◌==◌, slice_get}
+use Rattle.std.specs.Prelude.{Some, ℤ, pos, negsuc, ◌==◌, slice_get}
 use Rattle.std.proofs.lemmas.Bool.Decides.{nat_tests}
-use Rattle.std.proofs.lemmas.Option.{slice_get_within}
+use Rattle.std.proofs.lemmas.Option.{slice_get_within, same_Some as some_is}
 use Rattle.std.proofs.lemmas.Slice.Eq.{bytes_eq-Decides}
 use Rattle.sed_value.specs.declared.value.Value.{Value}
 use Rattle.sed_value.specs.declared.value.Value.TheVariants.{Bool as Truth, Byte, Short, Int, Long, Buf, Nothing}
@@ -50,9 +50,6 @@ are_unlike v w is same =
     let yes : is_same_value v w ≡ true = ap (is_same_value v) (sym same) ∙ value_itself v in
     let no : ◌≡◌ {A = Bool} true false = sym yes ∙ is in
     absurd (cc)
-
-some_is : {A : Type 0} (x y : A) → ◌≡◌ {A = Option A} (Some x) (Some y) → x ≡ y
-some_is x y e = cc
 
 module _ (m : Meaning) (class : ℕ) (numbers : List ℕ) (values : List Value) where
   -- the value at a place agrees with those behind it, as far as this place

@@ -7,6 +7,7 @@ use Rattle.sed_typed.specs.declared.schema.SlotInfo.{SlotInfo}
 use Rattle.prop_values.specs.Properties.{is_config}
 use Rattle.prop_values.specs.Read.{numbers_in}
 use Rattle.row_values.specs.Numbers.{number_if_config}
+use Rattle.sed_value.proofs.Lists.{item_there as some_item}
 
 by_config : (start : ℕ) (s : SlotInfo) (slots : List SlotInfo) (b : Bool)
     → map_list (λ (e : ℕ × SlotInfo). e.0) (if b then (start, s) ∷ filter (λ (e : ℕ × SlotInfo). is_config e.1) (enumerate_from (start + 1) slots) else filter (λ (e : ℕ × SlotInfo). is_config e.1) (enumerate_from (start + 1) slots))
@@ -36,11 +37,6 @@ numbers_next start (suc n) (x ∷ slots) s at =
     ∙ sym (append_assoc front (numbers_in (start + 1) (take n slots)) (if is_config s then ((start + 1) + n) ∷ [] else []))
     ∙ ap (λ (rest : List ℕ). rest ++ (if is_config s then ((start + 1) + n) ∷ [] else [])) (sym (numbers_first start x (take n slots)))
     ∙ ap (λ (k : ℕ). numbers_in start (x ∷ take n slots) ++ (if is_config s then k ∷ [] else [])) step
-
-some_item : {A : Type 0} (xs : List A) (n : ℕ) → n < length xs → (x : A) × (slice_get xs n ≡ Some x)
-some_item [] n lt = absurd (omega (arith, lt))
-some_item (x ∷ xs) zero lt = (x, refl)
-some_item (x ∷ xs) (suc n) lt = some_item xs n (omega (arith, lt))
 
 pub number_next : (n : ℕ) (slots : List SlotInfo) → n < length slots → numbers_in 0 (take (n + 1) slots) ≡ numbers_in 0 (take n slots) ++ number_if_config slots n
 number_next n slots lt =

@@ -1,7 +1,7 @@
 -- Options that stand as two words each.
 use Rattle.sedona_words.specs.Command.{RunAsked}
 use Rattle.std.proofs.Common.{◌≡◌, Bool, true, false, List, [], ◌∷◌, ◌++◌, Option, Some, None, refl, sym, ap, ap₂, ◌∙◌}
-use Rattle.std.specs.Prelude.{◌==◌, not, if◌then◌else◌, is_some, fold, nat_lt}
+use Rattle.std.specs.Prelude.{◌==◌, if◌then◌else◌, is_some, fold, nat_lt}
 use Rattle.std.specs.Str.{bytes_eq}
 use Rattle.std.specs.Option.{option_and_then, option_map_or}
 use Rattle.clap.specs.Lexer.{long_of, short_of}
@@ -11,6 +11,7 @@ use Rattle.clap.specs.Kinds.{Kinds, or_else}
 use Rattle.clap.specs.Faults.{bundle_fault, check_fault, defaults_fault, entered_fault, flag_word_fault, settle_fault, step_fault, turn_fault, walk_fault, word_fault}
 use Rattle.run_words.specs.Run.{run_command, run_in, run_of}
 use Rattle.run_words.specs.Values.{is_plain}
+use Rattle.std.proofs.lemmas.Bool.{not-true as no_hyphen}
 
 abbrev pub shape : Shape
 shape = (built run_command).top
@@ -37,10 +38,6 @@ waits_for rows name = record {
   is_trailing = false;
   stopped = None;
 }
-
-no_hyphen : (b : Bool) → not b ≡ true → b ≡ false
-no_hyphen true e = sym e
-no_hyphen false e = refl
 
 -- such a value is no flag
 no_dashes : (value : Text) → is_plain value ≡ true → bytes_eq value (45 ∷ 45 ∷ []) ≡ false

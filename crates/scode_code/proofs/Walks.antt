@@ -15,14 +15,12 @@ use Rattle.scode_code.specs.CodeRules.{Fault, after, arrives, arrives_wrong, bro
 use Rattle.scode_code.specs.Faults.{Broken, IsVerified, methods_broken, or_later}
 use Rattle.scode_code.specs.TableRules.{tables_agree}
 use Rattle.scode_code.specs.Verified.{IsVerifiedBy, Leads, MayJump, Stands, Walked, shape_in, shape_on, shape_within}
+use Rattle.std.proofs.lemmas.Option.{same_Some as some_eq}
 
 -- ---- tests that all fail
 
 none_some : {A : Type 0} (a : A) → None ≡ Some a → ⊥
 none_some a e = cc
-
-some_eq : {A : Type 0} (a b : A) → Some a ≡ Some b → a ≡ b
-some_eq a b e = cc
 
 -- no rule of a list is broken
 abbrev AllKept : List (ℕ × Bool) → Type 0

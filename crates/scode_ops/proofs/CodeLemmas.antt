@@ -10,9 +10,7 @@ use Rattle.scode_ops.specs.Forms.{form_of, kind_of, width_of}
 use Rattle.scode_ops.specs.Reading.{value_at, read}
 use Rattle.scode_ops.proofs.ByNumber.{made, made-op, form-op}
 use Rattle.scode_ops.proofs.OperandLemmas.{length-bytes_of, value_at-bytes, AreBytes, Reads, reads}
-
-some_eq : {A : Type 0} (x y : A) → Some x ≡ Some y → x ≡ y
-some_eq x y e = cc
+use Rattle.std.proofs.lemmas.Option.{same_Some as some_eq}
 
 -- two instructions with which the same bytes begin are one
 pub same_code : (op other : Op) (rest more : List ℕ) → fits (operands_of op) ≡ true → fits (operands_of other) ≡ true → code_of op ++ rest ≡ code_of other ++ more → op ≡ other

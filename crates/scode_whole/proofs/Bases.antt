@@ -1,5 +1,5 @@
 -- The classes of an image whose tables agree, and their bases.
-use Rattle.std.proofs.Common.{◌≡◌, ℕ, zero, suc, ◌<◌, ◌==◌, ◌||◌, nat_le, nat_lt, Bool, true, false, if◌then◌else◌, List, [], ◌∷◌, ◌++◌, length, map, Option, Some, None, refl, sym, ap, subst, ◌∙◌, arith}
+use Rattle.std.proofs.Common.{◌≡◌, ℕ, ◌<◌, ◌==◌, ◌||◌, nat_le, nat_lt, Bool, true, false, if◌then◌else◌, List, [], ◌++◌, length, map, Option, Some, None, refl, sym, ap, subst, ◌∙◌}
 use Rattle.std.specs.Prelude.{IfSome, slice_get}
 use Rattle.std.specs.Option.{option_and_then, option_map, option_map_or}
 use Rattle.std.proofs.lemmas.Bool.{ltb-true}
@@ -27,6 +27,7 @@ use Rattle.scode_whole.proofs.Rule.{Agrees, ClassAgrees, class_agrees}
 use Rattle.scode_whole.proofs.Kits.{numbers_there}
 use Rattle.scode_whole.proofs.Rows.{begins_mapped, begins_with, one_field, one_slot, stands_on}
 use Rattle.scode_whole.proofs.SysTypes.{sys_of}
+use Rattle.sed_value.proofs.Lists.{item_there as there_at}
 
 -- ---- what is said of a class that is there
 
@@ -91,11 +92,6 @@ record Grows (image : Image) (class base : ℕ) : Type 0 where
 not_first : (a b : Bool) → a ≡ false → (a || b) ≡ true → b ≡ true
 not_first true b e h = no_truth (sym e)
 not_first false b e h = h
-
-there_at : {X : Type 0} (xs : List X) (k : ℕ) → k < length xs → (x : X) × (slice_get xs k ≡ Some x)
-there_at [] k h = absurd (omega (arith, h))
-there_at (x ∷ xs) zero h = (x, refl)
-there_at (x ∷ xs) (suc k) h = there_at xs k (omega (arith, h))
 
 grows_of : (image : Image) → Agrees image → (class base : ℕ) → base_of (schema_of image).classes class ≡ Some base
     → Grows image class base

@@ -29,6 +29,7 @@ use Rattle.scode_whole.proofs.Rule.{Agrees, ClassAgrees, FieldsAgree, StaticsAgr
 use Rattle.scode_whole.proofs.Bases.{fields_at}
 use Rattle.scode_whole.proofs.SlotFields.{form_buf, form_prim, form_str}
 use Rattle.scode_whole.proofs.FirstBytes.{buf_kept, bytes_behind, primitive_kept, str_kept}
+use Rattle.sed_value.proofs.Lists.{item_there as there_at}
 
 -- ---- what is kept
 
@@ -134,11 +135,6 @@ fields_are image size fields bytes a k f e =
       sized = passes rule.n_is_of_form fields k f a.of_form e;
       there = passes (λ (g : ImageField). not (g.form == 8) || rule.has_class image g.n) fields k f a.are_there e;
     }
-
-there_at : {X : Type 0} (xs : List X) (k : ℕ) → k < length xs → (x : X) × (slice_get xs k ≡ Some x)
-there_at [] k h = absurd (omega (arith, h))
-there_at (x ∷ xs) zero h = (x, refl)
-there_at (x ∷ xs) (suc k) h = there_at xs k (omega (arith, h))
 
 second : (a b : Bool) → a ≡ true → (not a || b) ≡ true → b ≡ true
 second true b e h = h

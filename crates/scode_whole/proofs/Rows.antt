@@ -1,6 +1,5 @@
 -- Rows of fields and slots of which one begins with another.
-use Rattle.std.proofs.Common.{◌≡◌, ℕ, zero, suc, ◌+◌, ◌==◌, Bool, true, List, [], ◌∷◌, ◌++◌, map, Some, refl, sym, ap, ◌∙◌}
-use Rattle.std.specs.Prelude.{slice_get}
+use Rattle.std.proofs.Common.{◌≡◌, ℕ, ◌+◌, ◌==◌, Bool, true, List, [], ◌∷◌, ◌++◌, map, refl, sym, ap, ◌∙◌}
 use Rattle.std.specs.Str.{bytes_eq}
 use Rattle.std.proofs.lemmas.Bool.{and_parts, eqb-true}
 use Rattle.std.proofs.lemmas.List.{map-append}
@@ -9,7 +8,8 @@ use Rattle.sed_typed.specs.TypedSchema.{Begins}
 use Rattle.scode_image.specs.declared.image.ImageField.{ImageField}
 use Rattle.scode_image.specs.declared.image.ImageSlot.{ImageSlot}
 use Rattle.scode_code.specs.TableRules as rule
-use Rattle.scode_whole.proofs.Truths.{no_truth, no_value, three, five}
+use Rattle.scode_whole.proofs.Truths.{no_truth, three, five}
+pub use Rattle.sed_value.proofs.Lists.{stands_in_front as stands_on}
 
 -- fields with the same parts are one
 abbrev made_field : ℕ → ℕ → ℕ → ImageField
@@ -47,10 +47,3 @@ begins_with {A} same one (x ∷ xs) (y ∷ ys) h =
 -- what is mapped begins so too
 pub begins_mapped : {A B : Type 0} (f : A → B) (xs ys rest : List A) → ys ≡ xs ++ rest → Begins (map f xs) (map f ys)
 begins_mapped {A} {B} f xs ys rest e = (map f rest, ap (map f) e ∙ map-append f xs rest)
-
--- what stands in the front stands in the whole
-pub stands_on : {A : Type 0} (xs rest : List A) (k : ℕ) (x : A) → slice_get xs k ≡ Some x
-    → slice_get (xs ++ rest) k ≡ Some x
-stands_on [] rest k x e = no_value x e
-stands_on (y ∷ ys) rest zero x e = e
-stands_on (y ∷ ys) rest (suc k) x e = stands_on ys rest k x e

@@ -1,10 +1,12 @@
 -- Tests that pass, taken apart.
-use Rattle.std.proofs.Common.{◌≡◌, ◌<◌, ◌+◌, ◌&&◌, ◌||◌, ◌⊎◌, inl, inr, ℕ, zero, suc, Bool, true, false, not, List, [], ◌∷◌, map, length, Option, Some, None, refl, sym, ap, subst, ◌∙◌, arith}
+use Rattle.std.proofs.Common.{◌≡◌, ◌<◌, ◌+◌, ◌&&◌, ◌||◌, ◌⊎◌, inl, inr, ℕ, zero, suc, Bool, true, false, List, [], ◌∷◌, map, length, Option, Some, None, refl, sym, ap, subst, ◌∙◌, arith}
 use Rattle.std.specs.Prelude.{All, slice_get, slice_index_or}
 use Rattle.std.specs.List.{enumerate_from, list_all, range_with_len}
 use Rattle.std.specs.Option.{option_and_then, option_map_or}
 use Rattle.std.proofs.lemmas.Bool.{and_parts}
 use Rattle.std.proofs.lemmas.Option.{slice_get-map}
+pub use Rattle.std.proofs.lemmas.Option.{same_Some as same_value}
+pub use Rattle.std.proofs.lemmas.Bool.{and_parts as two, not-true as is_not}
 
 pub no_truth : {P : Type 0} → false ≡ true → P
 no_truth h = let never : ⊥ = cc in absurd never
@@ -12,13 +14,7 @@ no_truth h = let never : ⊥ = cc in absurd never
 pub no_value : {P : Type 0} {A : Type 0} (x : A) → None ≡ Some x → P
 no_value x e = let never : ⊥ = cc in absurd never
 
-pub same_value : {A : Type 0} (x y : A) → Some x ≡ Some y → x ≡ y
-same_value x y e = cc
-
 -- ---- so many truths at once
-
-pub two : (a b : Bool) → (a && b) ≡ true → (a ≡ true) × (b ≡ true)
-two a b h = and_parts a b h
 
 pub three : (a b c : Bool) → ((a && b) && c) ≡ true → (a ≡ true) × (b ≡ true) × (c ≡ true)
 three a b c h = let last = and_parts (a && b) c h in let front = two a b last.0 in (front.0, front.1, last.1)
@@ -62,10 +58,6 @@ nine a b c d e f g h i is =
 pub either : (a b : Bool) → (a || b) ≡ true → (a ≡ true) ⊎ (b ≡ true)
 either true b h = inl refl
 either false b h = inr h
-
-pub is_not : (a : Bool) → not a ≡ true → a ≡ false
-is_not true h = no_truth h
-is_not false h = refl
 
 -- ---- each of a list
 

@@ -35,6 +35,7 @@ use Rattle.scode_whole.proofs.Limits.{limits_are}
 use Rattle.scode_whole.proofs.Bases.{follows, marks}
 use Rattle.scode_whole.proofs.SlotFields.{Has, Lacks, SlotAt, no_fields_of, slot_at, slot_fields_of}
 use Rattle.scode_whole.proofs.FirstFits.{initial_has, initial_kept, statics_kept}
+use Rattle.sed_value.proofs.Lists.{item_there as there_at}
 
 names_are : (image : Image) → Agrees image → NamesTypes (schema_of image)
 names_are image is = record {
@@ -90,11 +91,6 @@ values_are image class n (Has c t i f here of_type of_field there of) =
     (slot_path (code_of image) class n))))
     (sym of_type)
     (subst (λ (p : List ℕ). IsSome (value_at (initial image class) p)) (sym path) (ap is_some stands.1))
-
-there_at : {X : Type 0} (xs : List X) (k : ℕ) → k < length xs → (x : X) × (slice_get xs k ≡ Some x)
-there_at [] k h = absurd (omega (arith, h))
-there_at (x ∷ xs) zero h = (x, refl)
-there_at (x ∷ xs) (suc k) h = there_at xs k (omega (arith, h))
 
 first_are : (image : Image) → Agrees image → (class : ℕ) → class < length (schema_of image).classes
     → Fits (code_of image).fields ((code_of image).fields class) (initial image class) (initial image class)

@@ -35,12 +35,10 @@ use Rattle.sed_bodies.proofs.MembersRight.{receiver_right, through_right}
 use Rattle.sed_bodies.proofs.Ready.{ready_value, kind_is}
 use Rattle.sed_bodies.proofs.Right.{one_right, after_right, joined_right, unless_right, some_right}
 use Rattle.sed_bodies.proofs.StoresRight.{placed_goes}
+use Rattle.std.proofs.lemmas.Option.{none-some as none_there}
 
 some_is : {X : Type 0} (a b : X) → ◌≡◌ {A = Option X} (Some a) (Some b) → a ≡ b
 some_is a b e = cc
-
-none_there : {X : Type 0} (a : X) → ◌≡◌ {A = Option X} None (Some a) → ⊥
-none_there a e = cc
 
 -- ---- arguments
 

@@ -3,7 +3,7 @@ use Rattle.std.proofs.Common.{◌≡◌, ◌<◌, ◌≤◌, ℕ, pos, ◌-◌, 
 use Rattle.std.specs.Int.{w32, w64, int_wrap}
 use Rattle.std.specs.Option.{option_or}
 use Rattle.std.specs.Str.{bytes_eq}
-use Rattle.std.proofs.lemmas.Bool.Decides.{nat_tests, Decides-eqb}
+use Rattle.std.proofs.lemmas.Bool.Decides.{nat_tests}
 use Rattle.std.proofs.lemmas.Int.{SFits-int_wrap}
 use Rattle.sed_value.specs.Characters.{is_digit}
 use Rattle.sed_value.specs.Value.{is_signed}
@@ -24,6 +24,7 @@ use Rattle.sed_bodies.specs.Inside.{IsIn, IsReady}
 use Rattle.sed_members.specs.Literals.{integer, character, text, literal_of, literal_judged}
 use Rattle.sed_scope.specs.Scope.{Scope}
 use Rattle.sed_bodies.proofs.Right.{one_right}
+use Rattle.std.proofs.lemmas.Bool.{eqb-true as same_byte}
 
 -- ---- integers fit their widths
 
@@ -103,9 +104,6 @@ plain_small b h = small_fits b (grind (arith, nat_tests))
 pick : (t : Bool) (x y : Option ℕ) → (t ≡ true → IfSome x IsSmall) → IfSome y IsSmall → IfSome (cond t x y) IsSmall
 pick true x y h g = h refl
 pick false x y h g = g
-
-same_byte : (a b : ℕ) → (a == b) ≡ true → a ≡ b
-same_byte a b h = (Decides-eqb a b).0 h
 
 itself : (a b : ℕ) → b ≤ 126 → (a == b) ≡ true → IsSmall a
 itself a b h e = let same : a ≡ b = same_byte a b e in small_fits a (omega (arith, h, same))

@@ -16,6 +16,7 @@ use Rattle.sed_outline.proofs.Fitting.{everywhere}
 use Rattle.sed_outline.proofs.Unbroken.{not_broken}
 use Rattle.sed_order.proofs.Lineages.{places}
 use Rattle.sed_class_laws.proofs.Rules.{base_fit, base_known}
+use Rattle.std.proofs.lemmas.Bool.{or_parts as either_not}
 
 -- what a class keeps of its base
 pub record Rooted (units : List KitUnits) (class : ℕ) : Type 0 where
@@ -30,10 +31,6 @@ known units class base e f = record {
   no_app = λ other s. let some : Some base ≡ Some other = sym e ∙ s in let same : base
       ≡ other = cc in sym (ap (λ b. b == 3) same) ∙ f;
 }
-
-either_not : (a b : Bool) → (a || b) ≡ false → (a ≡ false) × (b ≡ false)
-either_not false b e = (refl, e)
-either_not true b e = cc
 
 named_base : (units : List KitUnits) (class kit : ℕ) (name : TypeName) →
     base_of units class ≡ base_named units kit name →

@@ -31,6 +31,7 @@ use Rattle.sed_program.specs.Fields.{a_field, field_of, slot_no, slot_of_field}
 use Rattle.sed_outline.proofs.Unbroken.{not_broken}
 use Rattle.sed_class_laws.proofs.Known.{buf_fits, property_words, type_known}
 use Rattle.sed_class_laws.proofs.Rules.{member_fit, member_typed, name_own, overridden, slot_fit}
+pub use Rattle.sed_value.proofs.Truths.{or_left as first_of, or_right as second_of}
 
 -- where a slot of a name stands among those of a class
 abbrev pub named_slot : List SlotInfo → List ℕ → Option ℕ
@@ -63,14 +64,6 @@ shaped_by units kit m first second =
     else if second then Some (false, Action (action_argument units kit (form_params m.form))) else None)
 
 -- ---- tests
-
-pub first_of : (a b : Bool) → (a || b) ≡ false → a ≡ false
-first_of false b e = refl
-first_of true b e = cc
-
-pub second_of : (a b : Bool) → (a || b) ≡ false → b ≡ false
-second_of false b e = e
-second_of true b e = cc
 
 -- ---- a property
 

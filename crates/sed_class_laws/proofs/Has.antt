@@ -5,6 +5,7 @@ use Rattle.std.proofs.lemmas.List.Elements.{All-append, All-cons, All-nil}
 use Rattle.std.proofs.lemmas.List.Folds.{list_any-append}
 use Rattle.sed_order.proofs.Lists.{is_itself, is_same}
 use Rattle.sed_order.proofs.Upward.{up_cons}
+pub use Rattle.sed_value.proofs.Truths.{either_true as or_right}
 
 abbrev pub Has : List ℕ → ℕ → Type 0
 Has xs c = list_any (λ x. x == c) xs ≡ true
@@ -19,10 +20,6 @@ either a b e P f g = or_true a b e P f g
 pub or_left : (a b : Bool) → a ≡ true → (a || b) ≡ true
 or_left true b e = refl
 or_left false b e = cc
-
-pub or_right : (a b : Bool) → b ≡ true → (a || b) ≡ true
-or_right true b e = refl
-or_right false b e = e
 
 -- what passes is there
 pub any_is : (p : ℕ → Bool) (xs : List ℕ) → list_any p xs ≡ true → (c : ℕ) × Has xs c × (p c ≡ true)

@@ -20,6 +20,7 @@ use Rattle.sed_order.proofs.Lists.{is_itself, is_same}
 use Rattle.sed_order.proofs.Lineages.{places}
 use Rattle.sed_class_laws.proofs.Has.{Has, any_from, any_is, either, has_flat, has_map, or_left, or_right}
 use Rattle.sed_class_laws.proofs.Rules.{object_fit}
+use Rattle.sed_value.proofs.Truths.{or_right as or_last}
 
 -- ---- one step inside
 
@@ -160,10 +161,6 @@ inline_fit units u class h i =
     own_fit units u found.0 h found.2
 
 -- ---- none stands in itself
-
-or_last : (a b : Bool) → (a || b) ≡ false → b ≡ false
-or_last false b e = e
-or_last true b e = cc
 
 pub fit_apart : (units : List KitUnits) (h : ℕ) → Fit units h → holds_itself units h ≡ false
 fit_apart units h f =

@@ -1,5 +1,5 @@
 -- The types of members that break no rule.
-use Rattle.std.proofs.Common.{◌≡◌, ◌≤◌, ◌+◌, ◌==◌, ◌&&◌, ◌||◌, ℕ, pos, negsuc, Bool, true, false, not, nat_le, nat_lt, if◌then◌else◌, is_some, List, [], Option, Some, None, refl, ap, ◌∙◌, arith}
+use Rattle.std.proofs.Common.{◌≡◌, ◌≤◌, ◌+◌, ◌==◌, ◌&&◌, ℕ, pos, negsuc, Bool, true, false, not, nat_le, nat_lt, if◌then◌else◌, is_some, List, [], Option, Some, None, refl, ap, ◌∙◌, arith}
 use Rattle.std.specs.Option.{option_map_or}
 use Rattle.std.proofs.lemmas.Bool.Decides.{nat_tests}
 use Rattle.sed_value.specs.declared.slot_type.Primitive.{Primitive}
@@ -23,6 +23,7 @@ use Rattle.sed_classes.specs.Types.{based_type, buffer_type, count_of, is_unknow
 use Rattle.sed_classes.specs.Members.{has_word, is_define, is_instance_field, is_method, is_property, is_static}
 use Rattle.sed_classes.specs.FieldRules.{exclusive_count, have_words_apart, has_no_method_words, is_static_inline}
 use Rattle.sed_outline.proofs.Unbroken.{not_broken}
+use Rattle.sed_value.proofs.Truths.{or_left as first_false}
 
 -- ---- a type whose name has a class is known
 
@@ -182,10 +183,6 @@ word_counts true false true false false p e = cc
 word_counts true false false true true p e = cc
 word_counts true false false true false p e = cc
 word_counts true false false false i p e = (refl, refl)
-
-first_false : (a b : Bool) → (a || b) ≡ false → a ≡ false
-first_false false b e = refl
-first_false true b e = cc
 
 -- a property is neither a define nor static, so it stands in each object
 pub property_words : (m : Member) → is_property m ≡ true → have_words_apart m ≡ false →

@@ -20,6 +20,8 @@ use Rattle.sed_order.proofs.Infos.{infos_sum}
 use Rattle.sed_order.proofs.Lineages.{places}
 use Rattle.sed_class_laws.proofs.Has.{or_left, or_right}
 use Rattle.sed_class_laws.proofs.Rules.{name_free}
+pub use Rattle.sed_value.proofs.Lists.{same_bytes as bytes_same}
+use Rattle.std.proofs.lemmas.Bool.{or_parts as both_false}
 
 -- ---- texts
 
@@ -33,19 +35,6 @@ bytes_itself (x ∷ xs) = by_test (eqb x x) (itself x) (bytes_itself xs)
     by_test : (b : Bool) → b ≡ true → bytes_eq xs xs ≡ true → (b && bytes_eq xs xs) ≡ true
     by_test true e f = f
     by_test false e f = cc
-
-pub bytes_same : (xs ys : List ℕ) → bytes_eq xs ys ≡ true → xs ≡ ys
-bytes_same [] [] e = refl
-bytes_same [] (y ∷ ys) e = cc
-bytes_same (x ∷ xs) [] e = cc
-bytes_same (x ∷ xs) (y ∷ ys) e = by_test (eqb x y) refl e (λ f. bytes_same xs ys f)
-  where
-    by_test : (b : Bool) → eqb x y ≡ b → (b && bytes_eq xs ys) ≡ true → (bytes_eq xs ys ≡ true → xs ≡ ys) →
-        x ∷ xs ≡ y ∷ ys
-    by_test true t f rest =
-        let same : x ≡ y = grind (arith, nat_tests) in
-        ap (λ z. z ∷ xs) same ∙ ap (λ zs. y ∷ zs) (rest f)
-    by_test false t f rest = cc
 
 -- ---- two of one name
 
@@ -113,10 +102,6 @@ module _ (units : List KitUnits) (d : Declaration) where
   fresh_4 : class_at units 4 ≡ Some d → Fresh units 4 d
   unfolding all_classes
   fresh_4 e = let same : get_or sys_declares 4 d ≡ d = cc in subst (Fresh units 4) same (refl, refl)
-
-both_false : (a b : Bool) → (a || b) ≡ false → (a ≡ false) × (b ≡ false)
-both_false false b e = (refl, e)
-both_false true b e = cc
 
 declared_fresh : (units : List KitUnits) (class : ℕ) (d : Declaration) → declaration_faults units class d ≡ [] →
     Fresh units class d

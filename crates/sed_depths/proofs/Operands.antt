@@ -29,6 +29,7 @@ use Rattle.sed_depths.specs.TermHeight.{term_height, run_height}
 use Rattle.sed_depths.proofs.Sounds.{after_sound, joined_sound, unless_sound, some_sound, any_sound, either_some}
 use Rattle.sed_depths.proofs.Terms.{slack, slack_most, single, deep, deep_above, Fits, Runs}
 use Rattle.sed_depths.proofs.Widths.{width_slack, IsNumber, IsInt, IsLong, number_is, run_in_width, fit_in_width, meeting_first, meeting_second, beside_fits, beside_runs}
+pub use Rattle.std.proofs.lemmas.Bool.{and_parts as and_true}
 
 -- ---- what is wanted of an operand
 
@@ -167,11 +168,6 @@ compared_runs c n h x y p q r f =
       single = refl;
       big = r.big;
     }
-
-pub and_true : (a b : Bool) → (a && b) ≡ true → (a ≡ true) × (b ≡ true)
-and_true true true h = (refl, refl)
-and_true true false h = absurd (let k : false ≡ true = h in cc)
-and_true false b h = absurd (let k : false ≡ true = h in cc)
 
 plain_runs : (op : Binary) (n h : ℕ) (x y : Term) → slack (sort_of (Node (sign.Binary op) x y)) ≡ 0 → Runs n h x →
     Fits n h y → Runs n h (Node (sign.Binary op) x y)

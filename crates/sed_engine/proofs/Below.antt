@@ -1,12 +1,11 @@
 -- Classes at and below others: which methods they have, and which fields.
-use Rattle.std.proofs.Common.{◌≡◌, ◌<◌, ℕ, zero, suc, ◌==◌, ◌&&◌, ◌||◌, Bool, true, false, not, nat_lt, List, [], ◌∷◌, ◌++◌, length, get_or, Option, Some, None, refl, sym, ap, subst, ◌∙◌}
+use Rattle.std.proofs.Common.{◌≡◌, ◌<◌, ℕ, zero, suc, ◌==◌, ◌&&◌, ◌||◌, Bool, true, false, not, nat_lt, List, [], ◌∷◌, length, get_or, Option, Some, None, refl, sym, ap, subst, ◌∙◌}
 use Rattle.std.specs.Prelude.{All, IfSome, IsSomeAnd, ⊤, position, slice_get}
 use Rattle.std.specs.List.{flat_map, list_any, position_or_len}
 use Rattle.std.specs.Str.{bytes_eq}
 use Rattle.std.proofs.lemmas.Bool.{not-false, eqb-true, ltb-true, and_parts}
-use Rattle.std.proofs.lemmas.List.Elements.{All-get_or}
 use Rattle.std.proofs.lemmas.List.Sums.{prefix_len_stops}
-use Rattle.std.proofs.lemmas.Option.{MatchOption-at_some, cond_some, same_Some, none-some, slice_get_within, slice_get-get_or, get_or_from_slice_get}
+use Rattle.std.proofs.lemmas.Option.{MatchOption-at_some, cond_some, same_Some, none-some, slice_get-get_or}
 use Rattle.std.proofs.lemmas.Slice.Eq.{bytes_eq-Decides}
 use Rattle.sed_typed.specs.declared.program.Field.{Field}
 use Rattle.sed_typed.specs.declared.program.Method.{Method}
@@ -16,6 +15,8 @@ use Rattle.sed_typed.specs.Classes.{base_of, reached, lineage, first_found, decl
 use Rattle.sed_typed.specs.Typed.{Typed}
 use Rattle.sed_typed.specs.TypedSchema.{is_below, Overrides}
 use Rattle.sed_engine.proofs.FieldLists.{has_info, none_reached, lineage_of_base, fields_of_base}
+pub use Rattle.sed_value.proofs.Lists.{at_place}
+use Rattle.sed_value.proofs.Lists.{stands_in_front as front}
 
 -- a class is another, or its base is at or below it
 pub data Below (classes : List ClassInfo) (above : ℕ) : ℕ → Type 0 where
@@ -81,9 +82,6 @@ found_in classes look (suc k) class n h = of_look (λ base. found_in classes loo
     of_look again (Some m) e = record { at = class; above = Itself; here = e ∙ sym (found_here look class (reached (base_of classes) k (base_of classes class)) m e) ∙ h }
 
 -- ---- elements by their places
-
-pub at_place : {X : Type 0} (P : X → Type 0) (xs : List X) (k : ℕ) (x : X) → All P xs → slice_get xs k ≡ Some x → P x
-at_place P xs k x all e = subst P (get_or_from_slice_get xs k x x e) (All-get_or P xs k x (slice_get_within xs k x e) all)
 
 -- what some option holds
 pub of_some : {X : Type 0} {P : X → Type 0} (o : Option X) → IsSomeAnd o P → (x : X) × (o ≡ Some x) × P x
@@ -187,12 +185,6 @@ found_above program class n name x e is =
     (subst (λ (c : ℕ). Below program.schema.classes c class) (sym at) f.above, sym (ap (λ (m : Method). m.name) same) ∙ (bytes_eq-Decides d.value.name name).0 parts.1)
 
 -- ---- fields
-
--- a field of a class stands at the same place in those below it
-front : {X : Type 0} (xs ys : List X) (i : ℕ) (x : X) → slice_get xs i ≡ Some x → slice_get (xs ++ ys) i ≡ Some x
-front [] ys i x e = absent x e
-front (a ∷ rest) ys zero x e = e
-front (a ∷ rest) ys (suc i) x e = front rest ys i x e
 
 pub field_below : (program : Program) → Typed program → (above class i : ℕ) (f : Field) → Below program.schema.classes above class →
     slice_get (fields program above) i ≡ Some f → slice_get (fields program class) i ≡ Some f

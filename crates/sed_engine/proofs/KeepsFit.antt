@@ -3,7 +3,6 @@ use Rattle.std.proofs.Common.{◌≡◌, ℕ, zero, suc, ◌==◌, ◌&&◌, ◌
 use Rattle.std.specs.Prelude.{nat_le}
 use Rattle.std.specs.Str.{bytes_eq}
 use Rattle.std.proofs.lemmas.Bool.Decides.{nat_tests}
-use Rattle.std.proofs.lemmas.Slice.Eq.{bytes_eq-Decides}
 use Rattle.sed_value.specs.Value.{is_of_type}
 use Rattle.sed_value.specs.declared.value.Value.{Value}
 use Rattle.sed_value.specs.declared.value.Value.TheVariants as kept
@@ -26,24 +25,12 @@ use Rattle.sed_engine.specs.Expressions.{Setting, Calls}
 use Rattle.sed_engine.specs.Statements.{Flow, Round, Again, Over, Answer, after_round, loop}
 use Rattle.sed_engine.specs.Root.{run_body, run_method, calls_with}
 use Rattle.sed_engine.proofs.Related.{Closed, of_stmt}
-
-both : (a b : Bool) → a ≡ true → b ≡ true → (a && b) ≡ true
-both true b x y = y
-both false b x y = x
-
-first_of_both : (a b : Bool) → (a && b) ≡ true → a ≡ true
-first_of_both true b h = refl
-first_of_both false b h = h
-
-second_of_both : (a b : Bool) → (a && b) ≡ true → b ≡ true
-second_of_both true b h = h
-second_of_both false b h = let never : ⊥ = cc in absurd never
+use Rattle.std.proofs.lemmas.Bool.{and_from as both}
+use Rattle.sed_value.proofs.Truths.{and_left as first_of_both, and_right as second_of_both}
+use Rattle.sed_value.proofs.Lists.{same_bytes as bytes_equal}
 
 some_is : (x y : Value) → Some x ≡ Some y → x ≡ y
 some_is x y e = cc
-
-bytes_equal : (xs ys : List ℕ) → bytes_eq xs ys ≡ true → xs ≡ ys
-bytes_equal xs ys e = (bytes_eq-Decides xs ys).0 e
 
 no_value : {P : Type 0} → false ≡ true → P
 no_value h = let never : ⊥ = cc in absurd never

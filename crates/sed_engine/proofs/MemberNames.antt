@@ -3,7 +3,7 @@ use Rattle.std.proofs.Common.{◌≡◌, ℕ, ◌+◌, ◌≤◌, ◌==◌, ◌&
 use Rattle.std.specs.Prelude.{All, count_by, filter, slice_index_or}
 use Rattle.std.specs.List.{list_all, list_any}
 use Rattle.std.specs.Str.{bytes_eq}
-use Rattle.std.proofs.lemmas.Bool.{and_parts, eqb-true}
+use Rattle.std.proofs.lemmas.Bool.{and_parts, eqb-true, or_parts as neither, not-true as not_true}
 use Rattle.std.proofs.lemmas.Bool.Decides.{Decides-eqb}
 use Rattle.std.proofs.lemmas.List.Elements.{All-nil, All-cons}
 use Rattle.std.proofs.lemmas.List.Sums.{sum_by-append, sum_by-cons, AllPass-from_list_all}
@@ -44,14 +44,6 @@ named_in {X} test name_of (x ∷ xs) name = count_first (λ y. test y && bytes_e
         cond (b && bytes_eq (name_of x) name) 1 0 + count_by (λ y. test y && bytes_eq (name_of y) name) xs ≡ how_many name (map name_of (cond b (x ∷ filter test xs) (filter test xs)))
     go true e = ap (λ (n : ℕ). cond (bytes_eq (name_of x) name) 1 0 + n) e ∙ sym (count_first (λ n. bytes_eq n name) (name_of x) (map name_of (filter test xs)))
     go false e = omega (arith, e)
-
-neither : (a b : Bool) → (a || b) ≡ false → (a ≡ false) × (b ≡ false)
-neither true b h = let never : ⊥ = cc in absurd never
-neither false b h = (refl, h)
-
-not_true : (b : Bool) → not b ≡ true → b ≡ false
-not_true true h = sym h
-not_true false h = refl
 
 no_other : (n : List ℕ) (ns : List (List ℕ)) → list_any (bytes_eq n) ns ≡ false → how_many n ns ≡ 0
 no_other n [] h = refl

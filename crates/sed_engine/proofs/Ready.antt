@@ -34,6 +34,7 @@ use Rattle.sed_engine.proofs.Kinded.{form_from, HasKind, Held, held, met_of, rea
 use Rattle.sed_engine.proofs.Ranges.{Sound}
 use Rattle.sed_engine.proofs.Spots.{Concrete}
 use Rattle.sed_engine.proofs.Within.{Within, written_within}
+use Rattle.sed_value.proofs.Truths.{either_true}
 
 abbrev pub forms_of : Program → ℕ → Forms
 forms_of program class = record { contents = form_from program class Component; statics = form_from program class Statics }
@@ -79,10 +80,6 @@ abbrev pub IsStored : FieldForm → Type 0
 IsStored (form.Prim p) = Unit {0}
 IsStored (form.Str n) = Unit {0}
 IsStored f = ⊥
-
-either_true : (a b : Bool) → b ≡ true → (a || b) ≡ true
-either_true true b h = refl
-either_true false b h = h
 
 lengths : (a b n : ℕ) → (a == n) ≡ true → (b == n) ≡ true → (b == a) ≡ true
 lengths a b n h k = grind (arith, nat_tests)

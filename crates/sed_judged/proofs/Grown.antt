@@ -1,5 +1,5 @@
 -- Methods that are judged one after another.
-use Rattle.std.proofs.Common.{◌≡◌, ℕ, ◌+◌, ◌<◌, Bool, true, false, ◌&&◌, List, [], ◌∷◌, ◌++◌, map, take, length, get_or, Option, refl, sym, ap, subst, ◌∙◌, arith}
+use Rattle.std.proofs.Common.{◌≡◌, ℕ, ◌+◌, ◌<◌, Bool, true, ◌&&◌, List, [], ◌∷◌, ◌++◌, map, take, length, get_or, Option, sym, ap, subst, ◌∙◌, arith}
 use Rattle.std.specs.List.{enumerate_from, flat_map, list_all}
 use Rattle.std.proofs.Math.Numerals.{add-one}
 use Rattle.std.proofs.Math.Seq.{take-suc}
@@ -18,6 +18,8 @@ use Rattle.sed_program.specs.Methods.{MethodAt}
 use Rattle.sed_judged.specs.declared.bodies.Bodies.{Bodies}
 use Rattle.sed_judged.specs.Bodies.{AreBodies, IsBodyOf, as_fault, faults_of_form, method_faults, placed_at}
 use Rattle.sed_judged.specs.Judgements.{AreJudged, Grows, has_known_body, least_fault_at}
+use Rattle.std.proofs.lemmas.Bool.{and_parts as both_true}
+use Rattle.std.proofs.Math.Bool.{and-true as one_known}
 
 -- ---- one more
 
@@ -27,14 +29,6 @@ bodies_more units [] [] e b all here = (here, tt)
 bodies_more units [] (x ∷ bs) e b all here = absurd all
 bodies_more units (x ∷ es) [] e b all here = absurd all
 bodies_more units (x ∷ es) (y ∷ bs) e b all here = (all.0, bodies_more units es bs e b all.1 here)
-
-both_true : (a b : Bool) → (a && b) ≡ true → (a ≡ true) × (b ≡ true)
-both_true true b e = (refl, e)
-both_true false b e = absurd (let no : ⊥ = cc in no)
-
-one_known : (k : Bool) → (k && true) ≡ k
-one_known true = refl
-one_known false = refl
 
 pub grown_by_one : (units : List KitUnits) (e : MethodAt) (old new : Bodies) (fault : Option Fault) (known : Bool)
     (tree : Option Stmt) →

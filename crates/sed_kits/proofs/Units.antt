@@ -3,7 +3,6 @@ use Rattle.std.proofs.Common.{◌≡◌, ◌+◌, ◌≤◌, ℕ, zero, suc, Boo
 use Rattle.std.specs.Prelude.{All, IfOk, IsTrue, codes, count_by, if◌then◌else◌}
 use Rattle.std.specs.Str.{bytes_eq}
 use Rattle.std.proofs.lemmas.List.Sums.{sum_by-cons}
-use Rattle.std.proofs.lemmas.Slice.Eq.{bytes_eq-Decides}
 use Rattle.sed_value.specs.Value.{are_bytes}
 use Rattle.sed_value.specs.Names.{is_kit_name}
 use Rattle.sed_lexer.specs.Token.{Token}
@@ -22,6 +21,7 @@ use Rattle.sed_engine.specs.Runnable.{IsRunnable}
 use Rattle.sed_kits.specs.declared.refusal.KitsRefusal.{KitsRefusal}
 use Rattle.sed_kits.specs.Refusals.{is_want}
 use Rattle.sed_kits.specs.Loading.{IsChecked, local}
+use Rattle.sed_value.proofs.Lists.{same_bytes as eq_of}
 
 abbrev pub ReadLaw : Type 0
 ReadLaw = (text : List ℕ) (tokens : List Token) (u : TheUnit) → IsTrue (are_bytes text) → Lexes text tokens → Derives tokens u → IsReadUnit u
@@ -50,9 +50,6 @@ formed (suc (suc k)) d within = absurd (omega (arith, within))
 
 weight : Bool → ℕ
 weight b = if b then 1 else 0
-
-eq_of : (a b : List ℕ) → bytes_eq a b ≡ true → a ≡ b
-eq_of a b is = grind (arith, bytes_eq-Decides a b)
 
 count_two : (name a b : List ℕ) → count_by (λ n. bytes_eq n name) (a ∷ b ∷ []) ≡ weight (bytes_eq a name) + weight (bytes_eq b name)
 unfolding weight

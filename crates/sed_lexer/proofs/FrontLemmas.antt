@@ -8,18 +8,8 @@ use Rattle.std.proofs.lemmas.Slice.Eq.{starts_is}
 use Rattle.sed_value.specs.Characters.{is_letter}
 use Rattle.sed_value.specs.Names.{is_first_then, is_identifier}
 use Rattle.sed_lexer.specs.Fronts.{IsLongestFront}
-
-pub and_left : (a b : Bool) → (a && b) ≡ true → a ≡ true
-and_left true b h = refl
-and_left false b h = cc
-
-pub and_right : (a b : Bool) → (a && b) ≡ true → b ≡ true
-and_right true b h = h
-and_right false b h = cc
-
-pub and_both : (a b : Bool) → a ≡ true → b ≡ true → (a && b) ≡ true
-and_both true b h k = k
-and_both false b h k = cc
+pub use Rattle.sed_value.proofs.Truths.{and_left, and_right}
+pub use Rattle.std.proofs.lemmas.Bool.{and_from as and_both}
 
 pub or_cases : (a b : Bool) → (a || b) ≡ true → (a ≡ true) ⊎ (b ≡ true)
 or_cases true b h = inl refl

@@ -18,6 +18,7 @@ use Rattle.sed_lexer.specs.One.{FindsOne}
 use Rattle.sed_lexer.specs.Fronts.{NoFront, IsLongestFront}
 use Rattle.sed_lexer.proofs.FrontLemmas.{front_in_front, run_goes_on}
 use Rattle.sed_lexer.proofs.NumeralLemmas.{IsDigits, decimal_in_hex}
+use Rattle.std.proofs.lemmas.Option.{none-some as none_some}
 
 -- a number that the unsigned range holds stands for the signed one of the same bits
 pub wrap_small : (width : Width) (n : ℕ) → n < 2 ^ bits width → cast_signed width n ≡ wrap width (pos n)
@@ -55,9 +56,6 @@ digits_more base xs b other =
 
 some_is : {X : Type 0} (a b : X) → ◌≡◌ {A = Option X} (Some a) (Some b) → a ≡ b
 some_is a b e = cc
-
-none_some : {X : Type 0} (a : X) → ◌≡◌ {A = Option X} None (Some a) → ⊥
-none_some a e = cc
 
 -- a digit, or `_`
 abbrev in_digits : (ℕ → Bool) → ℕ → Bool

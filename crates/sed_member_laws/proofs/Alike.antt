@@ -23,6 +23,7 @@ use Rattle.sed_member_laws.proofs.Empty.{none_said_first}
 use Rattle.sed_member_laws.proofs.Fit.{param_storable, void_or_stored, words_apart}
 use Rattle.sed_member_laws.proofs.Own.{and_left, and_right, member_kept, or_left, or_right}
 use Rattle.sed_member_laws.specs.Alike.{Alike}
+use Rattle.std.proofs.lemmas.Bool.{eqb-true as same_number}
 
 -- ---- equal types
 
@@ -33,9 +34,6 @@ same_prim prim.Short prim.Short e = refl
 same_prim prim.Int prim.Int e = refl
 same_prim prim.Long prim.Long e = refl
 same_prim p q e = cc
-
-same_number : (a b : ℕ) → (a == b) ≡ true → a ≡ b
-same_number a b e = grind (arith, nat_tests)
 
 -- a type of results
 abbrev pub IsResult : SourceType → Type 0

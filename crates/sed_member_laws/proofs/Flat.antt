@@ -5,16 +5,10 @@ use Rattle.std.specs.Option.{option_map}
 use Rattle.std.proofs.lemmas.List.Sums.{sum_by-cons, sum_by-append}
 use Rattle.std.proofs.lemmas.Bool.Decides.{nat_tests}
 use Rattle.sed_order.proofs.Lists.{count_cons, position_no, position_yes}
-
-pub some_is : {X : Type 0} (x y : X) → Some x ≡ Some y → x ≡ y
-some_is x y e = cc
+pub use Rattle.std.proofs.lemmas.Option.{same_Some as some_is}
+pub use Rattle.sed_value.proofs.Lists.{stands_in_front as in_front}
 
 -- ---- one list behind another
-
-pub in_front : {X : Type 0} (xs ys : List X) (i : ℕ) (x : X) → slice_get xs i ≡ Some x → slice_get (xs ++ ys) i ≡ Some x
-in_front [] ys i x e = cc
-in_front (z ∷ zs) ys zero x e = e
-in_front (z ∷ zs) ys (suc i) x e = in_front zs ys i x e
 
 pub behind : {X : Type 0} (xs ys : List X) (i : ℕ) → slice_get (xs ++ ys) (length xs + i) ≡ slice_get ys i
 behind [] ys i = let e : 0 + i ≡ i = omega arith in ap (slice_get ys) e

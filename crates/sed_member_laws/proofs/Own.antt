@@ -4,7 +4,6 @@ use Rattle.std.specs.List.{find, list_any, count_by}
 use Rattle.std.specs.Option.{option_map_or}
 use Rattle.std.specs.Bool.{Decides}
 use Rattle.std.specs.Str.{bytes_eq}
-use Rattle.std.specs.Cmp.Lexicographic.{same_text}
 use Rattle.std.proofs.lemmas.Slice.Eq.{bytes_eq-Decides}
 use Rattle.sed_units.specs.declared.classes.Member.{Member}
 use Rattle.sed_classes.specs.declared.kit_units.KitUnits.{KitUnits}
@@ -14,32 +13,15 @@ use Rattle.sed_member_laws.specs.Faultless.{AreFree, Keeps}
 use Rattle.sed_member_laws.proofs.Flat.{none_passes, one_of}
 use Rattle.sed_member_laws.proofs.Peel.{kept}
 use Rattle.sed_order.proofs.Lists.{count_cons}
+pub use Rattle.sed_value.proofs.Lists.{same_bytes as same_name}
+pub use Rattle.sed_value.proofs.Truths.{or_left, or_right, and_left, and_right}
 
 -- ---- names
-
-pub same_name : (a b : List ℕ) → bytes_eq a b ≡ true → a ≡ b
-same_name a b e = same_text a b (sym e)
 
 pub name_itself : (a : List ℕ) → bytes_eq a a ≡ true
 name_itself a = let d : Decides (bytes_eq a a) (a ≡ a) = bytes_eq-Decides a a in d.1 refl
 
 -- ---- tests
-
-pub or_left : (a b : Bool) → (a || b) ≡ false → a ≡ false
-or_left false b e = refl
-or_left true b e = cc
-
-pub or_right : (a b : Bool) → (a || b) ≡ false → b ≡ false
-or_right false b e = e
-or_right true b e = cc
-
-pub and_left : (a b : Bool) → (a && b) ≡ true → a ≡ true
-and_left true b e = refl
-and_left false b e = cc
-
-pub and_right : (a b : Bool) → (a && b) ≡ true → b ≡ true
-and_right true b e = e
-and_right false b e = cc
 
 pub and_none : (a b : Bool) → a ≡ true → (a && b) ≡ false → b ≡ false
 and_none true b t e = e

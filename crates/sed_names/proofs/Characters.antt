@@ -1,15 +1,10 @@
 -- The function of a character's bytes gives the character that they denote, and none where they denote none.
 use Rattle.std.proofs.Common.{◌≡◌, ℕ, Bool, true, false, ◌&&◌, ◌==◌, cond, List, [], ◌∷◌, ◌++◌, Option, Some, None, refl, sym, ap, subst, ◌∙◌}
-use Rattle.std.proofs.lemmas.Bool.Decides.{Decides-eqb}
 use Rattle.sed_lexer.specs.One.{FindsOne}
 use Rattle.sed_lexer.specs.Spellings.{is_plain, escaped, Spells, IsCharacterOf}
 use Rattle.sed_names.specs.Spelled.{character_of}
-
-none_some : {X : Type 0} (a : X) → ◌≡◌ {A = Option X} None (Some a) → ⊥
-none_some a e = cc
-
-byte_is : (a b : ℕ) → (a == b) ≡ true → a ≡ b
-byte_is a b h = (Decides-eqb a b).0 h
+use Rattle.std.proofs.lemmas.Option.{none-some as none_some}
+use Rattle.std.proofs.lemmas.Bool.{eqb-true as byte_is}
 
 plain_sound : (q b r c : ℕ) → character_of (q ∷ b ∷ r ∷ []) ≡ Some c → IsCharacterOf (q ∷ b ∷ r ∷ []) c
 plain_sound q b r c h = by_tests (q == 39) (r == 39) (is_plain 39 b) refl refl refl h

@@ -10,9 +10,7 @@ use Rattle.sed_lexer.specs.Integers.{is_hex_digit, are_digits}
 use Rattle.sed_lexer.specs.One.{FindsOne}
 use Rattle.sed_lexer.specs.Values.{digits_value, decimal_number, hex_number, long_within, time_factor, DenotesDecimal, DenotesHex, Denotes}
 use Rattle.sed_names.specs.Spelled.{in_digits, front_while, digits_of, suffix_of, decimal_of, hex_of, prefixed_hex_of, integer_of}
-
-none_some : {X : Type 0} (a : X) → ◌≡◌ {A = Option X} None (Some a) → ⊥
-none_some a e = cc
+use Rattle.std.proofs.lemmas.Option.{none-some as none_some}
 
 -- ---- a front and what is behind it
 

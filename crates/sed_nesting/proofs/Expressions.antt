@@ -1,11 +1,12 @@
 -- What the grammar derives as an expression is within its room.
-use Rattle.std.proofs.Common.{◌≡◌, ◌≤◌, ℕ, zero, suc, ◌+◌, ◌==◌, Bool, true, false, nat_lt, if◌then◌else◌, List, codes, arith, subst, inl, inr, refl}
+use Rattle.std.proofs.Common.{◌≡◌, ◌≤◌, ℕ, zero, suc, ◌+◌, Bool, true, false, nat_lt, if◌then◌else◌, List, codes, arith, subst, inl, inr, refl}
 use Rattle.sed_lexer.specs.Token.{Token}
 use Rattle.sed_units.specs.Tree.{Tree}
 use Rattle.sed_parser.specs.Rule.{Rule}
 use Rattle.sed_parser.specs.Next.{next_mark}
 use Rattle.sed_parser.specs.Expressions.{Inner, leaf, arguments, more_arguments, next_argument, named, primary, access, access_links, next_access, postfix, prefixed, operand, operand_links, next_operand, operands, conditional, assigned, of_level, expression_in, deeper, chain}
 use Rattle.sed_nesting.proofs.Rooms.{Each, each_of_many, InRoom, Within, more, rows_within, chain_in_room}
+use Rattle.std.proofs.lemmas.Bool.{eqb-true as level_is}
 
 -- how many levels an expression of a level makes at most, but for what is opened in it
 abbrev pub own : ℕ → ℕ
@@ -487,9 +488,6 @@ one_more level = at (nat_lt level 12) (nat_lt (suc level) 12) (λ e f. grind (ar
     at true false h = omega arith
     at false true h = absurd (h refl refl)
     at false false h = omega arith
-
-level_is : (a b : ℕ) → (a == b) ≡ true → a ≡ b
-level_is a b e = grind (arith, e)
 
 in_level : (room : ℕ) (inner : Inner) (level : ℕ) (inside : Bool) (tighter : Rule Tree) → Inside room inner
     → Derived tighter (InRoom room (own level)) → Derived (of_level inner (suc level) inside tighter) (InRoom room (own

@@ -13,6 +13,7 @@ use Rattle.sub_table.specs.declared.part.Part.{Part}
 use Rattle.sub_table.specs.declared.part.Part.TheVariants.{Tree, Config, Runtime, Links}
 use Rattle.sox_events.specs.Due.{before_it, rank}
 use Rattle.node_events.specs.Events.{PartAt, parts_at, parts_of}
+use Rattle.sed_value.proofs.Orders.{below_is as less_is}
 
 abbrev Entries : Type 0
 Entries = List (ℕ × Component)
@@ -34,9 +35,6 @@ first_of false b h = h
 second_of : (a b : Bool) → T (a && b) → T b
 second_of true b h = h
 second_of false b h = absurd h
-
-less_is : (a b : ℕ) → T (is_lt (nat_cmp a b)) → a < b
-less_is a b is = grind (arith, nat_tests)
 
 same_is : (a b : ℕ) → eq_by_cmp nat_cmp a b ≡ true → a ≡ b
 same_is a b is = grind (arith, nat_tests)

@@ -16,14 +16,11 @@ use Rattle.sox_events.specs.Due.{before_it, rank}
 use Rattle.node_events.specs.Events.{PartAt, Telling, bytes_of, differs_from, has_room_at, is_due, told}
 use Rattle.node_events.specs.Events.{told_if_due}
 use Rattle.sed_node.proofs.Parts.{Split}
+use Rattle.sed_value.proofs.Truths.{and_right as second_true}
 
 and_false : (b : Bool) → (b && false) ≡ false
 and_false true = refl
 and_false false = refl
-
-second_true : (a b : Bool) → (a && b) ≡ true → b ≡ true
-second_true true b is = is
-second_true false b is = absurd (let no : false ≡ true = is in cc)
 
 itself_part : (part : Part) → is_part part part ≡ true
 itself_part Tree = refl

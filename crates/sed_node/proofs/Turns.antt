@@ -26,6 +26,7 @@ use Rattle.sed_node.specs.declared.node.Node.{Node as Kept}
 use Rattle.sed_node.proofs.Parts.{Split, split_of}
 use Rattle.sed_node.proofs.Sending.{sends_more}
 use Rattle.sed_node.proofs.Telling.{full_told, none_told, told_anew, told_is}
+pub use Rattle.sed_value.proofs.Truths.{and_right as second_true}
 
 -- what was told so far, of all that is told at a place from a node on: to go on from it comes to the same
 pub record Reached {E : Type 0} (g : Ghosts E) (m : Meaning) (place : ℕ) (kept : Kept E) (sent : List Datagram)
@@ -206,7 +207,3 @@ lives_of g a subs place id part is = by_kept (subs place id part) is
         → over.lives g a id ≡ true
     by_kept None is = absurd (let no : false ≡ true = is in cc)
     by_kept (Some last) is = by_lives (over.lives g a id) _ is
-
-pub second_true : (a b : Bool) → (a && b) ≡ true → b ≡ true
-second_true true b is = is
-second_true false b is = absurd (let no : false ≡ true = is in cc)

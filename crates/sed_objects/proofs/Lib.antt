@@ -1,4 +1,3 @@
 pub mod Rounds
 pub mod Inside
 pub mod Measures
-pub mod Found

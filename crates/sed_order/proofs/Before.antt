@@ -17,12 +17,10 @@ use Rattle.sed_order.proofs.Sums.{below_sum, low, sys_places, where_so}
 use Rattle.sed_order.proofs.Within.{base_within}
 use Rattle.sed_order.proofs.Lineages.{bases_few, depth_base, places}
 use Rattle.sed_order.proofs.Order.{number, number_at, place_is}
+use Rattle.std.proofs.lemmas.List.{append-nil as nothing_more}
+use Rattle.sed_value.proofs.Lists.{stands_in_front as get_front}
 
 -- ---- the order in two parts
-
-nothing_more : (ys : List ℕ) → ys ++ [] ≡ ys
-nothing_more [] = refl
-nothing_more (y ∷ ys) = ap (λ zs. y ∷ zs) (nothing_more ys)
 
 order_parts : (units : List KitUnits) (j k : ℕ) → (rest : List ℕ) × (order_below units (j + k)
     ≡ order_below units k ++ rest)
@@ -44,11 +42,6 @@ whole_parts units k le =
     let e : places units ≡ (places units - k) + k = omega (arith, le) in
     let parts = order_parts units (places units - k) k in
     (parts.0, ap (order_below units) e ∙ parts.1)
-
-get_front : {X : Type 0} (xs ys : List X) (k : ℕ) (x : X) → slice_get xs k ≡ Some x → slice_get (xs ++ ys) k ≡ Some x
-get_front [] ys k x e = cc
-get_front (z ∷ zs) ys zero x e = e
-get_front (z ∷ zs) ys (suc k) x e = get_front zs ys k x e
 
 get_within : {X : Type 0} (xs ys : List X) (k : ℕ) → k < length xs → slice_get (xs ++ ys) k ≡ slice_get xs k
 get_within [] ys k h = absurd (omega (arith, h))

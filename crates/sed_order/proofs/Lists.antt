@@ -6,6 +6,7 @@ use Rattle.std.proofs.lemmas.List.Sums.{sum_by-cons}
 use Rattle.std.proofs.lemmas.List.Quantifiers.{position-Some}
 use Rattle.std.proofs.lemmas.Option.{slice_get-get_or, slice_get_within}
 use Rattle.std.proofs.lemmas.Bool.Decides.{nat_tests}
+pub use Rattle.std.proofs.lemmas.Bool.{eqb-true as is_same}
 
 -- a number is this one
 abbrev pub is : ℕ → ℕ → Bool
@@ -13,9 +14,6 @@ is c x = x == c
 
 pub is_itself : (c : ℕ) → (c == c) ≡ true
 is_itself c = grind (arith, nat_tests)
-
-pub is_same : (x c : ℕ) → (x == c) ≡ true → x ≡ c
-is_same x c e = grind (arith, nat_tests)
 
 pub is_other : (x c : ℕ) → (x == c) ≡ false → x ≡ c → ⊥
 is_other x c e s = grind (arith, nat_tests)

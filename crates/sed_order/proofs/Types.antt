@@ -16,6 +16,7 @@ use Rattle.sed_order.proofs.Order.{number, number_in, place_is}
 use Rattle.sed_order.proofs.Infos.{info_at, infos_sum}
 use Rattle.sed_order.proofs.Kits.{at_number, counts, in_kit, numbered}
 use Rattle.std.proofs.lemmas.Option.{slice_get_within}
+use Rattle.std.proofs.lemmas.Bool.{and_from as both_true}
 
 -- the class of the schema with this number in this kit
 abbrev pub is_type : ℕ → ℕ → ClassInfo → Bool
@@ -36,10 +37,6 @@ type_most units u kit n = by_test (nat_lt n (sum_by (counts (in_kit kit)) (all_c
         count_by (is_type kit n) (class_infos units) ≤ 1
     by_test true t = omega (arith, type_sum units u kit n, (numbered units kit n).below (grind (arith, nat_tests)))
     by_test false t = omega (arith, type_sum units u kit n, (numbered units kit n).behind (grind (arith, nat_tests)))
-
-both_true : (a b : Bool) → a ≡ true → b ≡ true → (a && b) ≡ true
-both_true true b p q = q
-both_true false b p q = cc
 
 pub place_below : (units : List KitUnits) (class : ℕ) (d : Declaration) → class_at units class ≡ Some d →
     class < places units

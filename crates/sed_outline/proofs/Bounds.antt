@@ -190,7 +190,7 @@ declared_most units class d at e le =
 
 -- ---- the types of `sys`
 
-named : (units : List KitUnits) (name : List ℕ) (i : ℕ) → position_or_len (is_named name 0) (all_classes units) ≡ i → i < 5 →
+pub named : (units : List KitUnits) (name : List ℕ) (i : ℕ) → position_or_len (is_named name 0) (all_classes units) ≡ i → i < 5 →
     class_in units name 0 ≡ Some i
 named units name i e h =
     ap (λ n. if nat_lt n (length (all_classes units)) then Some n else None) e

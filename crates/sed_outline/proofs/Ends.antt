@@ -6,19 +6,12 @@ use Rattle.std.proofs.lemmas.Map.Keys.{IsDistinct-cons}
 use Rattle.std.proofs.lemmas.Map.Steps.{length-le_from_distinct_below}
 use Rattle.std.proofs.lemmas.Bool.Decides.{nat_tests}
 use Rattle.sed_classes.specs.Bases.{comes_to}
+use Rattle.sed_value.proofs.Truths.{or_left, or_right}
 
 -- the classes with a base that are met in at most so many steps
 unfoldable pub walk : (ℕ → Option ℕ) → ℕ → ℕ → List ℕ
 walk next zero at = []
 walk next (suc n) at = option_map_or (λ base. at ∷ walk next n base) (next at) []
-
-or_left : (a b : Bool) → (a || b) ≡ false → a ≡ false
-or_left false b e = refl
-or_left true b e = cc
-
-or_right : (a b : Bool) → (a || b) ≡ false → b ≡ false
-or_right false b e = e
-or_right true b e = cc
 
 turned : (a b : ℕ) → (a == b) ≡ false → eqb b a ≡ false
 turned a b e = grind (arith, nat_tests)

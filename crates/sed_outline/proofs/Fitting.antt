@@ -28,6 +28,7 @@ use Rattle.sed_outline.proofs.Climbs.{bases_most, total}
 use Rattle.sed_outline.proofs.Ends.{climbed, ends}
 use Rattle.sed_outline.proofs.Numbers.{Free, fews, kits_kit, lows}
 use Rattle.sed_outline.proofs.Unbroken.{base_free, class_word, member_word, none_from, not_broken, number_free}
+use Rattle.sed_value.proofs.Truths.{or_right as or_last}
 
 get_behind : {X : Type 0} (xs ys : List X) (i : ℕ) (d : X) → get_or (xs ++ ys) (length xs + i) d ≡ get_or ys i d
 get_behind [] ys i d = let e : 0 + i ≡ i = omega arith in ap (λ n. get_or ys n d) e
@@ -148,10 +149,6 @@ no_above : (units : List KitUnits) (to n class : ℕ) → base_of units class �
     (2 == to) ≡ false → comes_to (base_of units) to n (base_of units class) ≡ false
 no_above units to n class b e f g =
     ap (comes_to (base_of units) to n) b ∙ comes_one (base_of units) to n 2 g (λ m. no_component units to m e f)
-
-or_last : (a b : Bool) → (a || b) ≡ false → b ≡ false
-or_last false b e = e
-or_last true b e = cc
 
 -- what a class without `extends` is based on
 unnamed_free : (units : List KitUnits) (class n : ℕ) (d : Declaration) → class_at units class ≡ Some d → d.class.base ≡ None →

@@ -4,7 +4,7 @@ use Rattle.std.specs.List.{range_with_len}
 use Rattle.std.specs.Option.{IfNone, IfSome, option_map}
 use Rattle.std.proofs.lemmas.Bool.Decides.{nat_tests}
 use Rattle.std.proofs.lemmas.List.FromFn.{map-range_with_len_more, get_or-range_with_len, length-map-range_with_len, length-range_with_len}
-use Rattle.std.proofs.lemmas.Option.{slice_get-get_or, slice_get-map, slice_get_within}
+use Rattle.std.proofs.lemmas.Option.{slice_get-get_or, slice_get-map, slice_get_within, same_Some as some_eq}
 use Rattle.sed_classes.specs.declared.kit_units.KitUnits.{KitUnits}
 use Rattle.sed_classes.specs.Declarations.{all_classes}
 use Rattle.sed_objects.specs.Rounds.{row_of}
@@ -35,9 +35,6 @@ row_there units f class h =
     slice_get-map f (range_with_len 0 (length (all_classes units))) class
     ∙ ap (option_map f) (range_get 0 (length (all_classes units)) class h)
     ∙ ap (λ k. Some (f k)) (let e : 0 + class ≡ class = omega arith in e)
-
-some_eq : {X : Type 0} (x y : X) → Some x ≡ Some y → x ≡ y
-some_eq x y e = cc
 
 pub row_get : {X : Type 0} (units : List KitUnits) (f : ℕ → X) (class : ℕ) (x : X) →
     slice_get (row_of units f) class ≡ Some x → x ≡ f class

@@ -1,5 +1,5 @@
 -- What is spelled in rows of members and of classes.
-use Rattle.std.proofs.Common.{◌≡◌, ◌<◌, ℕ, zero, suc, ◌+◌, List, [], ◌∷◌, ◌++◌, take, length, get_or, slice_get, Option, Some, refl, sym, ap, ◌∙◌, arith}
+use Rattle.std.proofs.Common.{◌≡◌, ◌<◌, ℕ, ◌+◌, List, [], ◌∷◌, ◌++◌, take, length, get_or, slice_get, Option, Some, sym, ap, ◌∙◌}
 use Rattle.std.specs.List.{flat_map}
 use Rattle.std.specs.Option.{option_map_or}
 use Rattle.std.proofs.lemmas.Grind.{flat_map-append}
@@ -17,6 +17,7 @@ use Rattle.sed_nodes.specs.Texts.{with_literals}
 use Rattle.sed_nodes.proofs.Walks.{literals_together, then_both}
 use Rattle.sed_program.specs.Texts.{literals_of}
 use Rattle.sed_program.proofs.Lists.{front_more}
+use Rattle.sed_value.proofs.Lists.{item_there as there_is}
 
 -- what is made of a row of items, with one item more
 said_more : {X Y : Type 0} (said : X → List Y) (n : ℕ) (xs : List X) (x : X) → n < length xs → x ≡ get_or xs n x →
@@ -45,11 +46,6 @@ first_step n ms m start far new h e p i =
     ∙ ap (λ k. lesser k (least (spelled_faults m))) i
     ∙ then_both start (flat_map spelled_faults (take n ms)) (spelled_faults m)
     ∙ sym (ap (λ fs. lesser start (least fs)) (said_more spelled_faults n ms m h e))
-
-there_is : {X : Type 0} (xs : List X) (i : ℕ) → i < length xs → (x : X) × (slice_get xs i ≡ Some x)
-there_is [] i h = absurd (omega (arith, h))
-there_is (x ∷ xs) zero h = (x, refl)
-there_is (x ∷ xs) (suc i) h = there_is xs i (omega (arith, h))
 
 class_texts : (units : List KitUnits) (class : ℕ) (d : Declaration) → slice_get (all_classes units) class ≡ Some d →
     literals_of d ≡ flat_map texts_of (members_of units class)

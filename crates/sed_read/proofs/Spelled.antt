@@ -1,5 +1,5 @@
 -- What a spelled token spells: an identifier, or a literal.
-use Rattle.std.proofs.Common.{◌≡◌, ℕ, ◌<◌, ◌==◌, nat_le, Bool, true, false, not, ◌&&◌, if◌then◌else◌, IsTrue, IfSome, IsSomeAnd, List, [], ◌∷◌, ◌++◌, codes, Option, Some, None, refl, sym, subst, arith}
+use Rattle.std.proofs.Common.{◌≡◌, ℕ, ◌<◌, ◌==◌, nat_le, Bool, true, false, not, if◌then◌else◌, IsTrue, IfSome, IsSomeAnd, List, [], ◌∷◌, ◌++◌, codes, Option, Some, None, refl, sym, subst, arith}
 use Rattle.std.specs.Str.{bytes_eq}
 use Rattle.std.proofs.lemmas.Bool.Decides.{Decides-eqb}
 use Rattle.sed_value.specs.Names.{is_identifier}
@@ -18,20 +18,11 @@ use Rattle.sed_units.specs.Words.{ident_of, literal_of, literal_with}
 use Rattle.sed_parser.specs.Leaves as part
 use Rattle.sed_read.specs.Read.{SpellsCharacter, IsLexed}
 use Rattle.sed_read.proofs.Kept.{Keeps, one}
-
-none_some : {X : Type 0} (a : X) → ◌≡◌ {A = Option X} None (Some a) → ⊥
-none_some a e = cc
+use Rattle.std.proofs.lemmas.Option.{none-some as none_some}
+use Rattle.sed_value.proofs.Truths.{and_left, and_right}
 
 some_is : {X : Type 0} (a b : X) → ◌≡◌ {A = Option X} (Some a) (Some b) → a ≡ b
 some_is a b e = cc
-
-and_left : (a b : Bool) → (a && b) ≡ true → a ≡ true
-and_left true b h = refl
-and_left false b h = cc
-
-and_right : (a b : Bool) → (a && b) ≡ true → b ≡ true
-and_right true b h = h
-and_right false b h = cc
 
 -- ---- characters
 

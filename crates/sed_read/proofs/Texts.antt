@@ -1,15 +1,12 @@
 -- The tokens of a text of bytes are spelled.
-use Rattle.std.proofs.Common.{◌≡◌, ℕ, ◌≤◌, Bool, true, false, ◌&&◌, nat_lt, IsTrue, All, List, ◌++◌, take, drop, slice_range, slice_index_or, refl, sym, ap, ◌∙◌, arith}
+use Rattle.std.proofs.Common.{ℕ, ◌≤◌, nat_lt, IsTrue, All, List, ◌++◌, take, drop, slice_range, slice_index_or, sym, ap, ◌∙◌, arith}
 use Rattle.std.proofs.lemmas.List.{take-append-drop}
 use Rattle.std.proofs.lemmas.List.Folds.{list_all-append, drop_split}
 use Rattle.sed_value.specs.Value.{are_bytes}
 use Rattle.sed_lexer.specs.Token.{Token, end_of}
 use Rattle.sed_lexer.specs.Order.{LiesIn, AreInOrder, IsOfItsKind}
 use Rattle.sed_read.proofs.Kept.{IsSpelled, AreSpelled, each_of}
-
-and_parts : (a b : Bool) → (a && b) ≡ true → (a ≡ true) × (b ≡ true)
-and_parts true b h = (refl, h)
-and_parts false b h = absurd (let e : ⊥ = cc in e)
+use Rattle.std.proofs.lemmas.Bool.{and_parts}
 
 both : (xs ys : List ℕ) → IsTrue (are_bytes (xs ++ ys)) → IsTrue (are_bytes xs) × IsTrue (are_bytes ys)
 both xs ys h = and_parts (are_bytes xs) (are_bytes ys) (sym (list_all-append (λ n. nat_lt n 256) xs ys) ∙ h)

@@ -1,5 +1,5 @@
 -- The labels of a `switch`: each case once, and one default at most.
-use Rattle.std.proofs.Common.{◌≡◌, ◌≤◌, ℕ, ℤ, ◌+◌, Bool, true, false, not, ◌||◌, List, [], ◌∷◌, ◌++◌, Option, Some, None, count_by, cond, refl, sym, ap, subst, arith}
+use Rattle.std.proofs.Common.{◌≡◌, ◌≤◌, ℕ, ℤ, ◌+◌, Bool, true, false, ◌||◌, List, [], ◌∷◌, ◌++◌, Option, Some, None, count_by, cond, refl, sym, ap, subst, arith}
 use Rattle.std.specs.List.{list_any}
 use Rattle.std.proofs.lemmas.Bool.Decides.{Decides-int_eq}
 use Rattle.std.proofs.lemmas.List.Sums.{sum_by-append, sum_by-cons}
@@ -15,15 +15,12 @@ use Rattle.sed_bodies.specs.Inside.{IsReady}
 use Rattle.sed_forms.specs.Labels.{is_new_case, is_new_default, new_case, spelled_case, case_of, default_of}
 use Rattle.sed_statements.proofs.FormsRight.{All}
 use Rattle.sed_statements.proofs.Right.{one_right, after_right, unless_right}
+use Rattle.std.proofs.lemmas.Bool.{not-true as not_any}
 
 -- a label that is none of these
 abbrev pub IsNew : List Label → Label → Type 0
 IsNew labels (Case i) = list_any (same_label i) labels ≡ false
 IsNew labels Default = list_any is_default labels ≡ false
-
-not_any : (b : Bool) → not b ≡ true → b ≡ false
-not_any true h = absurd (let k : false ≡ true = h in cc)
-not_any false h = refl
 
 new_case_right : (labels : List Label) (at : ℕ) (i : ℤ) → Right (IsNew labels) (new_case all_faults labels at i)
 new_case_right labels at i = unless_right (IsNew labels) (is_new_case labels i) (broken 20 at) (Case i) (λ e. not_any

@@ -1,5 +1,5 @@
 -- The live places as a map, and what one change of the slab does to it.
-use Rattle.std.proofs.Common.{◌≡◌, ◌≢◌, ℕ, zero, suc, inl, inr, ◌+◌, ◌<◌, List, [], ◌∷◌, true, false, cond, get_or, map, refl, sym, ◌∙◌, ap, arith}
+use Rattle.std.proofs.Common.{◌≡◌, ◌≢◌, ℕ, zero, suc, inl, inr, ◌+◌, ◌<◌, List, [], ◌∷◌, cond, get_or, map, refl, sym, ◌∙◌, ap, arith}
 use Rattle.std.specs.Prelude.{Option, Some, None}
 use Rattle.std.specs.Option.{option_map}
 use Rattle.std.specs.FinMap as finite
@@ -7,18 +7,12 @@ use Rattle.std.specs.FinMap.{find}
 use Rattle.std.specs.Ordering.{nat_cmp, eq_by_cmp}
 use Rattle.std.specs.Cmp.{nat_cmp_total}
 use Rattle.std.proofs.lemmas.Bool.{cases_eq}
-use Rattle.std.proofs.lemmas.Bool.Decides.{nat_tests}
 use Rattle.slab.specs.Slab.{Slab, get, entries_from, Updates}
 use Rattle.sed_engine.specs.Code.{Object}
 use Rattle.sed_cells.specs.Places.{Plan}
 use Rattle.sed_walker.specs.declared.component.Component.{Component}
 use Rattle.sed_walker.specs.Held.{live_of, object_seen}
-
-pub tied_same : (a : ℕ) → eq_by_cmp nat_cmp a a ≡ true
-tied_same a = grind (arith, nat_tests)
-
-pub tied_apart : (a b : ℕ) → a ≢ b → eq_by_cmp nat_cmp a b ≡ false
-tied_apart a b ne = grind (arith, nat_tests)
+pub use Rattle.sed_value.proofs.Orders.{tied_same, tied_apart}
 
 module _ (plan : Plan) where
   seen_in : List (ℕ × Component) → List (ℕ × Object)

@@ -48,12 +48,6 @@ and_false false b is = refl
 pub no_name : (k : ℕ) (name : List ℕ) (names : List (List ℕ)) → is_file_name name ≡ false → are_names k (name ∷ names) ≡ false
 no_name k name names is = and_false (nat_le (k + length (name ∷ names)) 15) (list_all is_file_name (name ∷ names)) (ap (λ (b : Bool). b && list_all is_file_name names) is)
 
-and_true : (b : Bool) → (b && true) ≡ b
-and_true true = refl
-and_true false = refl
-
--- ---- the same as words
-
 -- ---- one cut
 
 abbrev pub Cut : List ℕ → Option (Bor (List ℕ) × Bor (List ℕ)) → Type 0

@@ -12,6 +12,7 @@ use Rattle.sub_table.specs.Table.{Subscriptions, at, is_subscribed, IsNextId}
 use Rattle.sub_table.specs.declared.table.SubTable.{SubTable}
 use Rattle.sox_events.specs.Due.{Gives, Passes, Those, all_of_them, before_it, bytes_of, none_of_them, is_due_after, is_watched, lives, marked, rank}
 use Rattle.sox_events.proofs.Passing.{gives_later, passes_more, passes_none, passes_same}
+pub use Rattle.std.proofs.lemmas.Bool.{not-true as not_true}
 
 not_due : (f : Option (List ℕ) → Bool) (o : Option (Option (List ℕ))) → is_some o ≡ false → option_map_or f o false ≡ false
 not_due f None e = refl
@@ -104,10 +105,6 @@ module _ {E : Type 0} (g : Ghosts E) (a b c : Linked E) (subs : Subscriptions) (
       before_id e (le-ltb id id (omega arith)) (λ i q. refl)
 
 -- ---- what is not live
-
-pub not_true : (b : Bool) → not b ≡ true → b ≡ false
-not_true false e = refl
-not_true true e = absurd (let wrong : false ≡ true = e in cc)
 
 pub not_false : (b : Bool) → not b ≡ false → b ≡ true
 not_false true e = refl

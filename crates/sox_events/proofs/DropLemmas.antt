@@ -9,6 +9,7 @@ use Rattle.sub_table.specs.declared.table.SubTable.{SubTable}
 use Rattle.sub_table.specs.Table.{at, kept_of, number_of}
 use Rattle.sub_table.specs.Events.{kept_at}
 use Rattle.sox_events.specs.Due.{lives}
+use Rattle.std.proofs.Math.Bool.{and-true as and_true}
 
 abbrev pub Last : Type 0
 Last = Option (Option (List ℕ))
@@ -16,10 +17,6 @@ Last = Option (Option (List ℕ))
 -- nothing of the dead below an id is subscribed any more
 abbrev pub Dropped : {E : Type 0} → Ghosts E → Linked E → ℕ → SubTable → SubTable → Type 0
 Dropped g a done before now = (p i : ℕ) (part : Part) → at now p i part ≡ (if nat_lt i done && not (lives g a i) then None else at before p i part)
-
-and_true : (b : Bool) → (b && true) ≡ b
-and_true true = refl
-and_true false = refl
 
 same_below : (i done : ℕ) → i ≢ done → nat_lt i done ≡ nat_lt i (done + 1)
 same_below i done apart = elim (cases_Bool (nat_lt i done)) [

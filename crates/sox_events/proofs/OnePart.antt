@@ -18,24 +18,7 @@ use Rattle.link_prop.specs.Linked.{one_if}
 use Rattle.sox_events.specs.Compared.{Counts, has_event, risen, was_compared}
 use Rattle.sox_events.proofs.Counting.{count_only, unmoved}
 use Rattle.sox_events.proofs.Passing.{unmarked_here}
-
-pub meant : (part other : Part) → is_part part other ≡ true → part ≡ other
-meant Tree Tree e = refl
-meant Config Config e = refl
-meant Runtime Runtime e = refl
-meant Links Links e = refl
-meant Tree Config e = absurd (let wrong : false ≡ true = e in cc)
-meant Tree Runtime e = absurd (let wrong : false ≡ true = e in cc)
-meant Tree Links e = absurd (let wrong : false ≡ true = e in cc)
-meant Config Tree e = absurd (let wrong : false ≡ true = e in cc)
-meant Config Runtime e = absurd (let wrong : false ≡ true = e in cc)
-meant Config Links e = absurd (let wrong : false ≡ true = e in cc)
-meant Runtime Tree e = absurd (let wrong : false ≡ true = e in cc)
-meant Runtime Config e = absurd (let wrong : false ≡ true = e in cc)
-meant Runtime Links e = absurd (let wrong : false ≡ true = e in cc)
-meant Links Tree e = absurd (let wrong : false ≡ true = e in cc)
-meant Links Config e = absurd (let wrong : false ≡ true = e in cc)
-meant Links Runtime e = absurd (let wrong : false ≡ true = e in cc)
+pub use Rattle.sub_table.proofs.TableLemmas.{meant}
 
 bit_is : (part other : Part) → is_in_mask (bit_of part) (app_part other) ≡ is_part part other
 bit_is Tree Tree = refl

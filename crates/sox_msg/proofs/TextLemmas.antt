@@ -7,9 +7,7 @@ use Rattle.sed_wire.specs.Reading.{Reads}
 use Rattle.sed_wire.specs.Text.{is_character, is_text, SpellsText}
 use Rattle.sox_msg.specs.Command.{str}
 use Rattle.sox_msg.specs.Forms.{text_at}
-
-pub some_eq : {A : Type 0} (x y : A) → Some x ≡ Some y → x ≡ y
-some_eq x y e = cc
+pub use Rattle.std.proofs.lemmas.Option.{same_Some as some_eq}
 
 -- which way a test went
 pub split : {A : Type 0} (t : Bool) (x y z : A) → (if t then x else y) ≡ z → ((t ≡ true) × (x ≡ z)) ⊎ ((t ≡ false)

@@ -1,5 +1,5 @@
 -- Bits of words as numbers that have subscribed.
-use Rattle.std.proofs.Common.{ℕ, zero, suc, ◌≡◌, ◌≢◌, ◌<◌, ◌*◌, ◌/◌, ◌%◌, ◌^◌, inl, inr, true, false, List, length, replicate, refl, sym, ◌∙◌, ap, arith}
+use Rattle.std.proofs.Common.{ℕ, ◌≡◌, ◌≢◌, ◌<◌, ◌*◌, ◌/◌, ◌%◌, ◌^◌, inl, inr, true, false, List, length, replicate, sym, ◌∙◌, ap, arith}
 use Rattle.std.proofs.Math.ListN.{set, get_or}
 use Rattle.std.proofs.lemmas.List.{get_or-set_same, get_or-set_other}
 use Rattle.std.proofs.lemmas.Bool.{cases_eq}
@@ -7,6 +7,7 @@ use Rattle.std.proofs.lemmas.Nat.Bits.{bit_at-zero, bit_at_set_same, bit_at_set_
 use Rattle.std.specs.Int.{w64, bit_at, bit_not}
 use Rattle.std.specs.Int.RustNames.{bit_or}
 use Rattle.std.specs.Prelude.{◌==◌, bit_and}
+use Rattle.sed_value.proofs.Lists.{zeros}
 use Rattle.sub_table.specs.Events.{is_member}
 
 -- two numbers in one word differ in their bits
@@ -15,11 +16,6 @@ same_word a b words bits = omega arith
 
 pub bit_of : (words : List ℕ) (number word : ℕ) (b : ℕ) → get_or words (number / 64) 0 ≡ word → bit_at word (number % 64) ≡ b → is_member words number ≡ (b == 1)
 bit_of words number word b is at = ap (λ (w : ℕ). bit_at w (number % 64) == 1) is ∙ ap (λ (n : ℕ). n == 1) at
-
-zeros : (n k : ℕ) → ◌≡◌ {A = ℕ} (get_or (replicate n 0) k 0) 0
-zeros zero k = refl
-zeros (suc n) zero = refl
-zeros (suc n) (suc k) = zeros n k
 
 pub no_member : (words : List ℕ) (n : ℕ) → words ≡ replicate n 0 → (number : ℕ) → is_member words number ≡ false
 no_member words n is number = bit_of words number 0 0 (ap (λ ws. get_or ws (number / 64) 0) is ∙ zeros n (number / 64)) (bit_at-zero (number % 64))

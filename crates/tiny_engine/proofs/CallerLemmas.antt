@@ -3,9 +3,8 @@ use Rattle.std.proofs.Common.{◌≡◌, ◌≢◌, ◌+◌, ◌<◌, ◌≤◌,
 use Rattle.std.specs.Prelude.{IsTrue, IfSome, IsSomeAnd}
 use Rattle.std.specs.FinMap as finite
 use Rattle.std.specs.Option.{option_map_or}
-use Rattle.std.specs.Ordering.{nat_cmp, eq_by_cmp}
+use Rattle.std.specs.Ordering.{nat_cmp}
 use Rattle.std.specs.Cmp.{nat_cmp_total}
-use Rattle.std.proofs.lemmas.Bool.Decides.{nat_tests}
 use Rattle.std.specs.Int.{w64}
 use Rattle.sed_value.specs.Value.{goes_to, is_signed}
 use Rattle.sed_value.specs.declared.value.Value.{Value}
@@ -18,12 +17,7 @@ use Rattle.sed_engine.specs.declared.call.Root.{Root}
 use Rattle.sed_engine.specs.Code.{Meaning, Object, Places, asked_of, data_of, is_property, may_call, may_store, new_object, root_of, slot_type, slot_value, with_slot}
 use Rattle.sed_engine.specs.Fits.{Fits}
 use Rattle.sed_engine.specs.Whole.{EndsWell, IsObject, IsWhole}
-
-tied_same : (p : ℕ) → eq_by_cmp nat_cmp p p ≡ true
-tied_same p = grind (arith, nat_tests)
-
-tied_apart : (q p : ℕ) → q ≢ p → eq_by_cmp nat_cmp q p ≡ false
-tied_apart q p ne = grind (arith, nat_tests)
+use Rattle.sed_value.proofs.Orders.{tied_same, tied_apart}
 
 get_put : (m : Places) (p : ℕ) (o : Object) → finite.get (finite.insert m p o) p ≡ Some o
 get_put m p o = finite.get-insert nat_cmp_total m p o p ∙ ap (λ (b : Bool). cond b (Some o) (finite.get m p)) (tied_same p)

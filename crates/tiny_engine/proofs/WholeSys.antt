@@ -20,6 +20,7 @@ use Rattle.sed_engine.specs.Fits.{Fits, form_at}
 use Rattle.sed_engine.specs.Whole.{AnswersWell, HasTables, HasBufSize, KeepsLimits, NamesTypes, MarksComponents, HasSysTypes, FollowsBase, SaysNothing, field_form, meta_slot, save_slot}
 use Rattle.tiny_engine.specs.Sys.{sys_classes, sys_kits}
 use Rattle.tiny_engine.specs.Tiny.{One, code_of, meta_is, has_meta, sys_fields, sys_initial, IsCreated, IsSys, KeepsInt}
+use Rattle.std.proofs.lemmas.Option.{same_Some as some_is}
 
 abbrev sys_schema : Schema
 sys_schema = record { kits = sys_kits; classes = sys_classes }
@@ -32,9 +33,6 @@ schema_is schema sys = sym (λ i. record { kits = sys.kits i; classes = sys.clas
 
 no : {P : Type 0} {A : Type 0} (x : A) → None ≡ Some x → P
 no x e = let never : ⊥ = cc in absurd never
-
-some_is : {A : Type 0} (x y : A) → Some x ≡ Some y → x ≡ y
-some_is x y e = cc
 
 -- what holds of each of the five classes holds of all
 all_five : (P : ClassInfo → Type 0) → ((n : ℕ) → IfSome (slice_get sys_classes n) P) → All P sys_classes

@@ -7,7 +7,7 @@ use Rattle.std.specs.Str.{bytes_eq}
 use Rattle.std.proofs.Math.ListN.{get_or, get_or-eq_default}
 use Rattle.std.proofs.lemmas.Bool.{cases_lt}
 use Rattle.std.proofs.lemmas.Bool.Decides.{nat_tests}
-use Rattle.std.proofs.lemmas.Option.{get_or_from_slice_get, slice_get_within, slice_get-get_or}
+use Rattle.std.proofs.lemmas.Option.{slice_get-get_or}
 use Rattle.std.proofs.lemmas.Slice.Eq.{bytes_eq-Decides}
 use Rattle.sed_value.specs.Value.{is_of_type, stored}
 use Rattle.sed_value.specs.declared.slot_type.Primitive.{Primitive}
@@ -31,13 +31,11 @@ use Rattle.sed_engine.specs.Whole.{HasBufSize, HasTables, IsObject, KeepsLimits,
 use Rattle.sed_cells.specs.Cells.{IsLong, are_bytes}
 use Rattle.sed_cells.specs.Places.{Plan, contents_of}
 use Rattle.walk_slots.specs.Slots.{IsCell, object_of}
+use Rattle.sed_value.proofs.Options.{some_and}
+use Rattle.sed_value.proofs.Lists.{at_place}
 
 no : {P : Type 0} → false ≡ true → P
 no e = let never : ⊥ = cc in absurd never
-
-some_and : {A : Type 0} {P : A → Type 0} (o : Option A) → IsSomeAnd o P → (x : A) × (◌≡◌ {A = Option A} o (Some x)) × P x
-some_and None h = absurd h
-some_and (Some x) h = (x, refl, h)
 
 -- a path is there or not by the paths alone
 has_path : (es : Contents) (p : Path) → is_some (value_at es p) ≡ list_any (λ q. bytes_eq q p) (map (λ e. e.0) es)
@@ -159,9 +157,6 @@ not_long (Buf n) (kept.Buf bytes) size h long = let few : length bytes ≤ n = s
 not_long t kept.Nothing size h long = long
 
 -- ---- the size of a slot's Buf
-
-at_place : {A : Type 0} (P : A → Type 0) (xs : List A) (k : ℕ) (x : A) → All P xs → slice_get xs k ≡ Some x → P x
-at_place {A} P xs k x all is = subst P (get_or_from_slice_get xs k x x is) (all k x (slice_get_within xs k x is))
 
 module _ (schema : Schema) (keeps_limits : KeepsLimits schema) (class slot : ℕ) where
   slot_size : (s : SlotInfo) → slice_get (slots schema.classes class) slot ≡ Some s → HasBufSize s.form

@@ -1,6 +1,6 @@
 use Rattle.std.proofs.Common.{arith, sym}
 use Rattle.sed_objects.specs.Rounds.{inline_of}
-use Rattle.sed_objects.proofs.Found.{found_step}
+use Rattle.sed_value.proofs.Found.{found_step}
 use Rattle.sed_objects.proofs.fields.push_inline.Goals as goal
 
 pub loop-member-preserved : goal.loop-member-preserved

@@ -1,6 +1,6 @@
 use Rattle.std.proofs.Common.{arith, sym}
 use Rattle.sed_classes.specs.Slots.{slot_of}
-use Rattle.sed_slots.proofs.Found.{found_step}
+use Rattle.sed_value.proofs.Found.{found_step}
 use Rattle.sed_slots.proofs.class_slots.push_own_slots.Goals as goal
 
 pub loop-member-preserved : goal.loop-member-preserved
