@@ -46,7 +46,7 @@ pub fn put_class(writer: &mut Writer, schema: &Schema, kind: TypeNo)
 fn numbers_of(schema: &Schema, kind: TypeNo) -> Option<(u8, u8)>
     ensures { result ≡ option_map (λ c. (c.kit, c.number)) (slice_get schema.now.classes kind.0) }
 {
-    match schema.classes.as_slice().get(usize::from(kind.0)) {
+    match schema.class(kind) {
         Some(class) => Some((class.kit, class.number)),
         None => None,
     }

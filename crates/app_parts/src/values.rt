@@ -37,7 +37,7 @@ pub fn put_values<E: Engine>(
     ensures short { length (values_bytes (E.meaning tree.now.engine) (components_of E.Engine tree.now).by_id id.0 kind.0 which) ≤ 400 }
     ensures sized { length (values_bytes (E.meaning tree.now.engine) (components_of E.Engine tree.now).by_id id.0 kind.0 which) ≤ longest_values which (E.meaning tree.now.engine).schema.classes }
 {
-    for slot in 0..slot_count(tree.schema(), kind) {
+    for slot in 0..tree.schema().slot_count(kind) {
         put_slot(writer, tree, id, kind, which, slot);
     }
 }
@@ -67,25 +67,12 @@ fn put_slot<E: Engine>(
     }
 }
 
-// How many slots a class has.
-fn slot_count(schema: &Schema, kind: TypeNo) -> usize
-    ensures { result ≡ length (slots schema.now.classes kind.0) }
-{
-    match schema.classes.as_slice().get(usize::from(kind.0)) {
-        Some(class) => class.slots.as_slice().len(),
-        None => 0,
-    }
-}
-
 // Whether a slot of a class is told.
 fn is_told_slot(schema: &Schema, kind: TypeNo, which: Values, slot: usize) -> bool
     ensures { result ≡ option_map_or (is_told which) (slice_get (slots schema.now.classes kind.0) slot) false }
 {
-    match schema.classes.as_slice().get(usize::from(kind.0)) {
-        Some(class) => match class.slots.as_slice().get(slot) {
-            Some(info) => is_told_info(info, which),
-            None => false,
-        },
+    match schema.slots_of(kind).get(slot) {
+        Some(info) => is_told_info(info, which),
         None => false,
     }
 }

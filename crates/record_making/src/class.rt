@@ -69,16 +69,6 @@ pub(crate) fn but_the_first(alloc: Global, slots: &[u8]) -> Result<Vec<u8>, Memo
     Ok(others)
 }
 
-/// The slots of a class, inherited ones first.
-pub(crate) fn slots_of(schema: &Schema, class: TypeNo) -> &[SlotInfo]
-    ensures { result.now ≡ slots schema.now.classes class.0 }
-{
-    match schema.classes.as_slice().get(usize::from(class.0)) {
-        Some(info) => info.slots.as_slice(),
-        None => &[],
-    }
-}
-
 /// How many types a kit has.
 pub(crate) fn type_count(classes: &[ClassInfo], kit: u8) -> usize
     ensures { result ≡ typed.types_of classes.now kit }
@@ -110,7 +100,7 @@ fn is_app_or_folder(kit: u8, number: u8) -> bool
 fn is_concrete(schema: &Schema, class: TypeNo) -> bool
     ensures { result ≡ meaning.is_concrete schema.now.classes class.0 }
 {
-    match schema.classes.as_slice().get(usize::from(class.0)) {
+    match schema.class(class) {
         Some(info) => info.is_component && !info.is_abstract,
         None => false,
     }
@@ -122,6 +112,6 @@ pub(crate) fn int_slots(alloc: Global, schema: &Schema, class: TypeNo) -> Result
     ensures { IfOk result (λ found. found.items
         ≡ filter (λ slot. nat_lt 0 slot) (numbers_that meaning.is_int (slots schema.now.classes class.0))) }
 {
-    let all = slots_that(alloc, slots_of(schema, class), Sort::Int)?;
+    let all = slots_that(alloc, schema.slots_of(class), Sort::Int)?;
     but_the_first(alloc, &all)
 }

@@ -6,7 +6,7 @@ ghost use Rattle.sed_engine.specs.Code.{is_creatable, is_property, new_object, s
 ghost use Rattle.prop_values.specs.Values.{spelling_of, spelling_of_all};
 ghost use Rattle.record_making.specs.Types.{initial_config};
 
-use crate::class::{Sort, slots_of, slots_that};
+use crate::class::{Sort, slots_that};
 use app_parts::write_value;
 use sed_engine::{AddRefusal, Engine, Place};
 use sed_typed::{SlotNo, TypeNo};
@@ -28,7 +28,7 @@ pub(crate) fn initial_config<E: Engine>(
     ensures meaning { E.meaning engine.new ≡ E.meaning engine.old }
     ensures limit { E.limit engine.new ≡ E.limit engine.old }
 {
-    let slots = slots_that(alloc, slots_of(engine.schema(), class), Sort::Config)?;
+    let slots = slots_that(alloc, engine.schema().slots_of(class), Sort::Config)?;
     let place = match engine.add(class) {
         Ok(place) => place,
         Err(AddRefusal::Memory) => return Err(Memory),
