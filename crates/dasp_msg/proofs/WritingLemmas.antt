@@ -1,5 +1,5 @@
 -- What a writer has written, piece by piece.
-use Rattle.std.proofs.Common.{◌≡◌, ℕ, ◌+◌, ◌*◌, ◌%◌, ◌<◌, ◌≤◌, Option, Some, None, IsTrue, List, [], ◌∷◌, ◌++◌, length, drop, refl, sym, subst, ◌∙◌, ap, arith, append_assoc}
+use Rattle.std.proofs.Common.{◌≡◌, ℕ, ◌+◌, ◌*◌, ◌%◌, ◌<◌, ◌≤◌, Option, Some, None, IsTrue, List, [], ◌∷◌, ◌++◌, length, refl, sym, subst, ◌∙◌, ap, arith, append_assoc}
 use Rattle.std.proofs.lemmas.List.{append-nil}
 use Rattle.std.specs.Option.{ForSome}
 use Rattle.sed_wire.specs.declared.writer.Writer.{Writer}
@@ -7,7 +7,7 @@ use Rattle.sed_wire.specs.Number.{SpellsNumber}
 use Rattle.sed_wire.specs.Text.{is_text}
 use Rattle.sed_wire.specs.Writing.{Appends, Writes, untouched, written}
 use Rattle.sed_wire.proofs.ReadingLemmas.{one_byte}
-use Rattle.sed_wire.proofs.WritingLemmas.{appends-none, appends-then}
+use Rattle.sed_wire.proofs.WritingLemmas.{appends-none, appends-then, front-put as text-put}
 use Rattle.dasp_msg.specs.declared.header.Header.{Header}
 use Rattle.dasp_msg.specs.declared.kind.MsgKind.{MsgKind}
 use Rattle.dasp_msg.specs.declared.kind.MsgKind.TheVariants.{Hello, Challenge, Authenticate, Welcome, KeepAlive, Datagram, Close}
@@ -184,13 +184,8 @@ datagram-put header fields payload a b c d counted first second third = record {
 pub front-put : {A : Type 0} (Spells : A → List ℕ → Type 0) (thing : A) (a b : Writer) (count : ℕ) (old new : List ℕ)
     → written a ≡ [] → untouched a ≡ old → Writes Spells thing a b → count ≡ length (written b)
     → new ≡ written b ++ untouched b → Puts Spells thing count old new
-front-put Spells thing a b count old new nothing all done counted front =
-    let text : written b ≡ done.spelling = done.appends.written ∙ ap (λ (t : List ℕ). t ++ done.spelling) nothing in
-    record {
-      text = done.spelling;
-      spelled = done.spelled;
-      counted = counted ∙ ap length text;
-      front = front ∙ ap (λ (t : List ℕ). t ++ untouched b) text
-          ∙ ap (λ (t : List ℕ). done.spelling ++ t)
-          (done.appends.untouched ∙ ap (drop (length done.spelling)) all);
-    }
+front-put Spells thing a b count old new nothing all done counted front = record {
+  text = done.spelling;
+  spelled = done.spelled;
+  put = text-put done.spelling a b count old new nothing all done.appends counted front;
+}

@@ -26,6 +26,28 @@ pub record Message : Type 0 where
   pub platform_id : Option (List ℕ)
   pub payload : List ℕ
 
+abbrev pub without_fields : ℕ → ℕ → MsgKind → Message
+without_fields to sequence kind = record {
+  to = to;
+  sequence = sequence;
+  kind = kind;
+  version = None;
+  remote_id = None;
+  algorithm = None;
+  nonce = None;
+  username = None;
+  digest = None;
+  ideal_max = None;
+  abs_max = None;
+  ack = None;
+  ack_more = None;
+  receive_max = None;
+  receive_timeout = None;
+  error_code = None;
+  platform_id = None;
+  payload = [];
+}
+
 -- of several fields with one byte the first counts
 abbrev pub first_of : ℕ → List Part → Option Content
 first_of byte [] = None

@@ -1,17 +1,17 @@
 -- What a call that writes into a slice does.
-use Rattle.std.specs.Prelude.{◌≡◌, ℕ, ◌≤◌, ◌%◌, ◌<◌, Option, Some, None, List, [], ◌∷◌, ◌++◌, length, drop, IsTrue, ⊤}
+use Rattle.std.specs.Prelude.{◌≡◌, ℕ, ◌≤◌, ◌%◌, ◌<◌, Option, Some, None, List, [], ◌∷◌, ◌++◌, length, IsTrue, ⊤}
 use Rattle.sed_wire.specs.Text.{is_text}
+use Rattle.sed_wire.specs.Writing.{Puts as PutsText}
 use Rattle.dasp_msg.specs.declared.field.Field.{Field}
 use Rattle.dasp_msg.specs.declared.sent.Sent.{Sent}
 use Rattle.dasp_msg.specs.Field.{Content, nil, number, text, run, Part, form_of}
 use Rattle.dasp_msg.specs.View.{part_of}
 
--- the front of the slice is now what spells something, and counts so many bytes; what stood behind it stays
+-- what is put in front of the slice spells something
 pub record Puts {A : Type 0} (Spells : A → List ℕ → Type 0) (thing : A) (count : ℕ) (old new : List ℕ) : Type 0 where
   pub text : List ℕ
   pub spelled : Spells thing text
-  pub counted : count ≡ length text
-  pub front : new ≡ text ++ drop (length text) old
+  pub put : PutsText text count old new
 
 abbrev pub CanBeContent : Content → Type 0
 CanBeContent nil = ⊤

@@ -1,7 +1,7 @@
 //! What a message says.
 ghost use Rattle.std.specs.Prelude.{◌≡◌, ◌↔◌, IsTrue, [], ◌∷◌};
 ghost use Rattle.dasp_msg.specs.Message.{HasNeeded};
-ghost use Rattle.dasp_msg.specs.Shown.{shown_by};
+ghost use Rattle.dasp_msg.specs.Shown.{shown_by, without_fields as is_without};
 ghost use Rattle.dasp_msg.specs.View.{message_of, part_of};
 ghost use Rattle.dasp_msg.specs.Noting.{noted};
 
@@ -51,15 +51,14 @@ pub struct Msg<'a> {
 }
 
 impl<'a> Msg<'a> {
-    // A message with this header, and without fields and payload.
-    #[tactic(auto, unfolding(crate::specs::Shown::number_of_first, crate::specs::Shown::text_of_first, crate::specs::Shown::run_of_first))]
-    pub(crate) fn bare(header: &Header) -> Msg<'a>
-        ensures { message_of result ≡ shown_by header.now [] [] }
+    /// A message without fields and payload.
+    pub fn without_fields(to: u16, sequence: u16, kind: MsgKind) -> Msg<'a>
+        ensures { message_of result ≡ is_without to sequence kind }
     {
         Msg {
-            to: header.to,
-            sequence: header.sequence,
-            kind: header.kind,
+            to,
+            sequence,
+            kind,
             version: None,
             remote_id: None,
             algorithm: None,
@@ -76,6 +75,14 @@ impl<'a> Msg<'a> {
             platform_id: None,
             payload: &[],
         }
+    }
+
+    // A message with this header, and without fields and payload.
+    #[tactic(auto, unfolding(crate::specs::Shown::number_of_first, crate::specs::Shown::text_of_first, crate::specs::Shown::run_of_first))]
+    pub(crate) fn bare(header: &Header) -> Msg<'a>
+        ensures { message_of result ≡ shown_by header.now [] [] }
+    {
+        Msg::without_fields(header.to, header.sequence, header.kind)
     }
 
     // What the message says once one field more is read. What it says already stays.

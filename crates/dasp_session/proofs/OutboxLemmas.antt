@@ -1,7 +1,7 @@
 -- Letters that were put into an outbox one behind the other.
-use Rattle.std.proofs.Common.{◌≡◌, ℕ, ◌+◌, ◌<◌, ◌≤◌, List, [], ◌∷◌, ◌++◌, length, take, drop, set, sym, ◌∙◌, ap, subst, arith, append_assoc, length-append, length-drop}
+use Rattle.std.proofs.Common.{◌≡◌, ℕ, ◌+◌, ◌<◌, ◌≤◌, List, [], ◌∷◌, ◌++◌, length, take, set, sym, ◌∙◌, ap, subst, arith, append_assoc}
 use Rattle.std.proofs.lemmas.List.{append-nil, length-take, take_more_set}
-use Rattle.std.proofs.Math.Seq.{take-append_seam}
+use Rattle.sed_wire.proofs.WritingLemmas.{puts-fit, puts-taken}
 use Rattle.dasp_msg.specs.Sending.{IsSentAs}
 use Rattle.dasp_msg.specs.Shown.{Message}
 use Rattle.dasp_msg.specs.Writing.{Puts}
@@ -39,11 +39,7 @@ Sends-one letter text old new to bytes behind = record { texts = text ∷ []; wr
 
 -- a text that was put at the front of a slice
 pub front-text : (message : Message) (count : ℕ) (old new : List ℕ) → Puts IsSentAs message count old new → IsSentAs message (take count new)
-front-text message count old new puts =
-    let e : take count new ≡ puts.text =
-    ap (λ (n : ℕ). take n new) puts.counted ∙ ap (take (length puts.text)) puts.front ∙ take-append_seam puts.text (drop (length puts.text) old) in
-    subst (IsSentAs message) (sym e) puts.spelled
+front-text message count old new puts = subst (IsSentAs message) (sym (puts-taken puts.text count old new puts.put)) puts.spelled
 
-pub front-fits : (message : Message) (count : ℕ) (old new : List ℕ) → Puts IsSentAs message count old new → length old ≡ 512 → length new ≡ 512 → count ≤ 512
-front-fits message count old new puts of_old of_new =
-    omega (arith, puts.counted, ap length puts.front, length-append puts.text (drop (length puts.text) old), length-drop (length puts.text) old)
+pub front-fits : (message : Message) (count : ℕ) (old new : List ℕ) → Puts IsSentAs message count old new → length new ≡ 512 → count ≤ 512
+front-fits message count old new puts of_new = omega (arith, puts-fit puts.text count old new puts.put, of_new)

@@ -5,7 +5,7 @@ use Rattle.dasp_window.specs.Acks.{ack_of, digit}
 use Rattle.dasp_window.specs.TakenIndexes.{is_taken, is_ahead, first_gap}
 use Rattle.dasp_msg.specs.declared.kind.MsgKind.{MsgKind}
 use Rattle.dasp_msg.specs.declared.kind.MsgKind.TheVariants.{Challenge, Welcome, KeepAlive, Datagram, Close}
-use Rattle.dasp_msg.specs.Shown.{Message}
+use Rattle.dasp_msg.specs.Shown.{Message, without_fields}
 
 -- a message, and where it is sent
 pub record Letter : Type 0 where
@@ -17,26 +17,7 @@ addressed to messages = map (λ message. record { to = to; message = message }) 
 
 -- a message to the client's remote id, without fields and payload
 abbrev pub bare : ℕ → MsgKind → Message
-bare remote_id kind = record {
-  to = remote_id;
-  sequence = 65535;
-  kind = kind;
-  version = None;
-  remote_id = None;
-  algorithm = None;
-  nonce = None;
-  username = None;
-  digest = None;
-  ideal_max = None;
-  abs_max = None;
-  ack = None;
-  ack_more = None;
-  receive_max = None;
-  receive_timeout = None;
-  error_code = None;
-  platform_id = None;
-  payload = [];
-}
+bare remote_id kind = without_fields remote_id 65535 kind
 
 abbrev pub challenge : ℕ → ℕ → List ℕ → Message
 challenge remote_id id nonce = record (bare remote_id Challenge) {

@@ -44,26 +44,7 @@ fn bytes_if(said: bool, bytes: [u8; 4]) -> Option<[u8; 4]>
 fn bare<'a>(remote_id: u16, kind: MsgKind) -> Msg<'a>
     ensures { message_of result ≡ letters.bare remote_id kind }
 {
-    Msg {
-        to: remote_id,
-        sequence: 0xffff,
-        kind,
-        version: None,
-        remote_id: None,
-        algorithm: None,
-        nonce: None,
-        username: None,
-        digest: None,
-        ideal_max: None,
-        abs_max: None,
-        ack: None,
-        ack_more: None,
-        receive_max: None,
-        receive_timeout: None,
-        error_code: None,
-        platform_id: None,
-        payload: &[],
-    }
+    Msg::without_fields(remote_id, 0xffff, kind)
 }
 
 pub(crate) fn challenge<'a>(remote_id: u16, id: u16, nonce: &'a [u8; 10]) -> Msg<'a>

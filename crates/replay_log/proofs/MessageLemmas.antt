@@ -1,11 +1,11 @@
 -- The messages of a generated record may be sent, and their entries are put.
-use Rattle.std.proofs.Common.{◌≡◌, ℕ, ◌<◌, ◌≤◌, ℤ, true, IsTrue, FitsSigned, List, [], ◌∷◌, ◌++◌, length, take, drop, refl, sym, subst, ◌∙◌, ap, arith, append_assoc, length-append}
-use Rattle.std.proofs.Math.Seq.{take-append_seam}
+use Rattle.std.proofs.Common.{◌≡◌, ℕ, ◌<◌, ◌≤◌, ℤ, true, IsTrue, FitsSigned, List, [], ◌∷◌, ◌++◌, length, take, refl, sym, subst, ◌∙◌, ap, arith, append_assoc}
 use Rattle.std.proofs.lemmas.Bool.Decides.{nat_tests}
 use Rattle.std.specs.Int.{w64, bytes_high_first, byte_len, cast_unsigned}
 use Rattle.std.specs.List.{list_all}
 use Rattle.sed_wire.specs.Text.{is_character, is_text}
 use Rattle.sed_wire.proofs.NumberLemmas.{written_spells, written_spells_signed}
+use Rattle.sed_wire.proofs.WritingLemmas.{puts-fit, puts-taken}
 use Rattle.dasp_msg.specs.Sending.{IsSentAs, MaySend, sent_size}
 use Rattle.dasp_msg.specs.Shown.{Message, number_of_first, run_of_first, text_of_first}
 use Rattle.dasp_msg.specs.Writing.{Puts}
@@ -141,16 +141,11 @@ tick-put moment old a b fits of_a of_b =
 -- what was written to a slice is its front
 pub front-short : (message : Message) (count : ℕ) (old new : List ℕ) → Puts IsSentAs message count old new
     → count ≤ length new
-front-short message count old new put =
-    omega (arith, put.counted, ap length put.front, length-append put.text (drop (length put.text) old))
+front-short message count old new put = puts-fit put.text count old new put.put
 
 front-sent : (message : Message) (count : ℕ) (old new : List ℕ) → Puts IsSentAs message count old new
     → IsSentAs message (take count new)
-front-sent message count old new put =
-    let front : take count new ≡ put.text =
-    ap (λ (n : ℕ). take n new) put.counted ∙ ap (take (length put.text)) put.front
-    ∙ take-append_seam put.text (drop (length put.text) old) in
-    subst (IsSentAs message) (sym front) put.spelled
+front-sent message count old new put = subst (IsSentAs message) (sym (puts-taken put.text count old new put.put)) put.spelled
 
 -- a message's text is put as its entry
 pub puts-front : (who : Session) (message : Message) (count : ℕ) (before after sent a b : List ℕ)

@@ -1,7 +1,8 @@
 -- The record that is generated of a specification.
 use Rattle.std.specs.Prelude.{◌≡◌, ℕ, zero, suc, ◌+◌, ◌*◌, ◌/◌, ◌%◌, ◌≤◌, ◌==◌, ◌&&◌, min, not, nat_le, Bool, if◌then◌else◌, IsTrue, List, [], ◌∷◌, ◌++◌, length, map, slice_index_or, decimal}
 use Rattle.std.specs.List.{list_all}
-use Rattle.sox_msg.specs.Command.{Asked, add, invoke, link, rename, write, u2}
+use Rattle.sed_wire.specs.Number.{u4}
+use Rattle.sox_msg.specs.Command.{Asked, add, invoke, link, rename, write}
 use Rattle.replay_log.specs.declared.gen_spec.GenSpec.{GenSpec}
 use Rattle.replay_log.specs.declared.gen_spec.GenType.{GenType}
 use Rattle.replay_log.specs.declared.places.Place.{Place}
@@ -87,10 +88,6 @@ abbrev pub link_of : GenSpec → ℕ → Asked
 link_of spec j = link_with (places spec) (draw spec.seed (draws_below spec.components + suc j)) j
 
 -- ---- ticks
-
--- a number in four bytes
-abbrev pub u4 : ℕ → List ℕ
-u4 n = u2 (n / 65536) ++ u2 (n % 65536)
 
 -- the first and the second draw of the tick behind n others
 abbrev pub first_draw : GenSpec → ℕ → ℕ

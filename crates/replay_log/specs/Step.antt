@@ -1,9 +1,8 @@
 -- What happens in a generated record, and the entries that it leaves.
-use Rattle.std.specs.Prelude.{◌≡◌, ℕ, ◌+◌, ◌%◌, pos, Some, None, List, [], ◌∷◌, ⊤}
-use Rattle.dasp_msg.specs.declared.kind.MsgKind.{MsgKind}
+use Rattle.std.specs.Prelude.{◌≡◌, ℕ, ◌+◌, ◌%◌, pos, Some, List, [], ◌∷◌, ⊤}
 use Rattle.dasp_msg.specs.declared.kind.MsgKind.TheVariants.{Hello, Authenticate, Datagram}
 use Rattle.dasp_msg.specs.Sending.{IsSentAs}
-use Rattle.dasp_msg.specs.Shown.{Message}
+use Rattle.dasp_msg.specs.Shown.{Message, without_fields}
 use Rattle.sox_msg.specs.Command.{Asked, body_of, letter_of}
 use Rattle.replay_log.specs.declared.making.Next.{Next}
 use Rattle.replay_log.specs.declared.session.Session.{Session}
@@ -13,42 +12,19 @@ use Rattle.replay_log.specs.Session.{address_of, node_id_of, remote_id_of}
 
 -- ---- messages
 
--- a message without fields and payload
-abbrev pub bare : ℕ → ℕ → MsgKind → Message
-bare to sequence kind = record {
-  to = to;
-  sequence = sequence;
-  kind = kind;
-  version = None;
-  remote_id = None;
-  algorithm = None;
-  nonce = None;
-  username = None;
-  digest = None;
-  ideal_max = None;
-  abs_max = None;
-  ack = None;
-  ack_more = None;
-  receive_max = None;
-  receive_timeout = None;
-  error_code = None;
-  platform_id = None;
-  payload = [];
-}
-
 -- version 0x0100 and a remote id
 abbrev pub hello : ℕ → Message
-hello remote_id = record (bare 65535 65535 Hello) { version = Some 256; remote_id = Some remote_id }
+hello remote_id = record (without_fields 65535 65535 Hello) { version = Some 256; remote_id = Some remote_id }
 
 -- a user with a digest, for a node's id of the session
 abbrev pub authenticate : ℕ → List ℕ → List ℕ → Message
 authenticate node_id user digest =
-    record (bare node_id 65535 Authenticate) { username = Some user; digest = Some digest }
+    record (without_fields node_id 65535 Authenticate) { username = Some user; digest = Some digest }
 
 -- The message of this number with a payload. It says that all messages below its own number came.
 abbrev pub carrying : ℕ → ℕ → List ℕ → Message
 carrying node_id number payload =
-    record (bare node_id number Datagram) { ack = Some ((number + 65535) % 65536); payload = payload }
+    record (without_fields node_id number Datagram) { ack = Some ((number + 65535) % 65536); payload = payload }
 
 -- a command as a request that is numbered like its message
 abbrev pub request_text : ℕ → Asked → List ℕ

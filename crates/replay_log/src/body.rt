@@ -1,7 +1,8 @@
 //! The bodies of requests.
 ghost use Rattle.std.specs.Prelude.{◌≡◌, ◌≤◌, ◌+◌, ◌++◌, length, IfOk, OnOk};
 ghost use Rattle.sox_msg.specs.Command.{add, body_of, link, rename, str, u2, write};
-ghost use Rattle.replay_log.specs.Generated.{linked, named, u4};
+ghost use Rattle.sed_wire.specs.Number.{u4};
+ghost use Rattle.replay_log.specs.Generated.{linked, named};
 
 use crate::places::Place;
 use itoa::Buffer;
@@ -70,8 +71,7 @@ pub(crate) fn write_body(alloc: Global, id: u16, value: u32) -> Result<Vec<u8>, 
     let mut body = Vec::new(alloc);
     put_u2(&mut body, id)?;
     body.push(0)?;
-    put_u2(&mut body, (value / 65_536) as u16)?;
-    put_u2(&mut body, (value % 65_536) as u16)?;
+    body.extend_from_slice(&value.to_be_bytes())?;
     Ok(body)
 }
 

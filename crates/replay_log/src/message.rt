@@ -5,32 +5,6 @@ ghost use Rattle.replay_log.specs.Step as steps;
 
 use dasp_msg::{Msg, MsgKind};
 
-// A message without fields and payload.
-fn bare<'a>(to: u16, sequence: u16, kind: MsgKind) -> Msg<'a>
-    ensures { message_of result ≡ steps.bare to sequence kind }
-{
-    Msg {
-        to,
-        sequence,
-        kind,
-        version: None,
-        remote_id: None,
-        algorithm: None,
-        nonce: None,
-        username: None,
-        digest: None,
-        ideal_max: None,
-        abs_max: None,
-        ack: None,
-        ack_more: None,
-        receive_max: None,
-        receive_timeout: None,
-        error_code: None,
-        platform_id: None,
-        payload: &[],
-    }
-}
-
 /// The hello of a client with this id of the session.
 pub(crate) fn hello<'a>(remote_id: u16) -> Msg<'a>
     ensures { message_of result ≡ steps.hello remote_id }
@@ -38,7 +12,7 @@ pub(crate) fn hello<'a>(remote_id: u16) -> Msg<'a>
     Msg {
         version: Some(0x0100),
         remote_id: Some(remote_id),
-        ..bare(0xffff, 0xffff, MsgKind::Hello)
+        ..Msg::without_fields(0xffff, 0xffff, MsgKind::Hello)
     }
 }
 
@@ -49,7 +23,7 @@ pub(crate) fn authenticate<'a>(node_id: u16, user: &'a [u8], digest: &'a [u8]) -
     Msg {
         username: Some(user),
         digest: Some(digest),
-        ..bare(node_id, 0xffff, MsgKind::Authenticate)
+        ..Msg::without_fields(node_id, 0xffff, MsgKind::Authenticate)
     }
 }
 
@@ -60,6 +34,6 @@ pub(crate) fn carrying<'a>(node_id: u16, number: u16, payload: &'a [u8]) -> Msg<
     Msg {
         ack: Some(number.wrapping_sub(1)),
         payload,
-        ..bare(node_id, number, MsgKind::Datagram)
+        ..Msg::without_fields(node_id, number, MsgKind::Datagram)
     }
 }

@@ -12,7 +12,6 @@ pub mod Sending
 pub mod Visiting
 pub mod Visits
 pub mod Places
-pub mod Texts
 pub mod Wishes
 pub mod Delivered
 pub mod Handled

@@ -1,6 +1,5 @@
 -- The bytes of a part, as what puts them says it.
-use Rattle.std.proofs.Common.{ℕ, ◌≡◌, true, false, List, [], Option, Some, None, refl, ◌∙◌, ap, take, drop, length}
-use Rattle.std.proofs.Math.Seq.{take-append_seam}
+use Rattle.std.proofs.Common.{ℕ, ◌≡◌, true, false, List, [], Option, Some, None, refl, ◌∙◌, ap, take}
 use Rattle.std.specs.Prelude.{IsSome}
 use Rattle.std.specs.Option.{option_map_or, option_and_then}
 use Rattle.std.specs.FinMap as map
@@ -14,6 +13,7 @@ use Rattle.comp_tree.specs.Parts.{link_part, part_of, tree_part, config_part, ru
 use Rattle.link_prop.specs.Linked.{Linked, application_of}
 use Rattle.sub_table.specs.declared.part.Part.{Part}
 use Rattle.sub_table.specs.declared.part.Part.TheVariants.{Tree, Config, Runtime, Links}
+use Rattle.sed_wire.proofs.WritingLemmas.{puts-taken}
 use Rattle.sox_msg.specs.Reply.{Puts}
 use Rattle.sox_events.specs.Due.{bytes_of, letter_of}
 
@@ -49,6 +49,5 @@ module _ {E : Type 0} (g : Ghosts E) where
       → Puts (part_bytes (g.meaning a.tree.engine) (application_of g a) id letter) count old new → take count new ≡ bytes_of g a id part
   put_bytes a id part letter count old new live el puts =
       let text = part_bytes (g.meaning a.tree.engine) (application_of g a) id letter in
-      ap (λ (n : ℕ). take n new) puts.counted ∙ ap (λ (bytes : List ℕ). take (length text) bytes) puts.front
-      ∙ take-append_seam text (drop (length text) old)
+      puts-taken text count old new puts
       ∙ ap (λ (k : ℕ). part_bytes (g.meaning a.tree.engine) (application_of g a) id k) el ∙ letter_bytes a id part live

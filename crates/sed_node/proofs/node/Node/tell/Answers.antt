@@ -7,7 +7,7 @@ use Rattle.sed_node.specs.Doing.{IsTold}
 use Rattle.sed_node.specs.Standing.{code_of}
 use Rattle.sed_node.specs.declared.node.Node.{Node as Kept}
 use Rattle.sed_node.proofs.Keeping.{kept_by}
-use Rattle.sed_node.proofs.Texts.{front_is}
+use Rattle.sed_wire.proofs.WritingLemmas.{puts-taken}
 use Rattle.sed_node.proofs.Turns.{all_told_by_none, all_told_by_room, event_told, first_reached, lives_of, next_reached}
 use Rattle.sed_node.proofs.Turns.{second_true}
 use Rattle.sed_node.proofs.node.Node.tell.Goals as goal
@@ -68,7 +68,7 @@ events-preserved g c =
           (event_told g.E.Engine c.events_are_of_the_application.ensures.bytes
           c.events_are_of_the_application.ensures.due c.events.self new place id part
           c.events.out c.post.new.out (take c.in-Some.count c.next_event.new.into) r.now r.is_told gives.stays
-          gives.posted (front_is _ _ _ _ gives.text)
+          gives.posted (puts-taken _ _ _ _ gives.text)
           c.post.ensures.leaves))
           (λ t p. c.only_open_sessions_have_subscribed.ensures.part m t place p);
     }
