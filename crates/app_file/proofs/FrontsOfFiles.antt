@@ -12,7 +12,8 @@ use Rattle.sed_value.specs.declared.kit.KitRef.{KitRef}
 use Rattle.comp_tree.specs.Edit.{kit_bytes}
 use Rattle.comp_tree.specs.Parts.{text, u1}
 use Rattle.app_file.specs.Reading.{IsFront}
-use Rattle.app_file.specs.Text.{file_mark, front_text, kits_text, u4}
+use Rattle.sed_wire.specs.Number.{u4}
+use Rattle.app_file.specs.Text.{file_mark, front_text, kits_text}
 use Rattle.app_file.proofs.OneWay.{Fronts, HasNoZero, fronts-int, fronts-text, fronts-u1, fronts-u4, peel}
 
 -- ---- names

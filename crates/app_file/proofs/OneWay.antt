@@ -9,7 +9,7 @@ use Rattle.std.proofs.lemmas.Int.{to_z-of_z}
 use Rattle.std.proofs.Math.Facts.{Fits-of_z}
 use Rattle.std.proofs.lemmas.Bool.Decides.{nat_tests}
 use Rattle.comp_tree.specs.Parts.{text, u1, u2}
-use Rattle.app_file.specs.Text.{u4}
+use Rattle.sed_wire.specs.Number.{u4}
 
 -- of two things that have P, whose texts stand in front of the same bytes
 abbrev pub Fronts : {A : Type 0} → (A → Type 0) → (A → List ℕ) → Type 0

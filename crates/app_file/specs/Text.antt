@@ -2,19 +2,16 @@
 use Rattle.std.specs.Prelude.{ℕ, ◌≡◌, ◌≤◌, ◌⊎◌, List, ◌++◌, length, fold, max, Option}
 use Rattle.std.specs.Option.{option_map_or}
 use Rattle.std.specs.List.{flat_map}
-use Rattle.std.specs.Int.{bytes_high_first}
 use Rattle.std.specs.FinMap as map
 use Rattle.sed_value.specs.declared.kit.KitRef.{KitRef}
 use Rattle.sed_engine.specs.Code.{Meaning}
+use Rattle.sed_wire.specs.Number.{u4}
 use Rattle.comp_tree.specs.Application.{Application, ById, Link}
 use Rattle.comp_tree.specs.Edit.{kit_bytes}
 use Rattle.comp_tree.specs.Parts.{class_bytes, link_bytes, no_id, text, u1, u2}
 use Rattle.comp_tree.specs.Values.{spelling_of_all}
 use Rattle.comp_tree.specs.Whole.{Each}
 use Rattle.app_file.specs.Rows.{Row, rows_of}
-
-abbrev pub u4 : ℕ → List ℕ
-u4 number = bytes_high_first 4 number
 
 -- ---- the front
 

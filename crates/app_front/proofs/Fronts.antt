@@ -10,11 +10,12 @@ use Rattle.sed_value.specs.Value.{is_signed}
 use Rattle.sed_value.specs.declared.kit.KitRef.{KitRef}
 use Rattle.sed_wire.specs.FormReading.{Found}
 use Rattle.sed_wire.specs.Leaves as leaf
+use Rattle.sed_wire.specs.Number.{u4}
 use Rattle.sed_wire.specs.Row.{counted}
 use Rattle.comp_tree.specs.Edit.{kit_bytes}
 use Rattle.comp_tree.specs.Parts.{text}
 use Rattle.app_file.specs.Reading.{IsFront}
-use Rattle.app_file.specs.Text.{file_mark, front_text, kits_text, u4}
+use Rattle.app_file.specs.Text.{file_mark, front_text, kits_text}
 use Rattle.app_front.specs.Form as form
 use Rattle.app_front.specs.declared.front.Front.{Front}
 use Rattle.app_front.proofs.Texts.{Texts, name_is_text, number_texts, only_texts, same_texts, signed_texts, text_texts, then_texts, times_said, times_spelled}

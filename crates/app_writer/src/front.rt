@@ -1,7 +1,8 @@
 //! What begins a file.
 ghost use Rattle.std.specs.Prelude.{◌≤◌, length};
-ghost use Rattle.app_file.specs.Text.{front_text, u4, version};
+ghost use Rattle.app_file.specs.Text.{front_text, version};
 ghost use Rattle.app_parts.specs.Told.{most_kits};
+ghost use Rattle.sed_wire.specs.Number.{u4};
 ghost use Rattle.sed_wire.specs.Writing.{Appends, room};
 ghost use Rattle.sox_msg.specs.Reply.{Puts};
 

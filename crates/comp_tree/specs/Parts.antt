@@ -2,13 +2,13 @@
 use Rattle.std.specs.Prelude.{ℕ, ◌==◌, if◌then◌else◌, List, [], ◌∷◌, ◌++◌, length, slice_get, map, Option, Some, None}
 use Rattle.std.specs.Option.{option_map_or}
 use Rattle.std.specs.List.{flat_map}
-use Rattle.std.specs.Int.{bytes_high_first}
 use Rattle.sed_value.specs.declared.value.Value.{Value}
 use Rattle.sed_typed.specs.declared.schema.ClassInfo.{ClassInfo}
 use Rattle.sed_typed.specs.Contents.{Contents}
 use Rattle.sed_engine.specs.Code.{Meaning, new_object, slot_value}
 pub use Rattle.link_table.specs.Links.{links_at}
 pub use Rattle.prop_values.specs.Properties.{is_property_form, is_config, is_runtime, slots_that, config_slots, runtime_slots, with_slots}
+pub use Rattle.sed_wire.specs.Number.{u1, u2}
 use Rattle.comp_tree.specs.Mapped.{map_values}
 use Rattle.comp_tree.specs.Application.{Application, ById, Component, Link, object_of}
 use Rattle.prop_values.specs.Values.{spelling_of_all}
@@ -19,12 +19,6 @@ abbrev pub values_in : Meaning → Component → List ℕ → List Value
 values_in m c numbers = map (slot_value m (object_of c)) numbers
 
 -- ---- the parts
-
-abbrev pub u1 : ℕ → List ℕ
-u1 number = bytes_high_first 1 number
-
-abbrev pub u2 : ℕ → List ℕ
-u2 number = bytes_high_first 2 number
 
 -- no component has this id
 abbrev pub no_id : ℕ

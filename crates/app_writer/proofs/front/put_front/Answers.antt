@@ -1,6 +1,7 @@
 use Rattle.std.proofs.Common.{arith, sym}
 use Rattle.sed_wire.proofs.WritingLemmas.{appends-then}
-use Rattle.app_file.specs.Text.{file_mark, u4, version}
+use Rattle.sed_wire.specs.Number.{u4}
+use Rattle.app_file.specs.Text.{file_mark, version}
 use Rattle.app_parts.specs.Told.{kits_bytes}
 use Rattle.app_writer.proofs.Lengths.{room-left}
 use Rattle.app_writer.proofs.front.put_front.Goals as goal
