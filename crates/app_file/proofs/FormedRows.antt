@@ -1,6 +1,6 @@
 -- The rows and links of an application that is formed have texts that can be told apart.
 use Rattle.std.proofs.Common.{◌≡◌, ℕ, zero, suc, ◌<◌, ◌≤◌, Bool, true, false, IsTrue, List, [], ◌∷◌, length, refl, sym, subst, ◌∙◌, ap, arith}
-use Rattle.std.specs.Prelude.{Option, Some, None, IfSome, IsSome, IsSomeAnd, All, is_some, ◌&&◌, not, slice_get, position, ◌==◌, if◌then◌else◌, nat_lt, ◌^◌}
+use Rattle.std.specs.Prelude.{Option, Some, None, IfSome, IsSome, IsSomeAnd, is_some, ◌&&◌, not, slice_get, position, ◌==◌, if◌then◌else◌, nat_lt, ◌^◌}
 use Rattle.std.specs.Option.{option_and_then, option_map, option_map_or}
 use Rattle.std.specs.List.{AllByRecursion, Contains}
 use Rattle.std.specs.FinMap as map
@@ -28,6 +28,7 @@ use Rattle.app_file.proofs.EntriesOfMaps.{entries_are_got}
 use Rattle.app_file.proofs.FrontsOfFiles.{name_positive}
 use Rattle.app_file.proofs.RowsOneWay.{IsClass, IsIdOrNone, LinkFits, RowFits}
 use Rattle.app_file.proofs.SlotValues.{config_is_typed}
+use Rattle.sed_value.proofs.Lists.{at_place}
 
 -- ---- lists and options
 
@@ -45,9 +46,6 @@ behind_is_there id y (k ∷ ks) at = by_test (k == id) at (behind_is_there id y 
 is_some_and : {A : Type 0} {P : A → Type 0} (r : Option A) → IsTrue (is_some r) → IfSome r P → (x : A) × (◌≡◌ {A = Option A} r (Some x)) × P x
 is_some_and None some all = absurd (let no : false ≡ true = some in cc)
 is_some_and (Some x) some all = (x, refl, all)
-
-at_place : {A : Type 0} (P : A → Type 0) (xs : List A) (k : ℕ) (x : A) → All P xs → slice_get xs k ≡ Some x → P x
-at_place {A} P xs k x all is = subst P (get_or_from_slice_get xs k x x is) (all k x (slice_get_within xs k x is))
 
 -- ---- classes
 
@@ -85,7 +83,7 @@ component_class m class is = by_info (slice_get m.schema.classes class) refl is
 -- ---- rows
 
 module _ (m : Meaning) (tables : HasTables m) (a : Application) (formed : IsFormed m a) where
-  small_id : (id : ℕ) → IsTrue (is_live a.components.by_id id) → id < no_id
+  pub small_id : (id : ℕ) → IsTrue (is_live a.components.by_id id) → id < no_id
   small_id id live = (is_some_and (map.get a.components.by_id id) live (formed.ids id)).2
 
   parent_by : (id : ℕ) (c : Component) → map.get a.components.by_id id ≡ Some c → parent_of a.components.by_id id ≡ c.parent
@@ -126,7 +124,7 @@ module _ (m : Meaning) (tables : HasTables m) (a : Application) (formed : IsForm
       let other : 0 < suc n → IsOther m c = subst (λ r. IfSome r (λ (c : Component). 0 < suc n → IsOther m c)) got (formed.others (suc n)) in
       component_class m c.class (other (omega arith)).component
 
-  row_fits : (id : ℕ) (c : Component) → map.get a.components.by_id id ≡ Some c → RowFits m (row_of m (children_of a.components.by_id) id c)
+  pub row_fits : (id : ℕ) (c : Component) → map.get a.components.by_id id ≡ Some c → RowFits m (row_of m (children_of a.components.by_id) id c)
   row_fits id c got = record {
     id = small_id id (ap is_some got);
     class = class_there id c got;
@@ -173,7 +171,7 @@ module _ (m : Meaning) (tables : HasTables m) (a : Application) (formed : IsForm
   both_types None t is = absurd (let no : false ≡ true = is in cc)
   both_types (Some s) None is = absurd (let no : false ≡ true = is in cc)
 
-  link_fits : (l : Link) → IsLink m a.components.by_id l → LinkFits l
+  pub link_fits : (l : Link) → IsLink m a.components.by_id l → LinkFits l
   link_fits l is =
       let types = both_types (type_at m a.components.by_id l.from l.from_slot) (type_at m a.components.by_id l.to l.to_slot) is.typed in
       record {

@@ -17,12 +17,12 @@ use Rattle.app_file.proofs.WholeFiles.{AreShallow, formed, within}
 
 -- ---- the first place that differs
 
-record IsOnePlace (p q : ℕ) (f g k l : Option KitRef) : Type 0 where
-  place : p ≡ q
-  in_file : f ≡ g
-  in_kits : k ≡ l
+pub record IsOnePlace (p q : ℕ) (f g k l : Option KitRef) : Type 0 where
+  pub place : p ≡ q
+  pub in_file : f ≡ g
+  pub in_kits : k ≡ l
 
-one_place : (ours theirs : List KitRef) (p q : ℕ) (f g k l : Option KitRef) → DifferAt ours theirs p f k → DifferAt ours theirs q g l → IsOnePlace p q f g k l
+pub one_place : (ours theirs : List KitRef) (p q : ℕ) (f g k l : Option KitRef) → DifferAt ours theirs p f k → DifferAt ours theirs q g l → IsOnePlace p q f g k l
 one_place ours theirs p q f g k l a b = by_order (cases_order p q)
   where
     by_order : (p ≡ q) ⊎ ((p < q) ⊎ (q < p)) → IsOnePlace p q f g k l
@@ -34,7 +34,7 @@ one_place ours theirs p q f g k l a b = by_order (cases_order p q)
     by_order (inr (inl before)) = absurd (a.differ (sym a.file_has ∙ b.before p before ∙ a.kits_have))
     by_order (inr (inr before)) = absurd (b.differ (sym b.file_has ∙ a.before q before ∙ b.kits_have))
 
-not_of_itself : (kits : List KitRef) (p : ℕ) (f k : Option KitRef) → DifferAt kits kits p f k → ⊥
+pub not_of_itself : (kits : List KitRef) (p : ℕ) (f k : Option KitRef) → DifferAt kits kits p f k → ⊥
 not_of_itself kits p f k d = d.differ (sym d.file_has ∙ d.kits_have)
 
 -- ---- the front of a text

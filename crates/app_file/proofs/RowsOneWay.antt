@@ -5,7 +5,6 @@ use Rattle.std.specs.Option.{option_map_or}
 use Rattle.std.specs.List.{AllByRecursion, flat_map}
 use Rattle.std.proofs.lemmas.Bool.Decides.{nat_tests}
 use Rattle.std.proofs.lemmas.List.Recursion.{is_count_by}
-use Rattle.std.proofs.lemmas.Option.{get_or_from_slice_get, slice_get_within}
 use Rattle.sed_typed.specs.declared.schema.ClassInfo.{ClassInfo}
 use Rattle.sed_engine.specs.Code.{Meaning}
 use Rattle.sed_engine.specs.Whole.{HasTables}
@@ -16,6 +15,7 @@ use Rattle.app_file.specs.Rows.{Row}
 use Rattle.app_file.specs.Text.{id_text, row_text}
 use Rattle.app_file.proofs.OneWay.{Fronts, HasNoZero, fronts-text, fronts-u1, fronts-u2, peel}
 use Rattle.app_file.proofs.ValuesOneWay.{AreTyped, fronts-values}
+use Rattle.sed_value.proofs.Lists.{at_place}
 
 -- ---- ids
 
@@ -33,15 +33,15 @@ fronts-id (Some a) (Some b) x y is_a is_b e =
 -- ---- classes
 
 -- how often a test holds
-times : (ClassInfo → Bool) → List ClassInfo → ℕ
+unfoldable pub times : (ClassInfo → Bool) → List ClassInfo → ℕ
 times p [] = 0
 times p (x ∷ xs) = cond (p x) (1 + times p xs) (times p xs)
 
-times_counts : (p : ClassInfo → Bool) (xs : List ClassInfo) → times p xs ≡ count_by p xs
+pub times_counts : (p : ClassInfo → Bool) (xs : List ClassInfo) → times p xs ≡ count_by p xs
 unfolding times
 times_counts p xs = is_count_by (times p) p refl (λ x xs. refl) xs
 
-counted : (p : ClassInfo → Bool) (xs : List ClassInfo) (c : ℕ) (a : ClassInfo) → slice_get xs c ≡ Some a → IsTrue (p a) → 1 ≤ times p xs
+pub counted : (p : ClassInfo → Bool) (xs : List ClassInfo) (c : ℕ) (a : ClassInfo) → slice_get xs c ≡ Some a → IsTrue (p a) → 1 ≤ times p xs
 unfolding times
 counted p [] c a at is = absurd (let no : ◌≡◌ {A = Option ClassInfo} None (Some a) = at in cc)
 counted p (x ∷ xs) zero a at is =
@@ -76,9 +76,6 @@ same_index p (x ∷ xs) (suc c) (suc d) a b few at is at' is' = ap suc (same_ind
     by_test : (b : Bool) → cond b (1 + times p xs) (times p xs) ≤ 1 → times p xs ≤ 1
     by_test true h = omega arith
     by_test false h = h
-
-at_place : {A : Type 0} (P : A → Type 0) (xs : List A) (k : ℕ) (x : A) → All P xs → slice_get xs k ≡ Some x → P x
-at_place {A} P xs k x all is = subst P (get_or_from_slice_get xs k x x is) (all k x (slice_get_within xs k x is))
 
 -- the number of a type is a byte
 abbrev pub AreNumbered : Meaning → Type 0

@@ -1,7 +1,6 @@
 -- What is answered by the form of a front, in the words of files.
-use Rattle.std.proofs.Common.{◌≡◌, ℕ, ◌<◌, ◌⊎◌, inl, inr, List, Result, Ok, Err, sym, ◌∙◌, ap, subst}
-use Rattle.std.specs.Prelude.{Option, slice_get}
-use Rattle.std.proofs.lemmas.Bool.{cases_order}
+use Rattle.std.proofs.Common.{◌≡◌, ℕ, List, Result, Ok, Err, sym, ◌∙◌, ap, subst}
+use Rattle.std.specs.Prelude.{Option}
 use Rattle.sed_value.specs.declared.kit.KitRef.{KitRef}
 use Rattle.sed_typed.specs.declared.schema.Schema.{Schema}
 use Rattle.sed_engine.specs.Code.{Meaning}
@@ -9,33 +8,12 @@ use Rattle.sed_wire.specs.Form.{found_eq, not_found}
 use Rattle.app_file.specs.Reading.{DifferAt, HasNoFront, HasWrongKits, IsFront}
 use Rattle.app_file.specs.declared.refusal.AppRefusal.{AppRefusal}
 use Rattle.app_file.specs.declared.refusal.AppRefusal.TheVariants.{NotAnApp, WrongKits, OverLimit, Memory}
+use Rattle.app_file.proofs.OneReading.{not_of_itself, one_place}
 use Rattle.app_front.specs.Form as form
 use Rattle.app_front.specs.Front.{IsFrontOutcome, IsNoFrontAnswer, IsVersionAnswer, IsWrongKitsAnswer}
 use Rattle.app_front.specs.FrontAnswer.{IsAnswerTo}
 use Rattle.app_front.specs.declared.front.Front.{Front}
 use Rattle.app_front.proofs.Fronts.{front-read, front-whole, front_of}
-
--- ---- the first place that differs is one
-
-pub record IsOnePlace (p q : ℕ) (f g k l : Option KitRef) : Type 0 where
-  pub place : p ≡ q
-  pub in_file : f ≡ g
-  pub in_kits : k ≡ l
-
-pub one_place : (ours theirs : List KitRef) (p q : ℕ) (f g k l : Option KitRef) → DifferAt ours theirs p f k → DifferAt ours theirs q g l → IsOnePlace p q f g k l
-one_place ours theirs p q f g k l a b = by_order (cases_order p q)
-  where
-    by_order : (p ≡ q) ⊎ ((p < q) ⊎ (q < p)) → IsOnePlace p q f g k l
-    by_order (inl same) = record {
-      place = same;
-      in_file = sym a.file_has ∙ ap (slice_get ours) same ∙ b.file_has;
-      in_kits = sym a.kits_have ∙ ap (slice_get theirs) same ∙ b.kits_have;
-    }
-    by_order (inr (inl before)) = absurd (a.differ (sym a.file_has ∙ b.before p before ∙ a.kits_have))
-    by_order (inr (inr before)) = absurd (b.differ (sym b.file_has ∙ a.before q before ∙ b.kits_have))
-
-pub not_of_itself : (kits : List KitRef) (p : ℕ) (f k : Option KitRef) → DifferAt kits kits p f k → ⊥
-not_of_itself kits p f k d = d.differ (sym d.file_has ∙ d.kits_have)
 
 kits_of : (f g : Front) → f ≡ g → f.kits ≡ g.kits
 kits_of f g same = ap (λ (x : Front). x.kits) same

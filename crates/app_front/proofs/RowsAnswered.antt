@@ -13,7 +13,7 @@ use Rattle.app_front.specs.BodyForm.{IsBodyAnswer, ReadsNoRows, body}
 use Rattle.app_front.specs.Rows.{AreRows, HasNoRows, IsNoRowsAnswer, IsOtherKitsAnswer, IsRowsAnswer, IsRowsOutcome}
 use Rattle.app_front.specs.declared.front.Front.{Front}
 use Rattle.app_front.specs.declared.rows.FileRows.{FileRows}
-use Rattle.app_front.proofs.Answering.{not_of_itself, one_place}
+use Rattle.app_file.proofs.OneReading.{not_of_itself, one_place}
 use Rattle.app_front.proofs.Bodies.{reads_of_rows, rows_of_reads}
 use Rattle.app_front.proofs.Fronts.{front-whole, front_of}
 

@@ -1,27 +1,12 @@
 -- Of the class of a row components are made.
-use Rattle.std.proofs.Common.{◌≡◌, ℕ, Bool, true, false, refl, sym, ◌∙◌, ap}
-use Rattle.std.specs.Prelude.{Option, Some, None, IsSomeAnd, IsTrue, ◌&&◌, not, slice_get}
+use Rattle.std.proofs.Common.{◌≡◌, ℕ, Bool, true, false, refl}
+use Rattle.std.specs.Prelude.{Option, Some, None, IsTrue, ◌&&◌, not, slice_get}
 use Rattle.std.specs.Option.{option_map_or}
-use Rattle.sed_typed.specs.Schemas.{type_at as class_numbered}
 use Rattle.sed_typed.specs.SysTypes.{app_type, component_type}
 use Rattle.sed_typed.specs.declared.schema.ClassInfo.{ClassInfo}
 use Rattle.sed_engine.specs.Code.{Meaning, is_creatable}
-use Rattle.sed_engine.specs.Whole.{HasTables}
 use Rattle.comp_tree.specs.Refusals.{is_abstract_class, is_for_components, is_sys_type}
-
-some_and : {A : Type 0} {P : A → Type 0} (r : Option A) → IsSomeAnd r P → (x : A) × (◌≡◌ {A = Option A} r (Some x)) × P x
-some_and None never = absurd never
-some_and (Some x) is = (x, refl, is)
-
-pub app_creatable : (m : Meaning) (class : ℕ) → HasTables m → class_numbered m.schema.classes 0 app_type ≡ Some class → IsTrue (is_creatable m class)
-app_creatable m class tables is =
-    let app = some_and (class_numbered m.schema.classes 0 app_type) tables.names.types.app in
-    let both : ◌≡◌ {A = Option ℕ} (Some app.0) (Some class) = sym app.1 ∙ is in
-    let same : app.0 ≡ class = cc in
-    let info = some_and (slice_get m.schema.classes app.0) app.2 in
-    ap (λ (n : ℕ). is_creatable m n) (sym same)
-    ∙ ap (λ (o : Option ClassInfo). option_map_or (λ c. c.is_component && not c.is_abstract) o false) info.1
-    ∙ (rw (info.2.is_component, info.2.is_abstract) refl)
+pub use Rattle.app_told.proofs.Objects.{app_creatable}
 
 front_of : (a b c : Bool) → IsTrue (a && b && c) → IsTrue a
 front_of true b c is = refl

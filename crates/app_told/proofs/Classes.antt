@@ -1,40 +1,19 @@
 -- Classes of a schema by kit and number: there are few, and each is the first with its kit and number.
 use Rattle.std.proofs.Common.{◌≡◌, ℕ, zero, suc, ◌+◌, ◌*◌, ◌<◌, ◌≤◌, Bool, true, false, cond, IsTrue, List, [], ◌∷◌, length, refl, sym, subst, ◌∙◌, ap, arith}
-use Rattle.std.specs.Prelude.{Option, Some, None, All, ◌==◌, ◌&&◌, nat_lt, slice_get, count_by, position}
+use Rattle.std.specs.Prelude.{Option, Some, None, All, ◌==◌, ◌&&◌, nat_lt, slice_get, position}
 use Rattle.std.specs.Option.{option_and_then}
 use Rattle.std.specs.List.{AllByRecursion, position_or_len}
 use Rattle.std.proofs.lemmas.Bool.Decides.{nat_tests}
-use Rattle.std.proofs.lemmas.List.Recursion.{is_count_by, is_position_or_len}
+use Rattle.std.proofs.lemmas.List.Recursion.{is_position_or_len}
 use Rattle.std.proofs.lemmas.List.Elements.{recursion_from_All}
-use Rattle.std.proofs.lemmas.Option.{get_or_from_slice_get, slice_get_within}
+use Rattle.std.proofs.lemmas.Option.{slice_get_within}
 use Rattle.sed_typed.specs.Schemas.{numbered}
 use Rattle.sed_typed.specs.declared.schema.ClassInfo.{ClassInfo}
 use Rattle.sed_engine.specs.Code.{Meaning}
 use Rattle.sed_engine.specs.Whole.{HasTables}
+use Rattle.app_file.proofs.RowsOneWay.{counted, times, times_counts}
 use Rattle.app_front.specs.Rows.{IsToldClass}
-
--- ---- how often a test holds
-
-times : (ClassInfo → Bool) → List ClassInfo → ℕ
-times p [] = 0
-times p (x ∷ xs) = cond (p x) (1 + times p xs) (times p xs)
-
-times_counts : (p : ClassInfo → Bool) (xs : List ClassInfo) → times p xs ≡ count_by p xs
-unfolding times
-times_counts p xs = is_count_by (times p) p refl (λ x xs. refl) xs
-
-counted : (p : ClassInfo → Bool) (xs : List ClassInfo) (c : ℕ) (a : ClassInfo) → slice_get xs c ≡ Some a → IsTrue (p a) → 1 ≤ times p xs
-unfolding times
-counted p [] c a at is = absurd (let no : ◌≡◌ {A = Option ClassInfo} None (Some a) = at in cc)
-counted p (x ∷ xs) zero a at is =
-    let same : x ≡ a = cc in
-    let passes : p x ≡ true = ap p same ∙ is in
-    rw passes (omega arith)
-counted p (x ∷ xs) (suc c) a at is = by_test (p x) (counted p xs c a at is)
-  where
-    by_test : (b : Bool) → 1 ≤ times p xs → 1 ≤ cond b (1 + times p xs) (times p xs)
-    by_test true h = omega arith
-    by_test false h = h
+use Rattle.sed_value.proofs.Lists.{at_place as at_each}
 
 -- ---- classes are few
 
@@ -120,9 +99,6 @@ only_place p (x ∷ xs) (suc k) a few at is = by_test (p x) few (only_place p xs
         → cond b 0 (1 + first_place p xs) ≡ suc k
     by_test true few later = absurd (let two : 1 + times p xs ≤ 1 = few in omega (arith, two, there))
     by_test false few later = let rest = later few at is in omega (arith, rest)
-
-at_each : {A : Type 0} (P : A → Type 0) (xs : List A) (k : ℕ) (x : A) → All P xs → slice_get xs k ≡ Some x → P x
-at_each {A} P xs k x all is = subst P (get_or_from_slice_get xs k x x is) (all k x (slice_get_within xs k x is))
 
 -- a class that is there is told by its kit and number
 pub class_is_told : (m : Meaning) (class : ℕ) (info : ClassInfo) → HasTables m → All (λ (c : ClassInfo). c.number < 256) m.schema.classes

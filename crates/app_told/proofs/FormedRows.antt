@@ -1,35 +1,25 @@
 -- The rows and links of an application that is formed may stand in a file.
-use Rattle.std.proofs.Common.{◌≡◌, ℕ, zero, suc, ◌<◌, ◌≤◌, Bool, true, false, IsTrue, List, [], ◌∷◌, length, refl, sym, subst, ◌∙◌, ap, arith}
-use Rattle.std.specs.Prelude.{Option, Some, None, IfSome, IsSome, IsSomeAnd, All, is_some, ◌&&◌, not, slice_get, position, ◌==◌, if◌then◌else◌, nat_lt, ◌^◌, max, map as map_list}
-use Rattle.std.specs.Option.{option_and_then, option_map, option_map_or}
-use Rattle.std.specs.List.{AllByRecursion, Contains, filter_map, fold}
+use Rattle.std.proofs.Common.{◌≡◌, ℕ, ◌<◌, IsTrue, List, [], ◌∷◌, refl, subst, ap, arith}
+use Rattle.std.specs.Prelude.{Option, Some, None, IfSome, All, is_some, slice_get, max, map as map_list}
+use Rattle.std.specs.Option.{option_map}
+use Rattle.std.specs.List.{AllByRecursion, filter_map, fold}
 use Rattle.std.specs.FinMap as map
-use Rattle.std.proofs.lemmas.List.Quantifiers.{position-Some}
 use Rattle.std.proofs.lemmas.List.Elements.{recursion_from_All}
-use Rattle.std.proofs.lemmas.Option.{get_or_from_slice_get, slice_get_within, slice_get-get_or}
 use Rattle.sed_value.specs.declared.id.Id.{Id}
-use Rattle.sed_value.specs.declared.slot_type.SlotType.{SlotType}
 use Rattle.sed_value.specs.declared.value.Value.{Value}
 use Rattle.sed_value.specs.Names.{is_name}
 use Rattle.sed_typed.specs.declared.number.TypeNo.{TypeNo}
 use Rattle.sed_typed.specs.declared.schema.ClassInfo.{ClassInfo}
-use Rattle.sed_typed.specs.declared.schema.SlotInfo.{SlotInfo}
-use Rattle.sed_typed.specs.Classes.{slots}
-use Rattle.sed_typed.specs.Schemas.{numbered, type_at as class_numbered}
-use Rattle.sed_typed.specs.SysTypes.{app_type, component_type}
-use Rattle.sed_engine.specs.Code.{Meaning, property_type, slot_form, slot_type}
-use Rattle.sed_engine.specs.Fits.{Fits}
+use Rattle.sed_engine.specs.Code.{Meaning, slot_type}
 use Rattle.sed_engine.specs.Whole.{HasTables}
-use Rattle.comp_tree.specs.Application.{Application, Component, Link, children_of, is_live, parent_of, type_at}
-use Rattle.comp_tree.specs.Links.{go_together_if_there}
+use Rattle.comp_tree.specs.Application.{Application, Component, Link, children_of}
 use Rattle.comp_tree.specs.Parts.{config_slots, no_id}
-use Rattle.comp_tree.specs.Refusals.{is_for_components, is_sys_type}
-use Rattle.comp_tree.specs.Whole.{IsApp, IsLink, IsOther}
+use Rattle.comp_tree.specs.Whole.{IsLink}
 use Rattle.app_file.specs.Formed.{IsFormed}
-use Rattle.app_file.specs.Rows.{Row, behind, row_of, rows_by, rows_of, sibling_behind}
+use Rattle.app_file.specs.Rows.{Row, row_of, rows_by, rows_of, sibling_behind}
 use Rattle.app_file.specs.Text.{greatest_of}
 use Rattle.app_file.proofs.EntriesOfMaps.{entries_are_got}
-use Rattle.app_file.proofs.SlotValues.{config_is_typed}
+use Rattle.app_file.proofs.FormedRows.{link_fits, row_fits, small_id}
 use Rattle.app_file.proofs.ValuesOneWay.{AreTyped}
 use Rattle.app_front.specs.Rows.{AreOfTypes, IsToldId, IsToldLink, IsToldRow, number_of_id, told_row}
 use Rattle.app_front.specs.declared.rows.FileRow.{FileRow}
@@ -76,25 +66,7 @@ rows_again (r ∷ rows) =
     let rest = rows_again rows in
     λ i. here i ∷ rest i
 
--- ---- lists and options
-
-contains_item : (xs : List ℕ) (n x : ℕ) → slice_get xs n ≡ Some x → Contains xs x
-contains_item xs n x at = (n, slice_get_within xs n x at, get_or_from_slice_get xs n x x at)
-
-behind_is_there : (id y : ℕ) (xs : List ℕ) → behind id xs ≡ Some y → Contains xs y
-behind_is_there id y [] at = absurd (let no : ◌≡◌ {A = Option ℕ} None (Some y) = at in cc)
-behind_is_there id y (k ∷ ks) at = by_test (k == id) at (behind_is_there id y ks)
-  where
-    by_test : (b : Bool) → (if b then slice_get ks 0 else behind id ks) ≡ Some y → (behind id ks ≡ Some y → Contains ks y) → Contains (k ∷ ks) y
-    by_test true at later = contains_item (k ∷ ks) 1 y at
-    by_test false at later = let there = later at in (suc there.0, let lt = there.1 in omega arith, there.2)
-
-is_some_and : {A : Type 0} {P : A → Type 0} (r : Option A) → IsTrue (is_some r) → IfSome r P → (x : A) × (◌≡◌ {A = Option A} r (Some x)) × P x
-is_some_and None some all = absurd (let no : false ≡ true = some in cc)
-is_some_and (Some x) some all = (x, refl, all)
-
-at_each : {A : Type 0} (P : A → Type 0) (xs : List A) (k : ℕ) (x : A) → All P xs → slice_get xs k ≡ Some x → P x
-at_each {A} P xs k x all is = subst P (get_or_from_slice_get xs k x x is) (all k x (slice_get_within xs k x is))
+-- ---- options and values
 
 told_id : (o : Option ℕ) → IfSome o (λ n. n < no_id) → IfSome (option_map id_back o) IsToldId
 told_id None is = tt
@@ -109,99 +81,20 @@ of_types m class (n ∷ numbers) (v ∷ values) are =
     let rest = of_types m class numbers values are.1 in
     rw are.0.is (are.0.of, rest)
 
--- ---- classes
-
-numbered_is : (n class : ℕ) → numbered n ≡ Some class → n ≡ class
-numbered_is n class is = by_test (nat_lt n (2 ^ 16)) is
-  where
-    by_test : (b : Bool) → (if b then Some n else None) ≡ Some class → n ≡ class
-    by_test true at = cc
-    by_test false at = absurd (let no : ◌≡◌ {A = Option ℕ} None (Some class) = at in cc)
-
-place_there : (p : ClassInfo → Bool) (xs : List ClassInfo) (n : ℕ) → position p xs ≡ Some n → (x : ClassInfo) × (slice_get xs n ≡ Some x)
-place_there p [] n at = absurd (let no : ◌≡◌ {A = Option ℕ} None (Some n) = at in cc)
-place_there p (c ∷ cs) n at = (_, slice_get-get_or (c ∷ cs) n c (position-Some p (c ∷ cs) n c at).0)
-
-record IsThere (m : Meaning) (class : ℕ) : Type 0 where
-  info : ClassInfo
-  is : slice_get m.schema.classes class ≡ Some info
-
-found_class : (m : Meaning) (kit number class : ℕ) → class_numbered m.schema.classes kit number ≡ Some class → IsThere m class
-found_class m kit number class is = by_place (position test m.schema.classes) refl is
-  where
-    test : ClassInfo → Bool
-    test c = (c.kit == kit) && (c.number == number)
-
-    by_place : (r : Option ℕ) → position test m.schema.classes ≡ r → option_and_then numbered r ≡ Some class → IsThere m class
-    by_place None at is = absurd (let no : ◌≡◌ {A = Option ℕ} None (Some class) = is in cc)
-    by_place (Some n) at is =
-        let there = place_there test m.schema.classes n at in
-        record { info = there.0; is = ap (slice_get m.schema.classes) (sym (numbered_is n class is)) ∙ there.1 }
-
-component_class : (m : Meaning) (class : ℕ) → IsTrue (is_for_components m class) → IsThere m class
-component_class m class is = by_info (slice_get m.schema.classes class) refl is
-  where
-    by_info : (r : Option ClassInfo) → slice_get m.schema.classes class ≡ r
-        → IsTrue (option_map_or (λ (c : ClassInfo). c.is_component) r false && not (is_sys_type m component_type class) && not (is_sys_type m app_type class)) → IsThere m class
-    by_info None got is = absurd (let no : false ≡ true = is in cc)
-    by_info (Some c) got is = record { info = c; is = got }
-
 -- ---- rows
 
 module _ (m : Meaning) (tables : HasTables m) (numbers : All (λ (c : ClassInfo). c.number < 256) m.schema.classes) (a : Application) (formed : IsFormed m a) where
-  small_id : (id : ℕ) → IsTrue (is_live a.components.by_id id) → id < no_id
-  small_id id live = (is_some_and (map.get a.components.by_id id) live (formed.ids id)).2
-
-  parent_by : (id : ℕ) (c : Component) → map.get a.components.by_id id ≡ Some c → parent_of a.components.by_id id ≡ c.parent
-  parent_by id c got = ap (λ r. option_and_then (λ (c : Component). c.parent) r) got
-
-  children_by : (id : ℕ) (c : Component) → map.get a.components.by_id id ≡ Some c → children_of a.components.by_id id ≡ c.children
-  children_by id c got = ap (λ r. option_map_or (λ (c : Component). c.children) r []) got
-
-  child_is_live : (up id : ℕ) → Contains (children_of a.components.by_id up) id → IsTrue (is_live a.components.by_id id)
-  child_is_live up id there = formed.tree.known id up (formed.tree.down id up there)
-
-  parent_is_live : (up id : ℕ) → Contains (children_of a.components.by_id up) id → IsTrue (is_live a.components.by_id up)
-  parent_is_live up id there = by_parent (map.get a.components.by_id up) there
-    where
-      by_parent : (r : Option Component) → Contains (option_map_or (λ (c : Component). c.children) r []) id → IsTrue (is_some r)
-      by_parent (Some c) there = refl
-      by_parent None there = absurd (let lt = there.1 in omega arith)
-
-  fits_parent : (id : ℕ) (parent : Option ℕ) → parent_of a.components.by_id id ≡ parent → IfSome parent (λ n. n < no_id)
-  fits_parent id None is = tt
-  fits_parent id (Some up) is = small_id up (parent_is_live up id (formed.tree.up id up is))
-
-  fits_first : (id : ℕ) (first : Option ℕ) → slice_get (children_of a.components.by_id id) 0 ≡ first → IfSome first (λ n. n < no_id)
-  fits_first id None is = tt
-  fits_first id (Some x) is = small_id x (child_is_live id x (contains_item (children_of a.components.by_id id) 0 x is))
-
-  fits_next : (id : ℕ) (parent next : Option ℕ) → sibling_behind (children_of a.components.by_id) id parent ≡ next → IfSome next (λ n. n < no_id)
-  fits_next id None None is = tt
-  fits_next id None (Some x) is = absurd (let no : ◌≡◌ {A = Option ℕ} None (Some x) = is in cc)
-  fits_next id (Some up) None is = tt
-  fits_next id (Some up) (Some x) is = small_id x (child_is_live up x (behind_is_there id x (children_of a.components.by_id up) is))
-
-  class_there : (id : ℕ) (c : Component) → map.get a.components.by_id id ≡ Some c → IsThere m c.class
-  class_there zero c got =
-      let app : IsApp m c = subst (λ r. IsSomeAnd r (IsApp m)) got formed.app in
-      found_class m 0 app_type c.class app.class
-  class_there (suc n) c got =
-      let other : 0 < suc n → IsOther m c = subst (λ r. IfSome r (λ (c : Component). 0 < suc n → IsOther m c)) got (formed.others (suc n)) in
-      component_class m c.class (other (omega arith)).component
-
   row_is_told : (id : ℕ) (c : Component) → map.get a.components.by_id id ≡ Some c → IsToldRow m (back (row_of m (children_of a.components.by_id) id c))
   row_is_told id c got =
-      let class = class_there id c got in
+      let fits = row_fits m tables a formed id c got in
       record {
-        id = small_id id (ap is_some got);
-        class = class_is_told m c.class class.info tables numbers class.is;
+        id = fits.id;
+        class = class_is_told m c.class fits.class.info tables numbers fits.class.is;
         name = subst (λ r. IfSome r (λ (c : Component). IsTrue (is_name c.name))) got (formed.names id);
-        parent = told_id c.parent (fits_parent id c.parent (parent_by id c got));
-        first_child = told_id (slice_get c.children 0) (fits_first id (slice_get c.children 0) (ap (λ cs. slice_get cs 0) (children_by id c got)));
-        next_sibling = told_id (sibling_behind (children_of a.components.by_id) id c.parent) (fits_next id c.parent (sibling_behind (children_of a.components.by_id) id c.parent) refl);
-        config = of_types m c.class (config_slots m c.class) _
-            (config_is_typed m c tables (subst (λ r. IfSome r (λ (c : Component). Fits m.fields (m.fields c.class) (m.initial c.class) c.contents)) got (formed.values id)));
+        parent = told_id c.parent fits.parent;
+        first_child = told_id (slice_get c.children 0) fits.first_child;
+        next_sibling = told_id (sibling_behind (children_of a.components.by_id) id c.parent) fits.next_sibling;
+        config = of_types m c.class (config_slots m c.class) _ fits.config;
       }
 
   each_is_told : (es : List (ℕ × Component)) → AllByRecursion (λ e. map.get a.components.by_id e.0 ≡ Some e.1) es
@@ -217,7 +110,7 @@ module _ (m : Meaning) (tables : HasTables m) (numbers : All (λ (c : ClassInfo)
   max_below : (n : ℕ) (es : List (ℕ × Component)) → n < 65536 → AllByRecursion (λ e. map.get a.components.by_id e.0 ≡ Some e.1) es → fold max n (map_list (λ (e : ℕ × Component). e.0) es) < 65536
   max_below n [] lt got = lt
   max_below n (e ∷ es) lt got =
-      let small = small_id e.0 (ap is_some got.0) in
+      let small = small_id m tables a formed e.0 (ap is_some got.0) in
       max_below (max n e.0) es (omega (arith, small, lt)) got.1
 
   pub greatest_below : greatest_of (map.keys a.components.by_id) < 65536
@@ -225,40 +118,14 @@ module _ (m : Meaning) (tables : HasTables m) (numbers : All (λ (c : ClassInfo)
 
   -- ---- links
 
-  slot_small : (id slot : ℕ) → IsSome (type_at m a.components.by_id id slot) → slot < 256
-  slot_small id slot some = by_component (map.get a.components.by_id id) some
-    where
-      few : (class : ℕ) → length (slots m.schema.classes class) ≤ 64
-      few class = by_class (slice_get m.schema.classes class) refl
-        where
-          by_class : (r : Option ClassInfo) → slice_get m.schema.classes class ≡ r → length (option_map_or (λ (c : ClassInfo). c.slots) r []) ≤ 64
-          by_class None at = omega arith
-          by_class (Some c) at = at_each (λ (c : ClassInfo). length c.slots ≤ 64) m.schema.classes class c tables.limits.slots at
-
-      by_slot : (class : ℕ) (r : Option SlotInfo) → slice_get (slots m.schema.classes class) slot ≡ r → IsSome (property_type (option_map (λ (s : SlotInfo). s.form) r)) → slot < 256
-      by_slot class None at some = absurd (let no : false ≡ true = some in cc)
-      by_slot class (Some s) at some =
-          let within = slice_get_within (slots m.schema.classes class) slot s at in
-          let bound = few class in
-          omega (arith, within, bound)
-
-      by_component : (r : Option Component) → IsSome (property_type (option_and_then (λ (c : Component). slot_form m c.class slot) r)) → slot < 256
-      by_component None some = absurd (let no : false ≡ true = some in cc)
-      by_component (Some c) some = by_slot c.class (slice_get (slots m.schema.classes c.class) slot) refl some
-
-  both_types : (s t : Option SlotType) → IsTrue (go_together_if_there s t) → IsSome s × IsSome t
-  both_types (Some s) (Some t) is = (refl, refl)
-  both_types None t is = absurd (let no : false ≡ true = is in cc)
-  both_types (Some s) None is = absurd (let no : false ≡ true = is in cc)
-
   link_is_told : (l : Link) → IsLink m a.components.by_id l → IsToldLink l
   link_is_told l is =
-      let types = both_types (type_at m a.components.by_id l.from l.from_slot) (type_at m a.components.by_id l.to l.to_slot) is.typed in
+      let fits = link_fits m tables a formed l is in
       record {
-        from = small_id l.from is.from;
-        from_slot = slot_small l.from l.from_slot types.0;
-        to = let small = small_id l.to is.to in omega (arith, small);
-        to_slot = slot_small l.to l.to_slot types.1;
+        from = fits.from;
+        from_slot = fits.from_slot;
+        to = let small = fits.to in omega (arith, small);
+        to_slot = fits.to_slot;
       }
 
   each_link_is_told : (links : List Link) → AllByRecursion (IsLink m a.components.by_id) links → AllByRecursion IsToldLink links

@@ -1,6 +1,6 @@
 -- Values of a row, stored in a new object of its class, fit.
 use Rattle.std.proofs.Common.{◌≡◌, ℕ, suc, ◌+◌, Bool, true, false, IsTrue, List, [], ◌∷◌, refl, sym, subst, ◌∙◌, ap, arith}
-use Rattle.std.specs.Prelude.{Option, Some, None, IsSomeAnd, not, ◌&&◌, ◌||◌, if◌then◌else◌, map as map_list, filter, slice_get}
+use Rattle.std.specs.Prelude.{Option, Some, None, not, ◌&&◌, ◌||◌, if◌then◌else◌, map as map_list, filter, slice_get}
 use Rattle.std.specs.Option.{option_map, option_map_or}
 use Rattle.std.specs.List.{AllByRecursion, enumerate_from, filter_map, zip}
 use Rattle.sed_value.specs.Value.{goes_to, is_of_type, reads_as_int}
@@ -22,10 +22,7 @@ use Rattle.prop_values.specs.Properties.{is_config, is_property_form}
 use Rattle.comp_tree.specs.Parts.{config_slots, with_slots}
 use Rattle.comp_tree.specs.Refusals.{is_abstract_class, is_for_components, is_sys_type}
 use Rattle.app_front.specs.Rows.{AreOfTypes}
-
-some_and : {A : Type 0} {P : A → Type 0} (o : Option A) → IsSomeAnd o P → (x : A) × (◌≡◌ {A = Option A} o (Some x)) × P x
-some_and None h = absurd h
-some_and (Some x) h = (x, refl, h)
+use Rattle.sed_value.proofs.Options.{some_and}
 
 -- ---- a value of a type goes to it
 
@@ -47,9 +44,9 @@ goes_home (Buf most) v is = is
 
 -- ---- config slots are properties
 
-record IsProperty (m : Meaning) (class slot : ℕ) : Type 0 where
-  type : SlotType
-  is : slot_type m class slot ≡ Some type
+pub record IsProperty (m : Meaning) (class slot : ℕ) : Type 0 where
+  pub type : SlotType
+  pub is : slot_type m class slot ≡ Some type
 
 by_form : (m : Meaning) (class slot : ℕ) (s : SlotInfo) → slice_get (slots m.schema.classes class) slot ≡ Some s → (form : SlotForm) (config : Bool) → s.form ≡ form
     → IsTrue (is_property_form form && config) → IsProperty m class slot
@@ -72,7 +69,7 @@ are_properties m class k (s ∷ rest) suffix = by_test (is_config s) refl (are_p
     by_test true is later = (by_form m class k s here s.form s.config refl is, later)
     by_test false is later = later
 
-config_are : (m : Meaning) (class : ℕ) → AllByRecursion (IsProperty m class) (config_slots m class)
+pub config_are : (m : Meaning) (class : ℕ) → AllByRecursion (IsProperty m class) (config_slots m class)
 config_are m class = are_properties m class 0 (slots m.schema.classes class) (λ j. ap (slice_get (slots m.schema.classes class)) (let e : j ≡ 0 + j = omega arith in e))
 
 -- ---- several values

@@ -6,7 +6,7 @@ use Rattle.std.specs.FinMap as finite
 use Rattle.std.specs.List.{list_any}
 use Rattle.std.specs.Str.{bytes_eq}
 use Rattle.std.proofs.lemmas.Bool.{eqb-true}
-use Rattle.std.proofs.lemmas.Slice.Eq.{bytes_eq-Decides}
+use Rattle.sed_value.specs.SlotType.{goes_with, is_read_as_int, primitive_goes_with}
 use Rattle.sed_value.specs.Value.{goes_to, is_of_type, reads_as_int}
 use Rattle.sed_value.specs.declared.slot_type.Primitive.{Primitive}
 use Rattle.sed_value.specs.declared.slot_type.Primitive.TheVariants.{Bool as BoolType, Byte as ByteType, Short as ShortType, Int as IntType, Long as LongType}
@@ -17,20 +17,18 @@ use Rattle.sed_value.specs.declared.value.Value.TheVariants.{Nothing}
 use Rattle.sed_typed.specs.declared.program.FieldForm.{FieldForm}
 use Rattle.sed_typed.specs.Contents.{Contents, Path, value_at}
 use Rattle.sed_engine.specs.Code.{Meaning, Object, Places, may_store, property_type, slot_form, slot_path, slot_type, slot_value}
-use Rattle.sed_engine.specs.Fits.{all_kept, form_at, form_of, is_kept, keeps}
+use Rattle.sed_engine.specs.Fits.{Fits, form_at, form_of, is_kept, keeps}
 use Rattle.sed_engine.specs.Whole.{HasTables, IsObject, field_form}
+use Rattle.prop_values.proofs.StoredLemmas.{kept_at}
 use Rattle.node_table.specs.declared.node.Node.{Node}
 use Rattle.comp_tree.specs.Application.{ById, Component, object_of, type_at, value_at as component_value}
 use Rattle.comp_tree.specs.Held.{IsPlaced, Nodes, by_id_of, component_of}
 use Rattle.comp_tree.proofs.MapLemmas.{get-map_values}
 use Rattle.comp_tree.proofs.TreeLemmas.{kept_here}
-use Rattle.comp_tree.specs.Links.{are_same_primitive, go_together, go_together_if_there, reads_as_int as kept_as_int}
+use Rattle.comp_tree.specs.Links.{go_together_if_there}
+pub use Rattle.sed_value.proofs.Options.{some_and}
 
 -- ---- contents that fit
-
-pub some_and : {A : Type 0} {P : A → Type 0} (o : Option A) → IsSomeAnd o P → (x : A) × (◌≡◌ {A = Option A} o (Some x)) × P x
-some_and None h = absurd h
-some_and (Some x) h = (x, refl, h)
 
 some_is : {A : Type 0} (o : Option A) → IsSome o → (x : A) × (◌≡◌ {A = Option A} o (Some x))
 some_is None h = absurd (let no : false ≡ true = h in cc)
@@ -45,21 +43,7 @@ has_path (e ∷ es) p = by_test (bytes_eq e.0 p) (has_path es p)
     by_test true rest = refl
     by_test false rest = rest
 
-kept_at : (form : Path → Option FieldForm) (es : Contents) (p : Path) (v : Value) → IsTrue (all_kept form es) → value_at es p ≡ Some v → IsTrue (is_kept (form p) v)
-kept_at form [] p v all at = absurd (let no : ◌≡◌ {A = Option Value} None (Some v) = at in cc)
-kept_at form (e ∷ es) p v all at = by_test (bytes_eq e.0 p) refl (is_kept (form e.0) e.1) refl all at (kept_at form es p v)
-  where
-    by_test : (b : Bool) → bytes_eq e.0 p ≡ b → (k : Bool) → is_kept (form e.0) e.1 ≡ k → (k && all_kept form es) ≡ true
-        → (if b then Some e.1 else value_at es p) ≡ Some v → (IsTrue (all_kept form es) → value_at es p ≡ Some v → IsTrue (is_kept (form p) v))
-        → IsTrue (is_kept (form p) v)
-    by_test true same true is all at later =
-        let value : e.1 ≡ v = cc in
-        subst (λ q. IsTrue (is_kept (form q) v)) ((bytes_eq-Decides e.0 p).0 same) (subst (λ v. IsTrue (is_kept (form e.0) v)) value is)
-    by_test true same false is all at later = absurd (let no : false ≡ true = all in cc)
-    by_test false same true is all at later = later all at
-    by_test false same false is all at later = absurd (let no : false ≡ true = all in cc)
-
-module _ (m : Meaning) (o : Object) (slot : ℕ) (t : SlotType) (tables : HasTables m) (object : IsObject m o) (is : slot_type m o.class slot ≡ Some t) where
+module _ (m : Meaning) (o : Object) (slot : ℕ) (t : SlotType) (tables : HasTables m) (fits : Fits m.fields (m.fields o.class) (m.initial o.class) o.contents) (is : slot_type m o.class slot ≡ Some t) where
   field : (i : ℕ) × (m.slot_field o.class slot ≡ Some i) × (form_at (m.fields o.class) i ≡ Some (field_form t))
   field = some_and (m.slot_field o.class slot) (subst (λ (s : Option SlotType). IfSome s (λ t. IsSomeAnd (m.slot_field o.class slot) (λ i. form_at (m.fields o.class) i ≡ Some (field_form t)))) is (tables.slot_fields o.class slot))
 
@@ -72,7 +56,7 @@ module _ (m : Meaning) (o : Object) (slot : ℕ) (t : SlotType) (tables : HasTab
   there : is_some (value_at o.contents (slot_path m o.class slot)) ≡ is_some (value_at (m.initial o.class) (slot_path m o.class slot))
   there =
       has_path o.contents (slot_path m o.class slot)
-      ∙ ap (λ paths. list_any (λ q. bytes_eq q (slot_path m o.class slot)) paths) object.fits.paths
+      ∙ ap (λ paths. list_any (λ q. bytes_eq q (slot_path m o.class slot)) paths) fits.paths
       ∙ sym (has_path (m.initial o.class) (slot_path m o.class slot))
 
   value : (v : Value) × (value_at o.contents (slot_path m o.class slot) ≡ Some v)
@@ -99,7 +83,7 @@ module _ (m : Meaning) (o : Object) (slot : ℕ) (t : SlotType) (tables : HasTab
       subst (λ v. IsTrue (is_of_type t v)) (sym (ap (λ s. option_map_or (λ v. v) s Nothing) value.1))
       (of_form t value.0
       (subst (λ f. IsTrue (is_kept f value.0)) form_is
-      (kept_at (form_of m.fields (m.fields o.class)) o.contents (slot_path m o.class slot) value.0 object.fits.values value.1)))
+      (kept_at (form_of m.fields (m.fields o.class)) o.contents (slot_path m o.class slot) value.0 fits.values value.1)))
 
 -- ---- types that go together
 
@@ -126,14 +110,14 @@ third_of_three false true c h = refl
 third_of_three false false c h = h
 
 -- what is of a type that reads as an int goes where ints go
-reads : (p : Primitive) (v : Value) → IsTrue (kept_as_int p) → IsTrue (is_of_type (Prim p) v) → IsTrue (reads_as_int v)
+reads : (p : Primitive) (v : Value) → IsTrue (is_read_as_int p) → IsTrue (is_of_type (Prim p) v) → IsTrue (reads_as_int v)
 reads ByteType v go is = first_of_three (is_of_type (Prim ByteType) v) (is_of_type (Prim ShortType) v) (is_of_type (Prim IntType) v) is
 reads ShortType v go is = second_of_three (is_of_type (Prim ByteType) v) (is_of_type (Prim ShortType) v) (is_of_type (Prim IntType) v) is
 reads IntType v go is = third_of_three (is_of_type (Prim ByteType) v) (is_of_type (Prim ShortType) v) (is_of_type (Prim IntType) v) is
 reads BoolType v go is = absurd (let no : false ≡ true = go in cc)
 reads LongType v go is = absurd (let no : false ≡ true = go in cc)
 
-goes_int : (to : Primitive) (v : Value) → IsTrue (kept_as_int to) → IsTrue (reads_as_int v) → IsTrue (goes_to (Prim to) v)
+goes_int : (to : Primitive) (v : Value) → IsTrue (is_read_as_int to) → IsTrue (reads_as_int v) → IsTrue (goes_to (Prim to) v)
 goes_int ByteType v go is = is
 goes_int ShortType v go is = is
 goes_int IntType v go is = is
@@ -144,7 +128,7 @@ both : (a b : Bool) → IsTrue (a && b) → IsTrue a × IsTrue b
 both true b h = (refl, h)
 both false b h = absurd (let no : false ≡ true = h in cc)
 
-goes_prim : (from to : Primitive) (v : Value) → IsTrue (are_same_primitive from to) → IsTrue (is_of_type (Prim from) v) → IsTrue (goes_to (Prim to) v)
+goes_prim : (from to : Primitive) (v : Value) → IsTrue (primitive_goes_with from to) → IsTrue (is_of_type (Prim from) v) → IsTrue (goes_to (Prim to) v)
 goes_prim BoolType BoolType v go is = is
 goes_prim LongType LongType v go is = right_or (reads_as_int v) _ is
 goes_prim BoolType ByteType v go is = absurd (let no : false ≡ true = go in cc)
@@ -159,7 +143,7 @@ goes_prim ByteType to v go is = goes_int to v go (reads ByteType v refl is)
 goes_prim ShortType to v go is = goes_int to v go (reads ShortType v refl is)
 goes_prim IntType to v go is = goes_int to v go (reads IntType v refl is)
 
-goes_where : (from to : SlotType) (v : Value) → IsTrue (go_together from to) → IsTrue (is_of_type from v) → IsTrue (goes_to to v)
+goes_where : (from to : SlotType) (v : Value) → IsTrue (goes_with from to) → IsTrue (is_of_type from v) → IsTrue (goes_to to v)
 goes_where (Prim p) (Prim q) v go is = goes_prim p q v go is
 goes_where (Buf n) (Buf k) v go is = subst (λ k. IsTrue (is_of_type (Buf k) v)) (eqb-true n k go) is
 goes_where (Prim p) (Buf k) v go is = absurd (let no : false ≡ true = go in cc)
@@ -175,7 +159,7 @@ slot_may_be_stored m o slot class other tables object go = by_types (slot_type m
         → IsTrue (go_together_if_there s t) → IsTrue (may_store m class other (slot_value m o slot))
     by_types (Some s) is (Some t) to go =
         subst (λ (t : Option SlotType). IsTrue (option_map_or (λ t. goes_to t (slot_value m o slot)) t false)) (sym to)
-        (goes_where s t (slot_value m o slot) go (slot_is_of_type m o slot s tables object is))
+        (goes_where s t (slot_value m o slot) go (slot_is_of_type m o slot s tables object.fits is))
     by_types (Some s) is None to go = absurd (let no : false ≡ true = go in cc)
     by_types None is t to go = absurd (let no : false ≡ true = go in cc)
 
@@ -193,7 +177,7 @@ read_is_of_type m all live id slot place out tables objects there value =
     by_type : (c : Component) → IsObject m (object_of c) → (s : Option SlotType) → slot_type m c.class slot ≡ s → (v : Value) → v ≡ slot_value m (object_of c) slot
         → IfSome s (λ t. IsTrue (is_of_type t v))
     by_type c object None type v e = tt {0}
-    by_type c object (Some t) type v e = subst (λ (v : Value). IsTrue (is_of_type t v)) (sym e) (slot_is_of_type m (object_of c) slot t tables object type)
+    by_type c object (Some t) type v e = subst (λ (v : Value). IsTrue (is_of_type t v)) (sym e) (slot_is_of_type m (object_of c) slot t tables object.fits type)
 
     by_component : (o : Object) → IsObject m o → out ≡ slot_value m o slot → (r : Option Component) → option_map object_of r ≡ Some o
         → IfSome (property_type (option_and_then (λ (c : Component). slot_form m c.class slot) r)) (λ t. IsTrue (is_of_type t out))

@@ -1,5 +1,5 @@
 -- Finite maps: what a change leaves, and a function applied to each value.
-use Rattle.std.proofs.Common.{◌≡◌, ◌≢◌, ℕ, suc, inl, inr, ◌+◌, List, [], ◌∷◌, Bool, true, false, cond, length, refl, sym, ◌∙◌, ap, subst, arith}
+use Rattle.std.proofs.Common.{◌≡◌, ◌≢◌, ℕ, suc, inl, inr, ◌+◌, List, [], ◌∷◌, Bool, true, false, cond, length, refl, sym, ◌∙◌, ap, subst}
 use Rattle.std.specs.Prelude.{Option, Some, None, is_some, ◌&&◌, T}
 use Rattle.std.specs.Option.{option_map}
 use Rattle.std.specs.FinMap as finite
@@ -9,36 +9,17 @@ use Rattle.std.specs.Ordering.{nat_cmp, eq_by_cmp, is_lt}
 use Rattle.std.specs.Cmp.{nat_cmp_total}
 use Rattle.std.proofs.lemmas.Bool.{cases_eq}
 use Rattle.comp_tree.specs.Mapped.{on_values, map_values}
-use Rattle.std.proofs.lemmas.Bool.Decides.{nat_tests}
-
-tied_same : (a : ℕ) → eq_by_cmp nat_cmp a a ≡ true
-tied_same a = grind (arith, nat_tests)
-
-pub tied_apart : (a b : ℕ) → a ≢ b → eq_by_cmp nat_cmp a b ≡ false
-tied_apart a b ne = grind (arith, nat_tests)
+pub use Rattle.std.proofs.lemmas.Option.{same_Some as some_is}
+use Rattle.sed_value.proofs.Orders.{tied_same}
+pub use Rattle.sed_value.proofs.Orders.{tied_apart}
+pub use Rattle.prop_values.proofs.MapLemmas.{get_put, get_beside, put_same, put_twice}
 
 module _ {V : Type 0} where
-  pub get_put : (m : FinMap nat_cmp V) (k : ℕ) (x : V) → finite.get (finite.insert m k x) k ≡ Some x
-  get_put m k x = finite.get-insert nat_cmp_total m k x k ∙ rw (tied_same k) refl
-
-  pub get_beside : (m : FinMap nat_cmp V) (k : ℕ) (x : V) (q : ℕ) → q ≢ k → finite.get (finite.insert m k x) q ≡ finite.get m q
-  get_beside m k x q ne = finite.get-insert nat_cmp_total m k x q ∙ rw (tied_apart q k ne) refl
-
   pub len_over : (m : FinMap nat_cmp V) (k : ℕ) (x y : V) → finite.get m k ≡ Some x → finite.len (finite.insert m k y) ≡ finite.len m
   len_over m k x y e = finite.len-insert nat_cmp_total m k y ∙ ap (λ r. cond (is_some r) (finite.len m) (finite.len m + 1)) e
 
   pub len_more : (m : FinMap nat_cmp V) (k : ℕ) (y : V) → finite.get m k ≡ None → finite.len (finite.insert m k y) ≡ finite.len m + 1
   len_more m k y e = finite.len-insert nat_cmp_total m k y ∙ ap (λ r. cond (is_some r) (finite.len m) (finite.len m + 1)) e
-
-  -- to put what is there changes nothing
-  pub put_same : (m : FinMap nat_cmp V) (k : ℕ) (x : V) → finite.get m k ≡ Some x → finite.insert m k x ≡ m
-  put_same m k x e = finite.same_map nat_cmp_total finite.nat_cmp-IsAntisymmetric _ _ (λ q. elim (cases_eq q k) [
-    | inl is ↦ ap (finite.get (finite.insert m k x)) is ∙ get_put m k x ∙ sym e ∙ ap (finite.get m) (sym is)
-    | inr ne ↦ get_beside m k x q ne
-  ])
-
-  pub some_is : (x y : V) → ◌≡◌ {A = Option V} (Some x) (Some y) → x ≡ y
-  some_is x y e = cc
 
 module _ {V W : Type 0} (f : V → W) where
   mapped_or : (b : Bool) (x : V) (r : Option V) → cond b (Some (f x)) (option_map f r) ≡ option_map f (cond b (Some x) r)
@@ -96,12 +77,3 @@ module _ {V : Type 0} where
 
   pub len_less : (m : FinMap nat_cmp V) (k : ℕ) (x : V) → finite.get m k ≡ Some x → finite.len (finite.remove m k) + 1 ≡ finite.len m
   len_less m k x some = sym (len_more (finite.remove m k) k x (taken_out m k)) ∙ ap finite.len (put_whole m k x some)
-
-  -- what is put twice stands as it was put last
-  pub put_twice : (m : FinMap nat_cmp V) (k : ℕ) (x y : V) → finite.insert (finite.insert m k x) k y ≡ finite.insert m k y
-  put_twice m k x y = finite.same_map nat_cmp_total finite.nat_cmp-IsAntisymmetric _ _ (λ q. elim (cases_eq q k) [
-    | inl is ↦
-        ap (finite.get (finite.insert (finite.insert m k x) k y)) is ∙ get_put (finite.insert m k x) k y
-        ∙ sym (ap (finite.get (finite.insert m k y)) is ∙ get_put m k y)
-    | inr ne ↦ get_beside (finite.insert m k x) k y q ne ∙ get_beside m k x q ne ∙ sym (get_beside m k y q ne)
-  ])

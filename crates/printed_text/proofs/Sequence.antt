@@ -36,7 +36,7 @@ take_beyond (suc n) (x ∷ xs) less =
     ap (λ (rest : List ℕ). x ∷ rest) (take_beyond n xs (omega (arith, l)))
 
 -- a front of a part is a front of the whole, what stands before the part with it
-front : (n : ℕ) (first part rest : List ℕ) → (k : ℕ) × (first ++ take n part ≡ take k (first ++ (part ++ rest)))
+pub front : (n : ℕ) (first part rest : List ℕ) → (k : ℕ) × (first ++ take n part ≡ take k (first ++ (part ++ rest)))
 front n first part rest = elim (cases_lt (length part) n) [
   | inl less ↦ (
     length first + length part,

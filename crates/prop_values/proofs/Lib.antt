@@ -4,3 +4,4 @@ pub mod ReadLemmas
 pub mod SchemaLemmas
 pub mod ConfigLemmas
 pub mod GivenLemmas
+pub mod StoredLemmas

@@ -1,26 +1,14 @@
 -- Finite maps: what is there after something is put.
-use Rattle.std.proofs.Common.{◌≡◌, ◌≢◌, ℕ, refl, arith, inl, inr, true, false, sym, ◌∙◌, ap}
+use Rattle.std.proofs.Common.{◌≡◌, ℕ, inl, inr, sym, ◌∙◌, ap}
 use Rattle.std.specs.Prelude.{Some}
 use Rattle.std.specs.FinMap as finite
 use Rattle.std.specs.FinMap.{FinMap}
-use Rattle.std.specs.Ordering.{nat_cmp, eq_by_cmp}
+use Rattle.std.specs.Ordering.{nat_cmp}
 use Rattle.std.specs.Cmp.{nat_cmp_total}
 use Rattle.std.proofs.lemmas.Bool.{cases_eq}
-use Rattle.std.proofs.lemmas.Bool.Decides.{nat_tests}
-
-tied_same : (a : ℕ) → eq_by_cmp nat_cmp a a ≡ true
-tied_same a = grind (arith, nat_tests)
-
-tied_apart : (a b : ℕ) → a ≢ b → eq_by_cmp nat_cmp a b ≡ false
-tied_apart a b ne = grind (arith, nat_tests)
+pub use Rattle.sed_value.proofs.Orders.{put_at as get_put, put_beside as get_beside}
 
 module _ {V : Type 0} where
-  pub get_put : (m : FinMap nat_cmp V) (k : ℕ) (x : V) → finite.get (finite.insert m k x) k ≡ Some x
-  get_put m k x = finite.get-insert nat_cmp_total m k x k ∙ rw (tied_same k) refl
-
-  get_beside : (m : FinMap nat_cmp V) (k : ℕ) (x : V) (q : ℕ) → q ≢ k → finite.get (finite.insert m k x) q ≡ finite.get m q
-  get_beside m k x q ne = finite.get-insert nat_cmp_total m k x q ∙ rw (tied_apart q k ne) refl
-
   -- to put what is there changes nothing
   pub put_same : (m : FinMap nat_cmp V) (k : ℕ) (x : V) → finite.get m k ≡ Some x → finite.insert m k x ≡ m
   put_same m k x e = finite.same_map nat_cmp_total finite.nat_cmp-IsAntisymmetric _ _ (λ q. elim (cases_eq q k) [

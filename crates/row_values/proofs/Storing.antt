@@ -1,116 +1,25 @@
 -- Values that are stored in slots one after another, and what is read there then.
-use Rattle.std.proofs.Common.{◌≡◌, ℕ, zero, suc, ◌<◌, ◌+◌, Bool, true, false, IsTrue, pos, List, [], ◌∷◌, length, refl, sym, subst, ◌∙◌, ap, arith, eqb-true}
-use Rattle.std.specs.Prelude.{Option, Some, None, IfSome, IsSome, IsSomeAnd, is_some, nat_lt, ◌==◌, ◌&&◌, if◌then◌else◌, map as map_list, filter, slice_get}
+use Rattle.std.proofs.Common.{◌≡◌, ℕ, zero, suc, Bool, true, false, IsTrue, List, [], ◌∷◌, length, refl, sym, subst, ◌∙◌, ap, arith, eqb-true}
+use Rattle.std.specs.Prelude.{Option, Some, None, IfSome, IsSome, IsSomeAnd, is_some, ◌==◌, map as map_list, slice_get}
 use Rattle.std.specs.Option.{option_map, option_map_or}
-use Rattle.std.specs.List.{AllByRecursion, enumerate_from, filter_map, zip}
+use Rattle.std.specs.List.{AllByRecursion, filter_map, zip}
 use Rattle.std.specs.Str.{bytes_eq}
-use Rattle.std.specs.Int.{w8, w16}
 use Rattle.std.proofs.lemmas.Bool.Decides.{nat_tests}
 use Rattle.std.proofs.lemmas.Slice.Eq.{bytes_eq-Decides}
-use Rattle.sed_value.specs.declared.slot_type.Primitive.TheVariants.{Bool as BoolType, Byte as ByteType, Short as ShortType, Int as IntType, Long as LongType}
 use Rattle.sed_value.specs.declared.slot_type.SlotType.{SlotType}
-use Rattle.sed_value.specs.declared.slot_type.SlotType.TheVariants.{Prim as PrimSlot, Buf as BufSlot}
 use Rattle.sed_value.specs.declared.value.Value.{Value}
-use Rattle.sed_value.specs.declared.value.Value.TheVariants.{Bool as Truth, Byte, Short, Int, Long, Buf, Nothing}
-use Rattle.sed_value.specs.Value.{is_of_type, stored}
-use Rattle.sed_value.specs.Wrap.{low_bits}
-use Rattle.sed_typed.specs.declared.schema.SlotForm.{SlotForm}
-use Rattle.sed_typed.specs.declared.schema.SlotForm.TheVariants.{Prop, Action}
-use Rattle.sed_typed.specs.declared.schema.SlotInfo.{SlotInfo}
-use Rattle.sed_typed.specs.Classes.{slots}
+use Rattle.sed_value.specs.declared.value.Value.TheVariants.{Nothing}
+use Rattle.sed_value.specs.Value.{stored}
 use Rattle.sed_typed.specs.Contents.{Contents, Path, value_at, with_value}
-use Rattle.sed_engine.specs.Code.{Meaning, Object, is_property, is_same_field, new_object, property_type, slot_keeps, slot_path, slot_type, slot_value}
+use Rattle.sed_engine.specs.Code.{Meaning, Object, is_property, is_same_field, new_object, slot_keeps, slot_path, slot_type, slot_value}
 use Rattle.sed_engine.specs.Fits.{form_at}
 use Rattle.sed_engine.specs.Whole.{HasTables, field_form}
 use Rattle.std.proofs.lemmas.Option.{slice_get-map}
-use Rattle.prop_values.specs.Properties.{is_config, is_property_form}
+use Rattle.prop_values.proofs.StoredLemmas.{beside_written, never, stored_stays, there_written}
 use Rattle.comp_tree.specs.Parts.{config_slots, with_slots}
 use Rattle.app_front.specs.Rows.{AreOfTypes}
+use Rattle.app_told.proofs.Objects.{IsProperty, config_are}
 use Rattle.row_values.specs.Pairs.{Agree, AreProperties}
-
--- ---- a slot keeps a value of its type as it is
-
-byte_stays : (n : ℕ) → nat_lt n 256 ≡ true → low_bits w8 (pos n) ≡ n
-byte_stays n few =
-    let lt : n < 256 = grind (arith, nat_tests) in
-    omega arith
-
-short_stays : (n : ℕ) → nat_lt n 65536 ≡ true → low_bits w16 (pos n) ≡ n
-short_stays n few =
-    let lt : n < 65536 = grind (arith, nat_tests) in
-    omega arith
-
-never : {A : Type 0} → IsTrue false → A
-never h = absurd (let no : false ≡ true = h in cc)
-
-pub stored_stays : (t : SlotType) (v : Value) → IsTrue (is_of_type t v) → stored t v ≡ v
-stored_stays (PrimSlot BoolType) (Truth n) is = refl
-stored_stays (PrimSlot BoolType) (Byte n) is = never is
-stored_stays (PrimSlot BoolType) (Short n) is = never is
-stored_stays (PrimSlot BoolType) (Int n) is = never is
-stored_stays (PrimSlot BoolType) (Long n) is = never is
-stored_stays (PrimSlot BoolType) (Buf bytes) is = never is
-stored_stays (PrimSlot BoolType) Nothing is = never is
-stored_stays (PrimSlot ByteType) (Truth n) is = never is
-stored_stays (PrimSlot ByteType) (Byte n) is = ap Byte (byte_stays n is)
-stored_stays (PrimSlot ByteType) (Short n) is = never is
-stored_stays (PrimSlot ByteType) (Int n) is = never is
-stored_stays (PrimSlot ByteType) (Long n) is = never is
-stored_stays (PrimSlot ByteType) (Buf bytes) is = never is
-stored_stays (PrimSlot ByteType) Nothing is = never is
-stored_stays (PrimSlot ShortType) (Truth n) is = never is
-stored_stays (PrimSlot ShortType) (Byte n) is = never is
-stored_stays (PrimSlot ShortType) (Short n) is = ap Short (short_stays n is)
-stored_stays (PrimSlot ShortType) (Int n) is = never is
-stored_stays (PrimSlot ShortType) (Long n) is = never is
-stored_stays (PrimSlot ShortType) (Buf bytes) is = never is
-stored_stays (PrimSlot ShortType) Nothing is = never is
-stored_stays (PrimSlot IntType) (Truth n) is = never is
-stored_stays (PrimSlot IntType) (Byte n) is = never is
-stored_stays (PrimSlot IntType) (Short n) is = never is
-stored_stays (PrimSlot IntType) (Int n) is = refl
-stored_stays (PrimSlot IntType) (Long n) is = never is
-stored_stays (PrimSlot IntType) (Buf bytes) is = never is
-stored_stays (PrimSlot IntType) Nothing is = never is
-stored_stays (PrimSlot LongType) (Truth n) is = never is
-stored_stays (PrimSlot LongType) (Byte n) is = never is
-stored_stays (PrimSlot LongType) (Short n) is = never is
-stored_stays (PrimSlot LongType) (Int n) is = never is
-stored_stays (PrimSlot LongType) (Long n) is = refl
-stored_stays (PrimSlot LongType) (Buf bytes) is = never is
-stored_stays (PrimSlot LongType) Nothing is = never is
-stored_stays (BufSlot most) (Truth n) is = never is
-stored_stays (BufSlot most) (Byte n) is = never is
-stored_stays (BufSlot most) (Short n) is = never is
-stored_stays (BufSlot most) (Int n) is = never is
-stored_stays (BufSlot most) (Long n) is = never is
-stored_stays (BufSlot most) (Buf bytes) is = refl
-stored_stays (BufSlot most) Nothing is = never is
-
--- ---- a value at a path
-
-module _ (p : Path) (v : Value) where
-  there_written : (es : Contents) → value_at (with_value es p v) p ≡ option_map (λ _. v) (value_at es p)
-  there_written [] = refl
-  there_written (e ∷ es) = by_test (bytes_eq e.0 p) (there_written es)
-    where
-      by_test : (b : Bool) → value_at (with_value es p v) p ≡ option_map (λ _. v) (value_at es p)
-          → (if b then Some (if b then v else e.1) else value_at (with_value es p v) p) ≡ option_map (λ _. v) (if b then Some e.1 else value_at es p)
-      by_test true rest = refl
-      by_test false rest = rest
-
-  beside_written : (q : Path) → bytes_eq p q ≡ false → (es : Contents) → value_at (with_value es p v) q ≡ value_at es q
-  beside_written q other [] = refl
-  beside_written q other (e ∷ es) = by_test (bytes_eq e.0 q) refl (bytes_eq e.0 p) refl (beside_written q other es)
-    where
-      by_test : (b : Bool) → bytes_eq e.0 q ≡ b → (c : Bool) → bytes_eq e.0 p ≡ c → value_at (with_value es p v) q ≡ value_at es q
-          → (if b then Some (if c then v else e.1) else value_at (with_value es p v) q) ≡ (if b then Some e.1 else value_at es q)
-      by_test false at c is rest = rest
-      by_test true at false is rest = refl
-      by_test true at true is rest =
-          let same : p ≡ q = sym ((bytes_eq-Decides e.0 p).0 is) ∙ (bytes_eq-Decides e.0 q).0 at in
-          let yes : bytes_eq p q ≡ true = (bytes_eq-Decides p q).1 same in
-          absurd (let no : false ≡ true = sym other ∙ yes in cc)
 
 -- ---- pairs of slots and values, stored in an object
 
@@ -219,34 +128,6 @@ module _ (m : Meaning) (class : ℕ) where
       by_fields (Some i) (Some j) some_f some_g same = let e : i ≡ j = ap head_of same in grind (arith, nat_tests)
 
 -- ---- config slots are properties
-
-record IsProperty (m : Meaning) (class slot : ℕ) : Type 0 where
-  type : SlotType
-  is : slot_type m class slot ≡ Some type
-
-by_form : (m : Meaning) (class slot : ℕ) (s : SlotInfo) → slice_get (slots m.schema.classes class) slot ≡ Some s → (form : SlotForm) (config : Bool) → s.form ≡ form
-    → IsTrue (is_property_form form && config) → IsProperty m class slot
-by_form m class slot s at (Prop t) config same is = record {
-  type = t;
-  is = ap (λ r. property_type (option_map (λ (s : SlotInfo). s.form) r)) at ∙ ap (λ f. property_type (Some f)) same;
-}
-by_form m class slot s at (Action a) config same is = never is
-
-are_properties : (m : Meaning) (class k : ℕ) (rest : List SlotInfo) → ((j : ℕ) → slice_get rest j ≡ slice_get (slots m.schema.classes class) (k + j))
-    → AllByRecursion (IsProperty m class) (map_list (λ (e : ℕ × SlotInfo). e.0) (filter (λ (e : ℕ × SlotInfo). is_config e.1) (enumerate_from k rest)))
-are_properties m class k [] suffix = tt
-are_properties m class k (s ∷ rest) suffix = by_test (is_config s) refl (are_properties m class (k + 1) rest (λ j. suffix (suc j) ∙ ap (slice_get (slots m.schema.classes class)) (let e : k + suc j ≡ (k + 1) + j = omega arith in e)))
-  where
-    here : slice_get (slots m.schema.classes class) k ≡ Some s
-    here = ap (slice_get (slots m.schema.classes class)) (let e : k ≡ k + 0 = omega arith in e) ∙ sym (suffix 0)
-
-    by_test : (b : Bool) → is_config s ≡ b → AllByRecursion (IsProperty m class) (map_list (λ (e : ℕ × SlotInfo). e.0) (filter (λ (e : ℕ × SlotInfo). is_config e.1) (enumerate_from (k + 1) rest)))
-        → AllByRecursion (IsProperty m class) (map_list (λ (e : ℕ × SlotInfo). e.0) (if b then (k, s) ∷ filter (λ (e : ℕ × SlotInfo). is_config e.1) (enumerate_from (k + 1) rest) else filter (λ (e : ℕ × SlotInfo). is_config e.1) (enumerate_from (k + 1) rest)))
-    by_test true is later = (by_form m class k s here s.form s.config refl is, later)
-    by_test false is later = later
-
-config_are : (m : Meaning) (class : ℕ) → AllByRecursion (IsProperty m class) (config_slots m class)
-config_are m class = are_properties m class 0 (slots m.schema.classes class) (λ j. ap (slice_get (slots m.schema.classes class)) (let e : j ≡ 0 + j = omega arith in e))
 
 at_recursion : {A : Type 0} (P : A → Type 0) (xs : List A) (k : ℕ) (x : A) → AllByRecursion P xs → slice_get xs k ≡ Some x → P x
 at_recursion {A} P [] k x all at = absurd (let no : ◌≡◌ {A = Option A} None (Some x) = at in cc)

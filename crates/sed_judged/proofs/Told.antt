@@ -1,5 +1,5 @@
 -- The least fault of a method, as all of its faults give it. `Both` is the law of two lists together.
-use Rattle.std.proofs.Common.{◌≡◌, ℕ, Bool, true, false, if◌then◌else◌, List, [], ◌∷◌, ◌++◌, map, Option, Some, None, option_map, refl, sym, ap, ◌∙◌}
+use Rattle.std.proofs.Common.{◌≡◌, Bool, true, false, if◌then◌else◌, List, [], ◌∷◌, ◌++◌, map, Option, Some, None, option_map, refl, sym, ap, ◌∙◌}
 use Rattle.sed_units.specs.declared.leaves.Param.{Param}
 use Rattle.sed_names.specs.Names.{Names}
 use Rattle.sed_faults.specs.Faults.{least, lesser}
@@ -7,8 +7,7 @@ use Rattle.sed_terms.specs.declared.judged.Fault.{Fault as TermFault}
 use Rattle.sed_terms.specs.declared.judged.Judged.{Judged}
 use Rattle.sed_terms.specs.declared.judged.Judged.TheVariants.{Sound, Unknown}
 use Rattle.sed_terms.specs.Faults.{all_faults, least_fault, told, is_before as is_before_term, least as least_term, lesser as lesser_term}
-use Rattle.sed_scope.specs.Scope.{Scope, with_local}
-use Rattle.sed_forms.specs.Declarations.{is_free, has_free_name, free_too, are_free_names}
+use Rattle.sed_statements.proofs.FormsTold.{free_names_told}
 use Rattle.sed_statements.specs.declared.enclosing.Enclosing.{Enclosing}
 use Rattle.sed_statements.specs.Methods.{beginning, judge_params}
 use Rattle.sed_judged.specs.Bodies.{as_fault}
@@ -18,29 +17,6 @@ abbrev pub Both : Type 0
 Both = (xs ys : List TermFault) → least_term (xs ++ ys) ≡ lesser_term (least_term xs) (least_term ys)
 
 -- ---- parameters
-
-free_told : (at : ℕ) (free : Bool) → told (has_free_name all_faults at free) ≡ has_free_name least_fault at free
-free_told at true = refl
-free_told at false = refl
-
-free_too_told : Both → (x y : Judged Bool (List TermFault)) →
-    told (free_too all_faults x y) ≡ free_too least_fault (told x) (told y)
-free_too_told both (Sound a) (Sound b) = refl
-free_too_told both (Sound a) (Unknown g) = refl
-free_too_told both (Unknown f) (Sound b) = refl
-free_too_told both (Unknown f) (Unknown g) =
-    ap (λ h. let x : Judged Bool (Option TermFault) = Unknown h in x) (both f g)
-
-free_names_told : Both → (n : Names) (s : Scope) (x : Judged Bool (List TermFault)) (ps : List Param) →
-    told (are_free_names all_faults n s x ps) ≡ are_free_names least_fault n s (told x) ps
-free_names_told both n s x [] = refl
-free_names_told both n s x (p ∷ ps) =
-    let free = is_free s p.name.bytes in
-    let z = with_local n s p.kind p.name.bytes in
-    free_names_told both n z (free_too all_faults x (has_free_name all_faults p.at free)) ps
-    ∙ ap (λ y. are_free_names least_fault n z y ps)
-    (free_too_told both x (has_free_name all_faults p.at free)
-    ∙ ap (free_too least_fault (told x)) (free_told p.at free))
 
 pub params_told : Both → (n : Names) (c : Enclosing) (ps : List Param) →
     told (judge_params all_faults n c ps) ≡ judge_params least_fault n c ps

@@ -1,55 +1,19 @@
 -- Lines that are put one after another, and counts that go on.
-use Rattle.std.proofs.Common.{◌≡◌, ◌∙◌, ◌<◌, ◌+◌, ℕ, zero, suc, inl, inr, List, [], ◌∷◌, ◌++◌, length, take}
-use Rattle.std.proofs.Common.{refl, sym, ap}
+use Rattle.std.proofs.Common.{◌≡◌, ◌∙◌, ◌<◌, ◌+◌, ℕ, inl, inr, List, [], ◌++◌, length, take}
+use Rattle.std.proofs.Common.{sym, ap}
 use Rattle.std.proofs.Common.{append_assoc, arith}
-use Rattle.std.specs.Prelude.{Option, Some, None, drop, min, slice_index_or}
+use Rattle.std.specs.Prelude.{Option, drop, min, slice_index_or}
 use Rattle.std.proofs.lemmas.Bool.{cases_lt}
 use Rattle.std.proofs.lemmas.Grind.{flat_map-append}
-use Rattle.std.proofs.lemmas.List.{flat_map_more, take-append-drop, take-append-le, take_more}
+use Rattle.std.proofs.lemmas.List.{flat_map_more, take-append-drop, take_more}
 use Rattle.std.proofs.Math.Nat.{min-eq_left, min-eq_right}
-use Rattle.std.proofs.Math.Seq.{take-append-add, take-length}
 use Rattle.sed_outside.specs.Sink.{PutsFront, with_text}
+use Rattle.printed_text.proofs.Sequence.{front}
+pub use Rattle.printed_text.proofs.Sequence.{with_more, with_none}
 use Rattle.dasp_session.specs.Outbox.{Datagram}
 use Rattle.sed_node.specs.Running.{counted, line_of, lines_of}
 
 -- ---- text
-
-pub with_more : (text : Option (List ℕ)) (first later : List ℕ) → with_text (with_text text first) later
-    ≡ with_text text (first ++ later)
-with_more None first later = refl
-with_more (Some text) first later = ap Some (append_assoc text first later)
-
-pub with_none : (text : Option (List ℕ)) → text ≡ with_text text []
-with_none None = refl
-with_none (Some text) = ap Some (sym (no_more text))
-  where
-    no_more : (xs : List ℕ) → xs ++ [] ≡ xs
-    no_more [] = refl
-    no_more (x ∷ xs) = ap (λ (rest : List ℕ). x ∷ rest) (no_more xs)
-
-take_beyond : (n : ℕ) (xs : List ℕ) → length xs < n → take n xs ≡ xs
-take_beyond zero xs less = absurd (let no : length xs < 0 = less in omega (arith, no))
-take_beyond (suc n) [] less = refl
-take_beyond (suc n) (x ∷ xs) less =
-    let l : suc (length xs) < suc n = less in
-    ap (λ (rest : List ℕ). x ∷ rest) (take_beyond n xs (omega (arith, l)))
-
--- a front of a part is a front of the whole, what stands before the part with it
-front : (n : ℕ) (first part rest : List ℕ)
-    → (k : ℕ) × (first ++ take n part ≡ take k (first ++ (part ++ rest)))
-front n first part rest = elim (cases_lt (length part) n) [
-  | inl less ↦ (
-    length first + length part,
-    ap (λ (xs : List ℕ). first ++ xs) (take_beyond n part less ∙ sym (take-length part)
-        ∙ sym (take-append-le (length part) part rest (omega arith)))
-        ∙ sym (take-append-add first (part ++ rest) (length part)),
-  )
-  | inr le ↦ (
-    length first + n,
-    ap (λ (xs : List ℕ). first ++ xs) (sym (take-append-le n part rest le))
-        ∙ sym (take-append-add first (part ++ rest) n),
-  )
-]
 
 pub puts_front : (text middle now : Option (List ℕ)) (first part rest all : List ℕ) → middle ≡ with_text text first
     → PutsFront middle now part → all ≡ first ++ (part ++ rest) → PutsFront text now all
