@@ -2,7 +2,7 @@
 ghost use Rattle.std.specs.Prelude.{◌≡◌, ◌<◌, ◌↔◌, ◌||◌, ◌&&◌, ◌==◌, ℕ, IsTrue, length, slice_get, option_copied};
 ghost use Rattle.std.specs.List.{All, AllPairs};
 ghost use Rattle.sed_engine.specs.Code.{Meaning, property_type, slot_form};
-ghost use Rattle.comp_tree.specs.Links.{go_together as go_together_as, go_together_if_there, are_same_primitive as are_same_as, reads_as_int as reads_so};
+ghost use Rattle.comp_tree.specs.Links.{go_together_if_there};
 ghost use Rattle.link_table.specs.Links.{AreInOrder, is_before as comes_before};
 ghost use Rattle.row_tree.specs.Rows.{Ascend};
 ghost use Rattle.app_told.specs.FormedFile.{IsLinkIn, row_with, tree_rows, type_in};
@@ -12,7 +12,7 @@ use link_table::LinkRec;
 use prop_values::form_of;
 use row_tree::{TreeRow, place_of};
 use sed_typed::{Schema, SlotForm, TypeNo};
-use sed_value::{Id, Prim, SlotType};
+use sed_value::{Id, SlotType};
 
 /// Whether each link stands before the ones behind it, by the target's id and then its slot.
 pub fn are_in_order(links: &[LinkRec]) -> bool
@@ -114,38 +114,7 @@ fn go_together(from: Option<SlotType>, to: Option<SlotType>) -> bool
     ensures { result ≡ go_together_if_there from to }
 {
     match (from, to) {
-        (Some(from), Some(to)) => may_go(from, to),
+        (Some(from), Some(to)) => from.goes_with(to),
         _ => false,
-    }
-}
-
-// Whether values of one type may go to the other.
-fn may_go(from: SlotType, to: SlotType) -> bool
-    ensures { result ≡ go_together_as from to }
-{
-    match (from, to) {
-        (SlotType::Prim(from), SlotType::Prim(to)) => are_same(from, to),
-        (SlotType::Buf(from), SlotType::Buf(to)) => from == to,
-        _ => false,
-    }
-}
-
-// Whether two primitives are equal, or are both read as an int.
-fn are_same(p: Prim, q: Prim) -> bool
-    ensures { result ≡ are_same_as p q }
-{
-    match (p, q) {
-        (Prim::Bool, Prim::Bool) => true,
-        (Prim::Long, Prim::Long) => true,
-        _ => reads_as_int(p) && reads_as_int(q),
-    }
-}
-
-fn reads_as_int(p: Prim) -> bool
-    ensures { result ≡ reads_so p }
-{
-    match p {
-        Prim::Byte | Prim::Short | Prim::Int => true,
-        Prim::Bool | Prim::Long => false,
     }
 }

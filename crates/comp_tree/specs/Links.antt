@@ -1,10 +1,8 @@
 -- Links between slots, and what is copied along them.
-use Rattle.std.specs.Prelude.{ℕ, ◌==◌, ◌&&◌, Bool, true, false, not, if◌then◌else◌, List, Option, Some, ℤ}
+use Rattle.std.specs.Prelude.{ℕ, Bool, false, not, if◌then◌else◌, List, Option, Some, ℤ}
 use Rattle.std.specs.List.{fold}
-use Rattle.sed_value.specs.declared.slot_type.Primitive.{Primitive}
-use Rattle.sed_value.specs.declared.slot_type.Primitive.TheVariants.{Bool as BoolType, Byte as ByteType, Short as ShortType, Int as IntType, Long as LongType}
+use Rattle.sed_value.specs.SlotType.{goes_with}
 use Rattle.sed_value.specs.declared.slot_type.SlotType.{SlotType}
-use Rattle.sed_value.specs.declared.slot_type.SlotType.TheVariants.{Prim, Buf}
 use Rattle.sed_value.specs.declared.value.Value.{Value}
 pub use Rattle.link_table.specs.Links.{is_same_link, has_target, is_before, with_link, without_link, without_links_at, links_into}
 use Rattle.sed_engine.specs.declared.call.Callback.TheVariants.{Changed}
@@ -15,26 +13,9 @@ use Rattle.prop_values.specs.Same.{is_same_value}
 
 -- ---- which slots go together
 
-abbrev pub reads_as_int : Primitive → Bool
-reads_as_int ByteType = true
-reads_as_int ShortType = true
-reads_as_int IntType = true
-reads_as_int BoolType = false
-reads_as_int LongType = false
-
-abbrev pub are_same_primitive : Primitive → Primitive → Bool
-are_same_primitive BoolType BoolType = true
-are_same_primitive LongType LongType = true
-are_same_primitive p q = reads_as_int p && reads_as_int q
-
--- equal types, or both among byte, short and int; Bufs of one size
-abbrev pub go_together : SlotType → SlotType → Bool
-go_together (Prim p) (Prim q) = are_same_primitive p q
-go_together (Buf n) (Buf k) = n == k
-go_together from to = false
-
+-- both are properties, and the type of the first goes with that of the other
 abbrev pub go_together_if_there : Option SlotType → Option SlotType → Bool
-go_together_if_there (Some from) (Some to) = go_together from to
+go_together_if_there (Some from) (Some to) = goes_with from to
 go_together_if_there from to = false
 
 -- ---- values that are stored

@@ -6,12 +6,12 @@ ghost use Rattle.sed_typed.specs.Classes.{slots};
 ghost use Rattle.sed_engine.specs.Code.{property_type};
 ghost use Rattle.comp_tree.specs.Application.{form_at as form_in, is_live as is_live_in, type_at};
 ghost use Rattle.comp_tree.specs.Held.{components_of};
-ghost use Rattle.comp_tree.specs.Links.{go_together as go_together_as, go_together_if_there, are_same_primitive as are_same_as, reads_as_int as reads_so};
+ghost use Rattle.comp_tree.specs.Links.{go_together_if_there};
 
 use comp_tree::Tree;
 use sed_engine::Engine;
 use sed_typed::{Schema, SlotForm, SlotNo, TypeNo};
-use sed_value::{Id, Prim, SlotType};
+use sed_value::{Id, SlotType};
 
 /// Whether a component is live.
 pub fn is_live<E: Engine>(tree: &Tree<E>, id: Id) -> bool
@@ -59,42 +59,7 @@ pub fn go_together(from: Option<SlotType>, to: Option<SlotType>) -> bool
     ensures { result ≡ go_together_if_there from to }
 {
     match (from, to) {
-        (Some(from), Some(to)) => may_go(from, to),
+        (Some(from), Some(to)) => from.goes_with(to),
         _ => false,
-    }
-}
-
-// Whether values of one type may go to the other.
-fn may_go(from: SlotType, to: SlotType) -> bool
-    ensures { result ≡ go_together_as from to }
-{
-    match (from, to) {
-        (SlotType::Prim(from), SlotType::Prim(to)) => are_same(from, to),
-        (SlotType::Buf(from), SlotType::Buf(to)) => from == to,
-        _ => false,
-    }
-}
-
-// Whether two primitives are equal, or both are read as an int.
-fn are_same(from: Prim, to: Prim) -> bool
-    ensures { result ≡ are_same_as from to }
-{
-    match (from, to) {
-        (Prim::Bool, Prim::Bool) => true,
-        (Prim::Long, Prim::Long) => true,
-        _ => reads_as_int(from) && reads_as_int(to),
-    }
-}
-
-// Whether what is kept of it is read as an int.
-fn reads_as_int(kind: Prim) -> bool
-    ensures { result ≡ reads_so kind }
-{
-    match kind {
-        Prim::Byte => true,
-        Prim::Short => true,
-        Prim::Int => true,
-        Prim::Bool => false,
-        Prim::Long => false,
     }
 }
