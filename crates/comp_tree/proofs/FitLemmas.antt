@@ -6,7 +6,6 @@ use Rattle.std.specs.FinMap as finite
 use Rattle.std.specs.List.{list_any}
 use Rattle.std.specs.Str.{bytes_eq}
 use Rattle.std.proofs.lemmas.Bool.{eqb-true}
-use Rattle.std.proofs.lemmas.Slice.Eq.{bytes_eq-Decides}
 use Rattle.sed_value.specs.SlotType.{goes_with, is_read_as_int, primitive_goes_with}
 use Rattle.sed_value.specs.Value.{goes_to, is_of_type, reads_as_int}
 use Rattle.sed_value.specs.declared.slot_type.Primitive.{Primitive}
@@ -18,8 +17,9 @@ use Rattle.sed_value.specs.declared.value.Value.TheVariants.{Nothing}
 use Rattle.sed_typed.specs.declared.program.FieldForm.{FieldForm}
 use Rattle.sed_typed.specs.Contents.{Contents, Path, value_at}
 use Rattle.sed_engine.specs.Code.{Meaning, Object, Places, may_store, property_type, slot_form, slot_path, slot_type, slot_value}
-use Rattle.sed_engine.specs.Fits.{Fits, all_kept, form_at, form_of, is_kept, keeps}
+use Rattle.sed_engine.specs.Fits.{Fits, form_at, form_of, is_kept, keeps}
 use Rattle.sed_engine.specs.Whole.{HasTables, IsObject, field_form}
+use Rattle.prop_values.proofs.StoredLemmas.{kept_at}
 use Rattle.node_table.specs.declared.node.Node.{Node}
 use Rattle.comp_tree.specs.Application.{ById, Component, object_of, type_at, value_at as component_value}
 use Rattle.comp_tree.specs.Held.{IsPlaced, Nodes, by_id_of, component_of}
@@ -42,20 +42,6 @@ has_path (e ∷ es) p = by_test (bytes_eq e.0 p) (has_path es p)
         → is_some (if b then Some e.1 else value_at es p) ≡ (b || list_any (λ q. bytes_eq q p) (map (λ e. e.0) es))
     by_test true rest = refl
     by_test false rest = rest
-
-kept_at : (form : Path → Option FieldForm) (es : Contents) (p : Path) (v : Value) → IsTrue (all_kept form es) → value_at es p ≡ Some v → IsTrue (is_kept (form p) v)
-kept_at form [] p v all at = absurd (let no : ◌≡◌ {A = Option Value} None (Some v) = at in cc)
-kept_at form (e ∷ es) p v all at = by_test (bytes_eq e.0 p) refl (is_kept (form e.0) e.1) refl all at (kept_at form es p v)
-  where
-    by_test : (b : Bool) → bytes_eq e.0 p ≡ b → (k : Bool) → is_kept (form e.0) e.1 ≡ k → (k && all_kept form es) ≡ true
-        → (if b then Some e.1 else value_at es p) ≡ Some v → (IsTrue (all_kept form es) → value_at es p ≡ Some v → IsTrue (is_kept (form p) v))
-        → IsTrue (is_kept (form p) v)
-    by_test true same true is all at later =
-        let value : e.1 ≡ v = cc in
-        subst (λ q. IsTrue (is_kept (form q) v)) ((bytes_eq-Decides e.0 p).0 same) (subst (λ v. IsTrue (is_kept (form e.0) v)) value is)
-    by_test true same false is all at later = absurd (let no : false ≡ true = all in cc)
-    by_test false same true is all at later = later all at
-    by_test false same false is all at later = absurd (let no : false ≡ true = all in cc)
 
 module _ (m : Meaning) (o : Object) (slot : ℕ) (t : SlotType) (tables : HasTables m) (fits : Fits m.fields (m.fields o.class) (m.initial o.class) o.contents) (is : slot_type m o.class slot ≡ Some t) where
   field : (i : ℕ) × (m.slot_field o.class slot ≡ Some i) × (form_at (m.fields o.class) i ≡ Some (field_form t))

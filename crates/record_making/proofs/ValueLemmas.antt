@@ -3,48 +3,32 @@ use Rattle.std.proofs.Common.{◌≡◌, ℕ, suc, ◌+◌, ◌≤◌, ◌<◌, 
 use Rattle.std.specs.Prelude.{Option, Some, None, IsTrue, IfSome, IsSome, IsSomeAnd, sum_by, slice_get, ◌&&◌, if◌then◌else◌}
 use Rattle.std.specs.List.{list_all, enumerate_from}
 use Rattle.std.specs.Option.{option_map, option_map_or}
-use Rattle.std.specs.Str.{bytes_eq}
 use Rattle.std.proofs.lemmas.List.Sums.{sum_by-cons}
 use Rattle.std.proofs.lemmas.Option.{get_or_from_slice_get, slice_get_within}
-use Rattle.std.proofs.lemmas.Slice.Eq.{bytes_eq-Decides}
 use Rattle.sed_value.specs.Value.{is_of_type}
 use Rattle.sed_value.specs.declared.slot_type.SlotType.{SlotType}
 use Rattle.sed_value.specs.declared.slot_type.SlotType.TheVariants.{Prim as PrimSlot, Buf as BufSlot}
 use Rattle.sed_value.specs.declared.value.Value.{Value}
 use Rattle.sed_value.specs.declared.value.Value.TheVariants.{Nothing}
-use Rattle.sed_typed.specs.declared.program.FieldForm.{FieldForm}
 use Rattle.sed_typed.specs.declared.schema.ClassInfo.{ClassInfo}
 use Rattle.sed_typed.specs.declared.schema.SlotForm.{SlotForm}
 use Rattle.sed_typed.specs.declared.schema.SlotForm.TheVariants.{Prop, Action}
 use Rattle.sed_typed.specs.declared.schema.SlotInfo.{SlotInfo}
 use Rattle.sed_typed.specs.Classes.{slots}
-use Rattle.sed_typed.specs.Contents.{Contents, Path, value_at}
+use Rattle.sed_typed.specs.Contents.{value_at}
 use Rattle.sed_typed.specs.Sizes.{config_size, value_size}
 use Rattle.sed_engine.specs.Code.{Meaning, is_property, new_object, property_type, slot_path, slot_type, slot_value}
-use Rattle.sed_engine.specs.Fits.{all_kept, form_at, form_of, is_kept, keeps}
+use Rattle.sed_engine.specs.Fits.{form_at, form_of, is_kept, keeps}
 use Rattle.sed_engine.specs.Whole.{HasTables, field_form}
 use Rattle.prop_values.specs.Properties.{config_slots, is_config, is_property_form}
 use Rattle.prop_values.specs.Values.{spelling_of, spelling_of_all}
+use Rattle.prop_values.proofs.StoredLemmas.{kept_at}
 use Rattle.record_making.specs.Types.{initial_config}
 use Rattle.record_making.proofs.SlotLemmas.{numbers_from}
 use Rattle.app_parts.proofs.ValueLemmas.{spelling-size}
 pub use Rattle.sed_value.proofs.Options.{some_and}
 
 -- ---- one value
-
-kept_at : (form : Path → Option FieldForm) (es : Contents) (p : Path) (v : Value) → IsTrue (all_kept form es) → value_at es p ≡ Some v → IsTrue (is_kept (form p) v)
-kept_at form [] p v all at = absurd (let no : ◌≡◌ {A = Option Value} None (Some v) = at in cc)
-kept_at form (e ∷ es) p v all at = by_test (bytes_eq e.0 p) refl (is_kept (form e.0) e.1) refl all at (kept_at form es p v)
-  where
-    by_test : (b : Bool) → bytes_eq e.0 p ≡ b → (k : Bool) → is_kept (form e.0) e.1 ≡ k → (k && all_kept form es) ≡ true
-        → (if b then Some e.1 else value_at es p) ≡ Some v → (IsTrue (all_kept form es) → value_at es p ≡ Some v → IsTrue (is_kept (form p) v))
-        → IsTrue (is_kept (form p) v)
-    by_test true same true is all at later =
-        let value : e.1 ≡ v = cc in
-        subst (λ q. IsTrue (is_kept (form q) v)) ((bytes_eq-Decides e.0 p).0 same) (subst (λ v. IsTrue (is_kept (form e.0) v)) value is)
-    by_test true same false is all at later = absurd (let no : false ≡ true = all in cc)
-    by_test false same true is all at later = later all at
-    by_test false same false is all at later = absurd (let no : false ≡ true = all in cc)
 
 is_there : {A : Type 0} (o : Option A) → IsSome o → (x : A) × (◌≡◌ {A = Option A} o (Some x))
 is_there None h = absurd (let no : false ≡ true = h in cc)
