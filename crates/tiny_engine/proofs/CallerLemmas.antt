@@ -9,6 +9,7 @@ use Rattle.std.specs.Int.{w64}
 use Rattle.sed_value.specs.Value.{goes_to, is_signed}
 use Rattle.sed_value.specs.declared.value.Value.{Value}
 use Rattle.sed_value.specs.declared.slot_type.SlotType.{SlotType}
+use Rattle.sed_engine.proofs.Asking.{may_then}
 use Rattle.tiny_engine.specs.Tiny.{One, Held, live_of, meaning_of}
 use Rattle.tiny_engine.proofs.TinyLemmas.{data_none}
 use Rattle.sed_typed.specs.Contents.{Contents}
@@ -98,4 +99,5 @@ ends_well m whole statics fit which argument turns moment some most long end Non
 ends_well m whole statics fit which argument turns moment some most long end (Some o) object may is =
     subst (λ (e : CallEnd). EndsWell turns e) (sym is)
     (whole.answers (asked_of o statics which argument turns moment)
-    (record { creatable = object.creatable; contents = object.fits; statics = fit; argument = may; some_turns = some; most_turns = most; moment = long })).end
+    (may_then m (asked_of o statics which argument turns moment)
+    (record { creatable = object.creatable; contents = object.fits; statics = fit; argument = may; some_turns = some; most_turns = most; moment = long }))).end

@@ -25,6 +25,7 @@ use Rattle.sed_engine.specs.Code.{Object, Places, Question, asked_of, called, da
 use Rattle.sed_engine.specs.Root.{RootEnd}
 use Rattle.sed_engine.specs.Fits.{form_at}
 use Rattle.sed_engine.specs.Whole.{IsObject, field_form}
+use Rattle.sed_engine.proofs.Asking.{may_then}
 use Rattle.tiny_engine.specs.Sys.{sys_classes}
 use Rattle.tiny_engine.specs.Tiny.{Held, One, code_of, meta_is, meaning_of, object_of, live_of, int_or, has_meta, sys_fields, sys_slot_field, IsCreated, IsSys, KeepsInt}
 use Rattle.tiny_engine.proofs.WholeSys.{created_has, created_may, one_fits, sys_tables}
@@ -312,7 +313,7 @@ Answers schema = (q : Question) → MayAsk (code_of schema) q → (meaning_of sc
 -- a root call on the object that is live, which does nothing
 pub asked_one : (schema : Schema) → IsSys schema → (o : One) → IsCreated (Some o) → KeepsInt (Some o) → (which : Root) (argument : Value) (turns : ℕ) (moment : ℤ) → may_call (code_of schema) o.class which argument ≡ true →
     1 ≤ turns → turns ≤ 1000000 → is_signed w64 moment ≡ true → MayAsk (code_of schema) (asked_of (object_of o) [] which argument turns moment)
-asked_one schema sys o created int which argument turns moment may some most long = record {
+asked_one schema sys o created int which argument turns moment may some most long = may_then (code_of schema) (asked_of (object_of o) [] which argument turns moment) (record {
   creatable = created_may schema sys o.class created;
   contents = one_fits o created int;
   statics = record { paths = refl; values = refl };
@@ -320,7 +321,7 @@ asked_one schema sys o created int which argument turns moment may some most lon
   some_turns = some;
   most_turns = most;
   moment = long;
-}
+})
 
 -- what a call that does nothing answers and leaves
 pub record DoesNothing (schema : Schema) (live : Places) (p : ℕ) (which : Root) (argument : Value) (turns : ℕ) (moment : ℤ) : Type 0 where

@@ -10,6 +10,7 @@ use Rattle.sed_value.specs.Value.{is_signed}
 use Rattle.sed_typed.specs.declared.schema.ClassInfo.{ClassInfo}
 use Rattle.sed_typed.specs.declared.schema.Schema.{Schema}
 use Rattle.sed_typed.specs.declared.schema.SlotInfo.{SlotInfo}
+use Rattle.sed_engine.proofs.Asking.{Asked, may_from}
 use Rattle.sed_typed.specs.Classes.{base_of}
 use Rattle.sed_typed.specs.Contents.{value_at}
 use Rattle.sed_typed.specs.Sizes.{config_size, runtime_size}
@@ -290,7 +291,7 @@ sys_tables schema sys = subst (λ (s : Schema). HasTables (code_of s)) (schema_i
 -- ---- root calls
 
 pub sys_answers : (schema : Schema) (q : Question) → MayAsk (code_of schema) q → AnswersWell (code_of schema) q
-sys_answers schema q h = record { contents = h.contents; statics = h.statics; end = omega arith }
+sys_answers schema q h = let a : Asked (code_of schema) q = may_from (code_of schema) q h in record { contents = a.contents; statics = a.statics; end = omega arith }
 
 -- ---- the one object
 
