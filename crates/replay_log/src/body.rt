@@ -79,7 +79,8 @@ pub(crate) fn write_body(alloc: Global, id: u16, value: u32) -> Result<Vec<u8>, 
 fn put_u2(body: &mut Vec<u8>, number: u16) -> Result<(), Memory>
     ensures { OnOk result (body.new.items ≡ body.old.items ++ u2 number) }
 {
-    body.extend_from_slice(&number.to_be_bytes())?;
+    body.push((number / 256) as u8)?;
+    body.push((number % 256) as u8)?;
     Ok(())
 }
 

@@ -20,17 +20,17 @@ pub record IsAsked (known : ℕ) (bytes : List ℕ) (asked : Asked) : Type 0 whe
 id-below : (a b : ℕ) → a < 256 → b < 256 → id_at a b < 65536
 id-below a b of_a of_b = omega arith
 
-u2-of : (a b : ℕ) → a < 256 → b < 256 → a ∷ b ∷ [] ≡ u2 (id_at a b)
-u2-of a b of_a of_b =
-    let high : a ≡ id_at a b / 256 % 256 = omega (arith, of_a, of_b) in
-    let low : b ≡ id_at a b % 256 = omega (arith, of_b) in
-    ap (λ (n : ℕ). n ∷ b ∷ []) high ∙ ap (λ (n : ℕ). id_at a b / 256 % 256 ∷ n ∷ []) low
+pub u2-of : (a b : ℕ) → b < 256 → a ∷ b ∷ [] ≡ u2 (id_at a b)
+u2-of a b of_b =
+    let high : a ≡ id_at a b / 256 = omega arith in
+    let low : b ≡ id_at a b % 256 = omega arith in
+    ap (λ (n : ℕ). n ∷ b ∷ []) high ∙ ap (λ (n : ℕ). id_at a b / 256 ∷ n ∷ []) low
 
-id-again : (id : ℕ) → id < 65536 → id_at (id / 256 % 256) (id % 256) ≡ id
-id-again id of_id = omega (arith, of_id)
+id-again : (id : ℕ) → id_at (id / 256) (id % 256) ≡ id
+id-again id = omega arith
 
-u2-front : (a b : ℕ) (behind : List ℕ) → a < 256 → b < 256 → a ∷ b ∷ behind ≡ u2 (id_at a b) ++ behind
-u2-front a b behind of_a of_b = ap (λ (t : List ℕ). t ++ behind) (u2-of a b of_a of_b)
+u2-front : (a b : ℕ) (behind : List ℕ) → b < 256 → a ∷ b ∷ behind ≡ u2 (id_at a b) ++ behind
+u2-front a b behind of_b = ap (λ (t : List ℕ). t ++ behind) (u2-of a b of_b)
 
 -- ---- what is found is asked
 
@@ -49,7 +49,7 @@ add-sound (a ∷ b ∷ k ∷ t ∷ rest) c bytes e =
     (record {
       letter = refl;
       can = (id-below a b high low, at.characters);
-      body = u2-front a b (k ∷ t ∷ rest) high low
+      body = u2-front a b (k ∷ t ∷ rest) low
           ∙ ap (λ (r : List ℕ). u2 (id_at a b) ++ (k ∷ t ∷ r)) at.front;
     })
 
@@ -64,7 +64,7 @@ part-sound (a ∷ b ∷ p ∷ []) c bytes e = elim (split (is_part p) _ None (So
       let high : a < 256 = bytes 0 in
       let low : b < 256 = bytes 1 in
       subst (IsAsked 99 (a ∷ b ∷ p ∷ [])) (some_eq _ _ is.1)
-      (record { letter = refl; can = (id-below a b high low, is.0); body = u2-front a b (p ∷ []) high low })
+      (record { letter = refl; can = (id-below a b high low, is.0); body = u2-front a b (p ∷ []) low })
   | inr none ↦ absurd (let n : None ≡ Some c = none.1 in cc)
 ]
 
@@ -77,7 +77,7 @@ delete-sound (a ∷ b ∷ []) c bytes e =
     let high : a < 256 = bytes 0 in
     let low : b < 256 = bytes 1 in
     subst (IsAsked 100 (a ∷ b ∷ [])) (some_eq _ _ e)
-    (record { letter = refl; can = id-below a b high low; body = u2-of a b high low })
+    (record { letter = refl; can = id-below a b high low; body = u2-of a b low })
 
 invoke-sound : (body : List ℕ) (c : Asked) → AreBytes body → invoke_at body ≡ Some c → IsAsked 105 body c
 unfolding invoke_at
@@ -88,7 +88,7 @@ invoke-sound (a ∷ b ∷ s ∷ arg) c bytes e =
     let high : a < 256 = bytes 0 in
     let low : b < 256 = bytes 1 in
     subst (IsAsked 105 (a ∷ b ∷ s ∷ arg)) (some_eq _ _ e)
-    (record { letter = refl; can = id-below a b high low; body = u2-front a b (s ∷ arg) high low })
+    (record { letter = refl; can = id-below a b high low; body = u2-front a b (s ∷ arg) low })
 
 link-sound : (body : List ℕ) (x : Asked) → AreBytes body → link_at body ≡ Some x → IsAsked 108 body x
 unfolding link_at
@@ -108,8 +108,8 @@ link-sound (w ∷ a ∷ b ∷ s ∷ c ∷ d ∷ t ∷ []) x bytes e =
     let four : d < 256 = bytes 5 in
     let can : (id_at a b < 65536) × (id_at c d < 65536) = (id-below a b one two, id-below c d three four) in
     let behind : a ∷ b ∷ s ∷ c ∷ d ∷ t ∷ [] ≡ u2 (id_at a b) ++ s ∷ (u2 (id_at c d) ++ t ∷ []) =
-    u2-front a b (s ∷ c ∷ d ∷ t ∷ []) one two
-    ∙ ap (λ (r : List ℕ). u2 (id_at a b) ++ s ∷ r) (u2-front c d (t ∷ []) three four) in
+    u2-front a b (s ∷ c ∷ d ∷ t ∷ []) two
+    ∙ ap (λ (r : List ℕ). u2 (id_at a b) ++ s ∷ r) (u2-front c d (t ∷ []) four) in
     elim (split (w == 97) _ _ (Some x) e) [
       | inl is ↦
           subst (IsAsked 108 whole) (some_eq _ _ is.1)
@@ -150,7 +150,7 @@ rename-sound (a ∷ b ∷ rest) c bytes e =
           (record {
             letter = refl;
             can = (id-below a b high low, at.characters);
-            body = u2-front a b rest high low ∙ ap (λ (r : List ℕ). u2 (id_at a b) ++ r) whole;
+            body = u2-front a b rest low ∙ ap (λ (r : List ℕ). u2 (id_at a b) ++ r) whole;
           })
       | inr none ↦ absurd (let n : None ≡ Some c = none.1 in cc)
     ]
@@ -171,7 +171,7 @@ reorder-sound (a ∷ b ∷ n ∷ children) c bytes e =
           (record {
             letter = refl;
             can = (id-below a b high low, omega (arith, long));
-            body = u2-front a b (n ∷ children) high low
+            body = u2-front a b (n ∷ children) low
                 ∙ ap (λ (m : ℕ). u2 (id_at a b) ++ m ∷ children) half;
           })
       | inr none ↦ absurd (let m : None ≡ Some c = none.1 in cc)
@@ -187,7 +187,7 @@ slot-sound (a ∷ b ∷ s ∷ []) c bytes e =
     let high : a < 256 = bytes 0 in
     let low : b < 256 = bytes 1 in
     subst (IsAsked 114 (a ∷ b ∷ s ∷ [])) (some_eq _ _ e)
-    (record { letter = refl; can = id-below a b high low; body = u2-front a b (s ∷ []) high low })
+    (record { letter = refl; can = id-below a b high low; body = u2-front a b (s ∷ []) low })
 
 subscribe-sound : (body : List ℕ) (c : Asked) → AreBytes body → subscribe_at body ≡ Some c → IsAsked 115 body c
 unfolding subscribe_at
@@ -202,7 +202,7 @@ subscribe-sound (a ∷ b ∷ m ∷ []) c bytes e = elim (split (nat_lt m 16) _ N
       let test = is.0 in
       let few : m < 16 = grind (arith, nat_tests) in
       subst (IsAsked 115 (a ∷ b ∷ m ∷ [])) (some_eq _ _ is.1)
-      (record { letter = refl; can = (id-below a b high low, few); body = u2-front a b (m ∷ []) high low })
+      (record { letter = refl; can = (id-below a b high low, few); body = u2-front a b (m ∷ []) low })
   | inr none ↦ absurd (let n : None ≡ Some c = none.1 in cc)
 ]
 
@@ -219,7 +219,7 @@ unsubscribe-sound (a ∷ b ∷ m ∷ []) c bytes e = elim (split (nat_lt m 16) _
       let test = is.0 in
       let few : m < 16 = grind (arith, nat_tests) in
       subst (IsAsked 117 (a ∷ b ∷ m ∷ [])) (some_eq _ _ is.1)
-      (record { letter = refl; can = (id-below a b high low, few); body = u2-front a b (m ∷ []) high low })
+      (record { letter = refl; can = (id-below a b high low, few); body = u2-front a b (m ∷ []) low })
   | inr none ↦ absurd (let n : None ≡ Some c = none.1 in cc)
 ]
 
@@ -238,7 +238,7 @@ write-sound (a ∷ b ∷ s ∷ value) c bytes e =
     let high : a < 256 = bytes 0 in
     let low : b < 256 = bytes 1 in
     subst (IsAsked 119 (a ∷ b ∷ s ∷ value)) (some_eq _ _ e)
-    (record { letter = refl; can = id-below a b high low; body = u2-front a b (s ∷ value) high low })
+    (record { letter = refl; can = id-below a b high low; body = u2-front a b (s ∷ value) low })
 
 clear-sound : (body : List ℕ) (c : Asked) → AreBytes body → clear_at body ≡ Some c → IsAsked 120 body c
 unfolding clear_at
@@ -249,7 +249,7 @@ clear-sound (a ∷ b ∷ []) c bytes e =
     let high : a < 256 = bytes 0 in
     let low : b < 256 = bytes 1 in
     subst (IsAsked 120 (a ∷ b ∷ [])) (some_eq _ _ e)
-    (record { letter = refl; can = id-below a b high low; body = u2-of a b high low })
+    (record { letter = refl; can = id-below a b high low; body = u2-of a b low })
 
 of_letter : (letter known : ℕ) (body : List ℕ) (c : Asked) → (letter == known) ≡ true → IsAsked known body c
     → IsAsked letter body c
@@ -305,32 +305,32 @@ command-sound letter body c bytes e = elim (split (letter == 97) _ _ (Some c) e)
 pub command-complete : (c : Asked) → CanBeAsked c → command_at (letter_of c) (body_of c) ≡ Some c
 unfolding command_at add_at part_at delete_at invoke_at link_at rename_at reorder_at slot_at subscribe_at unsubscribe_at version_at write_at clear_at
 command-complete (add p k t name config) can =
-    rw (text_at-complete name config can.1) (ap (λ (n : ℕ). Some (add n k t name config)) (id-again p can.0))
-command-complete (read_part id part) can = rw can.1 (ap (λ (n : ℕ). Some (read_part n part)) (id-again id can.0))
-command-complete (delete id) can = ap (λ (n : ℕ). Some (delete n)) (id-again id can)
-command-complete (invoke id s arg) can = ap (λ (n : ℕ). Some (invoke n s arg)) (id-again id can)
+    rw (text_at-complete name config can.1) (ap (λ (n : ℕ). Some (add n k t name config)) (id-again p))
+command-complete (read_part id part) can = rw can.1 (ap (λ (n : ℕ). Some (read_part n part)) (id-again id))
+command-complete (delete id) can = ap (λ (n : ℕ). Some (delete n)) (id-again id)
+command-complete (invoke id s arg) can = ap (λ (n : ℕ). Some (invoke n s arg)) (id-again id)
 command-complete (link f s g t) can =
-    ap (λ (n : ℕ). Some (link n s (id_at (g / 256 % 256) (g % 256)) t)) (id-again f can.0)
-    ∙ ap (λ (n : ℕ). Some (link f s n t)) (id-again g can.1)
+    ap (λ (n : ℕ). Some (link n s (id_at (g / 256) (g % 256)) t)) (id-again f)
+    ∙ ap (λ (n : ℕ). Some (link f s n t)) (id-again g)
 command-complete (unlink f s g t) can =
-    ap (λ (n : ℕ). Some (unlink n s (id_at (g / 256 % 256) (g % 256)) t)) (id-again f can.0)
-    ∙ ap (λ (n : ℕ). Some (unlink f s n t)) (id-again g can.1)
+    ap (λ (n : ℕ). Some (unlink n s (id_at (g / 256) (g % 256)) t)) (id-again f)
+    ∙ ap (λ (n : ℕ). Some (unlink f s n t)) (id-again g)
 command-complete (rename id name) can =
     let read = ap text_at (sym (append-nil (str name))) ∙ text_at-complete name [] can.1 in
-    rw read (ap (λ (n : ℕ). Some (rename n name)) (id-again id can.0))
+    rw read (ap (λ (n : ℕ). Some (rename n name)) (id-again id))
 command-complete (reorder id children) can =
     let even = can.1 in
     let long : (length children == 2 * (length children / 2)) ≡ true = grind (arith, nat_tests) in
-    rw long (ap (λ (n : ℕ). Some (reorder n children)) (id-again id can.0))
-command-complete (read_slot id s) can = ap (λ (n : ℕ). Some (read_slot n s)) (id-again id can)
+    rw long (ap (λ (n : ℕ). Some (reorder n children)) (id-again id))
+command-complete (read_slot id s) can = ap (λ (n : ℕ). Some (read_slot n s)) (id-again id)
 command-complete (subscribe id m) can =
     let few = can.1 in
     let test : nat_lt m 16 ≡ true = grind (arith, nat_tests) in
-    rw test (ap (λ (n : ℕ). Some (subscribe n m)) (id-again id can.0))
+    rw test (ap (λ (n : ℕ). Some (subscribe n m)) (id-again id))
 command-complete (unsubscribe id m) can =
     let few = can.1 in
     let test : nat_lt m 16 ≡ true = grind (arith, nat_tests) in
-    rw test (ap (λ (n : ℕ). Some (unsubscribe n m)) (id-again id can.0))
+    rw test (ap (λ (n : ℕ). Some (unsubscribe n m)) (id-again id))
 command-complete version can = refl
-command-complete (write id s value) can = ap (λ (n : ℕ). Some (write n s value)) (id-again id can)
-command-complete (clear id) can = ap (λ (n : ℕ). Some (clear n)) (id-again id can)
+command-complete (write id s value) can = ap (λ (n : ℕ). Some (write n s value)) (id-again id)
+command-complete (clear id) can = ap (λ (n : ℕ). Some (clear n)) (id-again id)

@@ -3,3 +3,4 @@ pub mod AskedLemmas
 pub mod LimitLemmas
 pub mod ReadingLemmas
 pub mod TextLemmas
+pub mod WritingLemmas

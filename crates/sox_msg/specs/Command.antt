@@ -1,7 +1,6 @@
 -- Which payloads are requests, and which.
 use Rattle.std.specs.Prelude.{◌≡◌, ℕ, ◌/◌, ◌%◌, ◌<◌, Bool, ◌==◌, not, IsTrue, List, [], ◌∷◌, ◌++◌, length, codes, ⊤}
 use Rattle.std.specs.List.{list_any}
-pub use Rattle.sed_wire.specs.Number.{u2}
 use Rattle.sed_wire.specs.Text.{is_text}
 
 -- a command without where its bytes lie in memory
@@ -20,6 +19,10 @@ pub data Asked : Type 0 where
   version : Asked
   write : ℕ → ℕ → List ℕ → Asked
   clear : ℕ → Asked
+
+-- a number in two bytes, the higher one first
+abbrev pub u2 : ℕ → List ℕ
+u2 n = n / 256 ∷ n % 256 ∷ []
 
 -- a text, and the 0 that ends it
 abbrev pub str : List ℕ → List ℕ
