@@ -15,7 +15,6 @@ use Rattle.sed_engine.specs.Code.{Meaning, Question, slot_path, slot_type}
 use Rattle.sed_engine.specs.Fits.{Fits}
 use Rattle.sed_engine.specs.Root.{RootEnd}
 use Rattle.sed_engine.specs.Whole.{FollowsBase, HasTables, MarksComponents, NamesTypes, SaysNothing, field_form}
-use Rattle.sed_engine.proofs.Asking.{may_from}
 use Rattle.sed_engine.proofs.FirstPaths.{IsLeaf, value_there}
 use Rattle.sed_engine.proofs.MaskedCodes.{to_masked}
 use Rattle.scode_image.specs.declared.image.Image.{Image}
@@ -177,7 +176,7 @@ other b x y e = ap (λ (t : Bool). if t then x else y) e
 
 unasked_masked : (m : Meaning) (q : Question) → (MayAsk (masked m) q → ⊥) → (masked m).root q ≡ unasked q
 unasked_masked m q h = elim (cases_Bool (may_ask m q)) [
-  | inl e ↦ absurd (h (to_masked m q (may_from m q e)))
+  | inl e ↦ absurd (h (to_masked m q e))
   | inr e ↦ other (may_ask m q) (m.root q) (unasked q) e
 ]
 

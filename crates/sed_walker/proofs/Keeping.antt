@@ -22,6 +22,7 @@ use Rattle.sed_engine.specs.Program.{code_of, meaning_of}
 use Rattle.sed_engine.specs.Whole.{HasTables, IsObject}
 use Rattle.sed_cells.specs.declared.layout.Stands.TheVariants.{Statics, Part}
 use Rattle.sed_cells.specs.Places.{first_at, first_of}
+use Rattle.sed_engine.proofs.Asking.{may_then}
 use Rattle.sed_walker.specs.Held.{Held, IsHeld}
 use Rattle.sed_walker.proofs.Sums.{get_put, get_beside, taken_out, kept_beside, total_more, total_over, total_less}
 
@@ -145,7 +146,7 @@ module _ (h : Held) (used : ℕ) (is : IsHeld h used) where
       → 1 ≤ turns → turns ≤ 1000000 → IsTrue (is_signed w64 moment) → MayAsk (code_of h.program) (asked_of o h.statics which argument turns moment)
   may-ask k o which argument turns moment at may some most long =
       let object : IsObject (meaning_of h.program) o = object_at k o at in
-      record {
+      may_then (code_of h.program) (asked_of o h.statics which argument turns moment) (record {
         creatable = object.creatable;
         contents = object.fits;
         statics = is.statics;
@@ -153,4 +154,4 @@ module _ (h : Held) (used : ℕ) (is : IsHeld h used) where
         some_turns = some;
         most_turns = most;
         moment = long;
-      }
+      })
