@@ -96,11 +96,8 @@ fn nearest(program: &Program, class: u16, name: &[u8]) -> Result<Option<usize>, 
 fn slot_name(program: &Program, class: u16, slot: SlotNo) -> &[u8]
     ensures { result.now ≡ name_of_slot program.now.schema.classes class slot.0 }
 {
-    let Some(info) = program.schema.classes.as_slice().get(usize::from(class)) else {
-        return &[];
-    };
-    match info.slots.as_slice().get(usize::from(slot.0)) {
-        Some(slot) => slot.name.as_bytes(),
+    match program.schema.slot(TypeNo(class), slot) {
+        Some(info) => info.name.as_bytes(),
         None => &[],
     }
 }

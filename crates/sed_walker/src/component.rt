@@ -10,7 +10,7 @@ ghost use Rattle.sed_walker.specs.Held.{live_of, object_seen};
 
 use sed_cells::Cells;
 use sed_engine::Place;
-use sed_typed::{Schema, SlotNo};
+use sed_typed::{Schema, SlotNo, TypeNo};
 use sed_value::{Memory, Value};
 use slab::Slab;
 use walk_slots::SlotPlan;
@@ -64,7 +64,7 @@ pub fn store(
 pub fn size_of(schema: &Schema, class: u16) -> u32
     ensures { result ≡ option_map_or (λ c. c.size) (slice_get schema.now.classes class) 0 }
 {
-    match schema.classes.as_slice().get(usize::from(class)) {
+    match schema.class(TypeNo(class)) {
         Some(info) => info.size,
         None => 0,
     }

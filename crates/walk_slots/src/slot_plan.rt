@@ -11,7 +11,7 @@ ghost use Rattle.walk_slots.specs.Slots.{IsCell, object_of};
 
 use crate::table::rows_of;
 use sed_cells::{Cell, Cells, Plan};
-use sed_typed::{Bytes255, Program, Schema, SlotForm, SlotNo};
+use sed_typed::{Bytes255, Program, Schema, SlotForm, SlotNo, TypeNo};
 use sed_value::{Memory, SlotType, Value};
 use std::alloc::Global;
 use std::marker::Model;
@@ -102,11 +102,8 @@ impl SlotPlan {
 fn type_of(schema: &Schema, class: u16, slot: SlotNo) -> Option<SlotType>
     ensures { result ≡ property_type (option_map (λ s. s.form) (slice_get (slots_in schema.now.classes class) slot.0)) }
 {
-    let Some(info) = schema.classes.as_slice().get(usize::from(class)) else {
-        return None;
-    };
-    match info.slots.as_slice().get(usize::from(slot.0)) {
-        Some(slot) => property_in(slot.form),
+    match schema.slot(TypeNo(class), slot) {
+        Some(info) => property_in(info.form),
         None => None,
     }
 }

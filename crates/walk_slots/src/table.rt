@@ -1,14 +1,14 @@
 //! The cells behind slots.
 ghost use Rattle.std.specs.Prelude.{◌≡◌, ◌<◌, List, None, IfOk, IfSome, IfNone, length, position};
 ghost use Rattle.sed_value.specs.declared.value.Value.{Value};
-ghost use Rattle.sed_typed.specs.Classes.{fields as fields_in, slots as slots_in};
+ghost use Rattle.sed_typed.specs.Classes.{fields as fields_in};
 ghost use Rattle.sed_typed.specs.Contents.{value_at};
 ghost use Rattle.sed_typed.specs.TypedSchema.{in_slot};
 ghost use Rattle.sed_cells.specs.Places.{classes_in, contents_of, place_of as path_at};
 ghost use Rattle.walk_slots.specs.Slots.{AreRows, IsCell, IsRow, path_behind};
 
 use sed_cells::{Plan, fields_of};
-use sed_typed::{Field, Program};
+use sed_typed::{Field, TypeNo};
 use sed_value::Memory;
 use std::alloc::Global;
 
@@ -35,19 +35,10 @@ fn row_of(alloc: Global, plan: &Plan, class: usize) -> Result<Vec<Option<usize>>
 {
     let fields = fields_of(alloc, plan.program(), class as u16)?;
     let mut row = Vec::new(alloc);
-    for slot in 0..slot_count(plan.program(), class) {
+    for slot in 0..plan.program().schema.slot_count(TypeNo(class as u16)) {
         row.push(cell_of(plan, &fields, class, slot))?;
     }
     Ok(row)
-}
-
-fn slot_count(program: &Program, class: usize) -> usize
-    ensures { result ≡ length (slots_in program.now.schema.classes class) }
-{
-    match program.schema.classes.as_slice().get(class) {
-        Some(info) => info.slots.len(),
-        None => 0,
-    }
 }
 
 // The cell that keeps a slot's value; none where no value is kept behind the slot.
