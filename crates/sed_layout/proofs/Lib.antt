@@ -1,0 +1,4 @@
+pub mod Counts
+pub mod Inherited
+pub mod Data
+pub mod Apart
