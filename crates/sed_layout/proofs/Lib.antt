@@ -2,3 +2,4 @@ pub mod Counts
 pub mod Inherited
 pub mod Data
 pub mod Apart
+pub mod OffsetLists

@@ -1,5 +1,5 @@
 -- Where the fields of an object stand in its data, and the statics in theirs: one behind another, without padding.
-use Rattle.std.specs.Prelude.{ℕ, ◌≡◌, ◌<◌, List, length, map, sum_by, take}
+use Rattle.std.specs.Prelude.{ℕ, ◌≡◌, ◌+◌, ◌<◌, List, length, map, sum_by, take}
 use Rattle.std.specs.List.{range_with_len}
 use Rattle.sed_typed.specs.declared.program.Field.{Field}
 use Rattle.sed_typed.specs.declared.program.Program.{Program}
@@ -44,3 +44,7 @@ pub record KeepsFields (program : Program) (above class : ℕ) : Type 0 where
   pub first : Begins (fields program above) (fields program class)
   pub offsets : (number : ℕ) → number < length (fields program above) →
       offset_of program class number ≡ offset_of program above number
+
+-- the offsets of fields that stand one behind another from a start on
+abbrev pub offsets_behind : Program → ℕ → List Field → List ℕ
+offsets_behind program start all = map (λ number. start + width_before program all number) (range_with_len 0 (length all))

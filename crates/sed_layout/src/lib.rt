@@ -7,6 +7,8 @@
 #![tactic(auto)]
 
 mod offset_laws;
+mod offsets;
+mod widths;
 
 pub use offset_laws::{
     data_is_the_sum_of_fields, fields_do_not_overlap, fields_lie_within, fields_take_bytes,
