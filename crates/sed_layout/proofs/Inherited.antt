@@ -1,9 +1,8 @@
 -- What a class inherits comes first, along any number of bases.
-use Rattle.std.proofs.Common.{◌≡◌, ℕ, zero, suc, ◌<◌, ◌≤◌, ◌==◌, Bool, true, false, cond, get_or, List, [], ◌∷◌, ◌++◌, length, reverse, take, Option, Some, None, refl, sym, ap, subst, ◌∙◌, arith, append_assoc}
+use Rattle.std.proofs.Common.{◌≡◌, ℕ, zero, suc, ◌<◌, ◌≤◌, ◌==◌, Bool, false, cond, get_or, List, [], ◌∷◌, ◌++◌, length, reverse, take, Option, Some, None, refl, sym, ap, ◌∙◌, arith, append_assoc}
 use Rattle.std.specs.Prelude.{All, IsTrue}
-use Rattle.std.specs.List.{flat_map, list_any, sum_by}
+use Rattle.std.specs.List.{flat_map, sum_by}
 use Rattle.std.specs.Option.{option_and_then, option_map}
-use Rattle.std.proofs.lemmas.Bool.{eqb-true}
 use Rattle.std.proofs.lemmas.Grind.{reverse_onto, flat_map-append}
 use Rattle.std.proofs.lemmas.List.{append-nil, take-append-le}
 use Rattle.std.proofs.lemmas.List.Concat.{flat_map-cons}
@@ -15,7 +14,7 @@ use Rattle.sed_typed.specs.declared.schema.ClassInfo.{ClassInfo}
 use Rattle.sed_typed.specs.Classes.{base_of, reached, lineage, declared_fields, fields}
 use Rattle.sed_typed.specs.Typed.{Typed}
 use Rattle.sed_typed.specs.TypedSchema.{Begins, is_below}
-use Rattle.sed_typed.proofs.Lineages.{lineage_alone, lineage_of_base, none_reached}
+use Rattle.sed_typed.proofs.Lineages.{going_down, lineage_alone, lineage_of_base, none_reached}
 use Rattle.sed_layout.specs.Offsets.{KeepsFields, field_width}
 
 -- ---- by the base
@@ -35,7 +34,7 @@ fields_of_base program typed class base e =
 pub fields_alone : (program : Program) (class : ℕ) → class < length program.schema.classes → base_of program.schema.classes class ≡ None →
     fields program class ≡ declared_fields program.fields class
 fields_alone program class h e =
-    ap (λ (all : List ℕ). flat_map (declared_fields program.fields) (reverse all)) (lineage_alone program.schema.classes class h e) ∙ own_fields program class
+    ap (λ (all : List ℕ). flat_map (declared_fields program.fields) (reverse all)) (lineage_alone program.schema.classes class (omega (arith, h)) e) ∙ own_fields program class
 
 -- ---- of a class that is not there
 
@@ -77,40 +76,16 @@ of_fields P program h class = each_of P program.fields h (reverse (lineage progr
 
 -- ---- along bases
 
--- what holds of a class and itself, and goes on from a base, holds of all above
-module _ (R : ℕ → ℕ → Type 0) (classes : List ClassInfo) (same : (class : ℕ) → R class class)
-    (step : (class base above : ℕ) → base_of classes class ≡ Some base → R above base → R above class) where
-  along : (above n class : ℕ) → list_any (λ c. c == above) (reached (base_of classes) n (Some class)) ≡ true → R above class
-  along above zero class h = let never : ⊥ = cc in absurd never
-  along above (suc n) class h = by_test (λ base. along above n base) (class == above) refl h
-    where
-      by_base : ((base : ℕ) → list_any (λ c. c == above) (reached (base_of classes) n (Some base)) ≡ true → R above base) →
-          (o : Option ℕ) → base_of classes class ≡ o → list_any (λ c. c == above) (reached (base_of classes) n o) ≡ true → R above class
-      by_base again None e h =
-          let ended : list_any (λ c. c == above) (reached (base_of classes) n None) ≡ false = ap (list_any (λ c. c == above)) (none_reached (base_of classes) n) in
-          let never : ⊥ = cc in absurd never
-      by_base again (Some base) e h = step class base above e (again base h)
-
-      by_test : ((base : ℕ) → list_any (λ c. c == above) (reached (base_of classes) n (Some base)) ≡ true → R above base) →
-          (b : Bool) → (class == above) ≡ b → list_any (λ c. c == above) (class ∷ reached (base_of classes) n (base_of classes class)) ≡ true → R above class
-      by_test again true t h = subst (λ (x : ℕ). R x class) (eqb-true class above t) (same class)
-      by_test again false t h =
-          by_base again (base_of classes class) refl (let rest : list_any (λ c. c == above) (reached (base_of classes) n (base_of classes class)) ≡ true = cc in rest)
-
-  pub along_bases : (above class : ℕ) → IsTrue (is_below classes above class) → R above class
-  along_bases above class h = along above (length classes) class h
-
 -- a list that goes on from that of the base begins with that of each class above
 pub begin_alike : {X : Type 0} (all own : ℕ → List X) (classes : List ClassInfo) → ((class base : ℕ) → base_of classes class ≡ Some base → all class ≡ all base ++ own class) →
     (above class : ℕ) → IsTrue (is_below classes above class) → Begins (all above) (all class)
 begin_alike {X} all own classes grows above class h =
-    along_bases (λ a c. Begins (all a) (all c)) classes
-    (λ c. ([], sym (append-nil (all c))))
-    (λ c base a e front. (
+    going_down classes (λ c. Begins (all above) (all c)) above ([], sym (append-nil (all above)))
+    (λ c base e front. (
       front.0 ++ own c,
-      grows c base e ∙ ap (λ (xs : List X). xs ++ own c) front.1 ∙ append_assoc (all a) front.0 (own c),
+      grows c base e ∙ ap (λ (xs : List X). xs ++ own c) front.1 ∙ append_assoc (all above) front.0 (own c),
     ))
-    above class h
+    class h
 
 -- ---- fields keep their offsets
 

@@ -3,3 +3,7 @@ pub mod Inherited
 pub mod Data
 pub mod Apart
 pub mod OffsetLists
+pub mod BaseRows
+pub mod FoundMethods
+pub mod TableLists
+pub mod KeptPlaces

@@ -15,8 +15,6 @@ use Rattle.sed_typed.specs.Classes.{base_of, declared_fields, fields}
 use Rattle.sed_typed.specs.Sizes.{data_size}
 use Rattle.sed_typed.specs.Typed.{Typed}
 use Rattle.sed_typed.specs.TypedSchema.{IsClass}
-use Rattle.std.proofs.lemmas.Option.{slice_get-get_or}
-use Rattle.sed_typed.proofs.Lineages.{has_base}
 use Rattle.sed_layout.specs.Offsets.{field_width, offsets_behind, offsets_of, width_before}
 use Rattle.sed_layout.proofs.Data.{data_is_sum}
 use Rattle.sed_layout.proofs.Inherited.{fields_alone, fields_beyond, fields_of_base}
@@ -24,18 +22,6 @@ use Rattle.sed_layout.proofs.Inherited.{fields_alone, fields_beyond, fields_of_b
 pub no_data : (program : Program) → Typed program → (class : ℕ) → length program.schema.classes ≤ class → data_size program class ≡ 0
 no_data program typed class h =
     data_is_sum program typed class ∙ ap (sum_by (field_width program)) (fields_beyond program typed class h)
-
--- ---- what stands at the place of a base
-
-pub looked_up : (program : Program) → Typed program → (class base : ℕ) (above : List (List ℕ)) → above ≡ map (offsets_of program) (range_with_len 0 class) →
-    base_of program.schema.classes class ≡ Some base → option_map_or (λ (offsets : List ℕ). offsets) (slice_get above base) [] ≡ offsets_of program base
-looked_up program typed class base above is e =
-    let before : base < class = (has_base program typed class base e).before in
-    let found : slice_get (map (offsets_of program) (range_with_len 0 class)) base ≡ Some (get_or (map (offsets_of program) (range_with_len 0 class)) base []) =
-    slice_get-get_or (map (offsets_of program) (range_with_len 0 class)) base [] (omega (arith, before, length-map-range_with_len (offsets_of program) 0 class)) in
-    ap (λ (all : List (List ℕ)). option_map_or (λ (offsets : List ℕ). offsets) (slice_get all base) []) is
-    ∙ ap (λ (o : Option (List ℕ)). option_map_or (λ (offsets : List ℕ). offsets) o []) found
-    ∙ get_or-map-range_with_len (offsets_of program) 0 class base base [] before (omega arith)
 
 -- ---- one list behind another
 

@@ -37,6 +37,11 @@ static_offsets program = map (static_offset_of program) (range_with_len 0 (lengt
 abbrev pub of_classes : {X : Type 0} → Program → (ℕ → X) → List X
 of_classes program f = map f (range_with_len 0 (length program.schema.classes))
 
+-- the offsets of fields that stand one behind another from a start on
+abbrev pub offsets_behind : Program → ℕ → List Field → List ℕ
+offsets_behind program start all =
+    map (λ number. start + width_before program all number) (range_with_len 0 (length all))
+
 -- ---- what is inherited
 
 -- the fields of one class come first among those of another, and stand where they stood
@@ -44,7 +49,3 @@ pub record KeepsFields (program : Program) (above class : ℕ) : Type 0 where
   pub first : Begins (fields program above) (fields program class)
   pub offsets : (number : ℕ) → number < length (fields program above) →
       offset_of program class number ≡ offset_of program above number
-
--- the offsets of fields that stand one behind another from a start on
-abbrev pub offsets_behind : Program → ℕ → List Field → List ℕ
-offsets_behind program start all = map (λ number. start + width_before program all number) (range_with_len 0 (length all))

@@ -1,5 +1,5 @@
 //! The offsets of fields and statics.
-ghost use Rattle.std.specs.Prelude.{◌≡◌, ◌+◌, ◌<◌, ◌++◌, ◌==◌, [], IfOk, drop, length, map, not, slice_get, sum_by};
+ghost use Rattle.std.specs.Prelude.{◌≡◌, ◌+◌, ◌<◌, ◌++◌, ◌==◌, [], IfOk, drop, length, map, not, sum_by};
 ghost use Rattle.std.specs.List.{position_or_len, range_with_len};
 ghost use Rattle.std.specs.Option.{option_map_or};
 ghost use Rattle.sed_typed.specs.Classes.{base_of as base_in, declared_fields};
@@ -7,6 +7,7 @@ ghost use Rattle.sed_typed.specs.Sizes.{data_size};
 ghost use Rattle.sed_typed.specs.Typed.{Typed};
 ghost use Rattle.sed_layout.specs.Offsets.{field_width, of_classes, offsets_behind, offsets_of, static_offsets};
 
+use crate::rows::row_at;
 use crate::widths::{base_of, size_of_class, width_of_form};
 use sed_typed::{Field, Program};
 use sed_value::{Items, Memory, front_of};
@@ -94,18 +95,8 @@ fn inherited_offsets(
         offsets.items ≡ option_map_or (offsets_of program.now) (base_in program.now.schema.classes class) []) }
 {
     match base_of(program.schema.classes.as_slice(), class) {
-        Some(base) => Ok(Vec::from_slice(alloc, items_at(above, base))?),
+        Some(base) => Ok(Vec::from_slice(alloc, row_at(above, base))?),
         None => Ok(Vec::new(alloc)),
-    }
-}
-
-// The items at a place.
-fn items_at(all: &[Items<u16>], at: usize) -> &[u16]
-    ensures { result.now ≡ option_map_or (λ items. items) (slice_get all.now at) [] }
-{
-    match all.get(at) {
-        Some(items) => items.as_slice(),
-        None => &[],
     }
 }
 

@@ -1,10 +1,10 @@
-use Rattle.std.proofs.Common.{◌≡◌, ◌∙◌, ℕ, suc, ◌+◌, ◌-◌, ◌<◌, ◌≤◌, List, [], ◌∷◌, ◌++◌, length, take, drop, ap, sym, arith}
+use Rattle.std.proofs.Common.{◌≡◌, ◌∙◌, ℕ, suc, ◌+◌, ◌-◌, ◌<◌, ◌≤◌, List, length, take, drop, ap, sym, arith}
 use Rattle.std.specs.List.{flat_map, range_with_len}
 use Rattle.std.proofs.lemmas.List.{drop-drop, length-drop}
-use Rattle.std.proofs.lemmas.List.FromFn.{map-range_with_len_more}
 use Rattle.sed_typed.specs.declared.program.Field.{Field}
 use Rattle.sed_typed.specs.Classes.{declared_fields}
 use Rattle.sed_layout.specs.Offsets.{offsets_of}
+use Rattle.sed_layout.proofs.BaseRows.{row_more}
 use Rattle.sed_layout.proofs.OffsetLists.{others_follow, own_are_few, own_are_first}
 use Rattle.sed_layout.proofs.offsets.offsets_of_classes.Goals as goal
 
@@ -42,10 +42,8 @@ loop-class-preserved c =
     let few : length (declared_fields all class) ≤ length rest = own_are_few all rest class (classes - (class + 1)) left in
     let rest_long : length rest ≡ length all - done = ap length is ∙ length-drop done all in
     let inside : done ≤ length all = c.loop-class.invariant.1 in (
-      c.in_ok-push.ensures.items
-          ∙ ap (λ (x : List ℕ). c.loop-class.all.items ++ x ∷ []) c.in_ok-offsets_of_class.ensures
-          ∙ ap (λ (xs : List (List ℕ)). xs ++ offsets_of program class ∷ []) c.loop-class.invariant.0
-          ∙ sym (map-range_with_len_more (offsets_of program) 0 class class (omega arith)),
+      row_more (offsets_of program) class c.loop-class.all.items c.push.new.self.items c.in_ok-offsets_of_class.field-0
+          c.loop-class.invariant.0 c.in_ok-offsets_of_class.ensures c.in_ok-push.ensures.items,
       omega (arith, long, few, rest_long, inside),
       sym (drop-drop (length c.front_of-own.result.now) done all)
           ∙ ap (drop (length c.front_of-own.result.now)) (sym is)
