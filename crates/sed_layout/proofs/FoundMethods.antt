@@ -1,31 +1,46 @@
 -- Each virtual method of a class is found by its name, so its table leaves none out.
-use Rattle.std.proofs.Common.{◌≡◌, ℕ, ◌==◌, Bool, true, false, List, [], ◌∷◌, map, Option, Some, None, refl, sym, ap, ◌∙◌}
+use Rattle.std.proofs.Common.{◌≡◌, ℕ, ◌==◌, Bool, true, false, List, [], ◌∷◌, map, Option, Some, None, refl, sym, ap, subst, ◌∙◌, arith}
 use Rattle.std.specs.Prelude.{All, IsSomeAnd, ◌||◌, filter_map, slice_get}
 use Rattle.std.specs.List.{cons_option, list_any}
 use Rattle.std.specs.Option.{option_and_then, option_map, option_map_or}
 use Rattle.std.specs.Str.{bytes_eq}
-use Rattle.std.proofs.lemmas.Bool.{and_parts}
-use Rattle.std.proofs.lemmas.List.Elements.{All-cons, All-head, All-nil, All-tail, All-weaker}
-use Rattle.std.proofs.lemmas.Option.{slice_get-map}
+use Rattle.std.proofs.lemmas.Bool.{and_parts, eqb-true}
+use Rattle.std.proofs.lemmas.List.Elements.{All-cons, All-head, All-nil, All-same, All-tail, All-weaker}
+use Rattle.std.proofs.lemmas.Option.{get_or_from_slice_get, slice_get-map, slice_get_within}
 use Rattle.std.proofs.lemmas.Slice.Eq.{bytes_eq-Decides}
 use Rattle.sed_typed.specs.declared.program.Method.{Method}
 use Rattle.sed_typed.specs.declared.program.Program.{Program}
 use Rattle.sed_typed.specs.Classes.{lineage, first_found, declared_method, find, method_name, nearest}
-use Rattle.sed_typed.specs.Typed.{Typed}
+use Rattle.sed_typed.specs.Typed.{Typed, IsMethod}
+use Rattle.sed_typed.specs.TypedSchema.{is_below}
 use Rattle.sed_typed.specs.Virtual.{has_virtual_name, virtual_names}
 use Rattle.sed_typed.proofs.Lineages.{none_is}
 use Rattle.sed_typed.proofs.Nearest.{IsPassed, declared_at, found_here, found_later, found_where, position_passes}
-use Rattle.sed_layout.specs.MethodTables.{place_of, table_of}
+use Rattle.sed_layout.specs.MethodTables.{MayStand, place_of, table_of}
 
 -- ---- what is found has the name
 
-at_one : (look : ℕ → Option ℕ) (line : List ℕ) (n : ℕ) → first_found look line ≡ Some n → (class : ℕ) × (look class ≡ Some n)
+-- at one of these it is
+record IsAtOne (look : ℕ → Option ℕ) (line : List ℕ) (n : ℕ) : Type 0 where
+  class : ℕ
+  there : list_any (λ c. c == class) line ≡ true
+  looked : look class ≡ Some n
+
+either : (a b : Bool) → b ≡ true → (a || b) ≡ true
+either true b h = refl
+either false b h = h
+
+at_one : (look : ℕ → Option ℕ) (line : List ℕ) (n : ℕ) → first_found look line ≡ Some n → IsAtOne look line n
 at_one look [] n e = none_is n e
 at_one look (class ∷ rest) n e = by_look (λ h. at_one look rest n h) (look class) refl
   where
-    by_look : (first_found look rest ≡ Some n → (c : ℕ) × (look c ≡ Some n)) → (o : Option ℕ) → look class ≡ o → (c : ℕ) × (look c ≡ Some n)
-    by_look again None t = again (sym (found_later look class rest t) ∙ e)
-    by_look again (Some k) t = (class, t ∙ sym (found_here look class rest k t) ∙ e)
+    by_look : (first_found look rest ≡ Some n → IsAtOne look rest n) → (o : Option ℕ) → look class ≡ o → IsAtOne look (class ∷ rest) n
+    by_look again None t =
+        let up = again (sym (found_later look class rest t) ∙ e) in
+        record { class = up.class; there = either (class == up.class) (list_any (λ c. c == up.class) rest) up.there; looked = up.looked }
+    by_look again (Some k) t =
+        let itself : (class == class) ≡ true = grind arith in
+        record { class = class; there = ap (λ (b : Bool). b || list_any (λ c. c == class) rest) itself; looked = t ∙ sym (found_here look class rest k t) ∙ e }
 
 -- the method of a name that is nearest at or above a class
 pub record IsFound (program : Program) (class : ℕ) (name : List ℕ) : Type 0 where
@@ -34,17 +49,20 @@ pub record IsFound (program : Program) (class : ℕ) (name : List ℕ) : Type 0 
   pub found : find program class name ≡ Some number
   pub there : slice_get program.methods number ≡ Some method
   pub named : method.name ≡ name
+  pub above : is_below program.schema.classes method.class.0 class ≡ true
 
 pub is_found : (program : Program) (class number : ℕ) (name : List ℕ) → find program class name ≡ Some number → IsFound program class name
 is_found program class number name e =
     let at = at_one (declared_method program.methods name) (lineage program.schema.classes class) number e in
-    let d = declared_at program at.0 number name at.1 in
+    let d = declared_at program at.class number name at.looked in
+    let parts = and_parts (d.value.class.0 == at.class) (bytes_eq d.value.name name) d.passes in
     record {
       number = number;
       method = d.value;
       found = e;
       there = d.is;
-      named = (bytes_eq-Decides d.value.name name).0 (and_parts (d.value.class.0 == at.0) (bytes_eq d.value.name name) d.passes).1;
+      named = (bytes_eq-Decides d.value.name name).0 parts.1;
+      above = subst (λ (c : ℕ). is_below program.schema.classes c class ≡ true) (sym (eqb-true d.value.class.0 at.class parts.0)) at.there;
     }
 
 -- ---- each virtual method is found
@@ -71,10 +89,6 @@ among (x ∷ xs) =
     (ap (λ (b : Bool). b || list_any (λ n. bytes_eq n x) xs) ((bytes_eq-Decides x x).1 refl))
     (All-weaker (λ name. list_any (λ n. bytes_eq n name) xs ≡ true) (λ name. list_any (λ n. bytes_eq n name) (x ∷ xs) ≡ true)
     (λ name h. either (bytes_eq x name) (list_any (λ n. bytes_eq n name) xs) h) xs (among xs))
-  where
-    either : (a b : Bool) → b ≡ true → (a || b) ≡ true
-    either true b h = refl
-    either false b h = h
 
 pub all_found : (program : Program) → Typed program → (class : ℕ) → All (IsFound program class) (virtual_names program class)
 all_found program typed class =
@@ -133,3 +147,37 @@ at_its_place program typed class place name e = by_place (slice_get (table_of pr
     by_place : (o : Option ℕ) → option_map Some o ≡ Some (find program class name) → IsSomeAnd o (λ number. find program class name ≡ Some number)
     by_place None h = none_is (find program class name) h
     by_place (Some number) h = let is : Some number ≡ find program class name = cc in sym is
+
+-- ---- what stands in it
+
+-- a method that is found, and the nearest of its name is virtual
+stands : (program : Program) → Typed program → (class : ℕ) (name : List ℕ) (is : IsFound program class name) → has_virtual_name program class name ≡ true → MayStand program class is.method
+stands program typed class name is has =
+    let near : nearest program class name ≡ Some is.method = ap (option_and_then (slice_get program.methods)) is.found ∙ is.there in
+    let virtual : is.method.is_virtual ≡ true = sym (ap (λ (o : Option Method). option_map_or (λ m. m.is_virtual) o false) near) ∙ sym (found_where program typed class name) ∙ has in
+    let inside = slice_get_within program.methods is.number is.method is.there in
+    let known : IsMethod program is.method = subst (IsMethod program) (get_or_from_slice_get program.methods is.number is.method is.method is.there) (typed.methods is.number is.method inside) in
+    record { virtual = virtual; instance = (known.virtual virtual).0; above = is.above }
+
+record Stands (program : Program) (class : ℕ) (name : List ℕ) : Type 0 where
+  is : IsFound program class name
+  may : MayStand program class is.method
+
+all_stand : (program : Program) (class : ℕ) (names : List (List ℕ)) → All (Stands program class) names →
+    All (λ number. IsSomeAnd (slice_get program.methods number) (MayStand program class)) (filter_map (find program class) names)
+all_stand program class [] h = All-nil (λ number. IsSomeAnd (slice_get program.methods number) (MayStand program class))
+all_stand program class (name ∷ names) h =
+    let s = All-head (Stands program class) name names h in
+    let rest = all_stand program class names (All-tail (Stands program class) name names h) in
+    let here : IsSomeAnd (slice_get program.methods s.is.number) (MayStand program class) = subst (λ (o : Option Method). IsSomeAnd o (MayStand program class)) (sym s.is.there) s.may in
+    All-same (λ number. IsSomeAnd (slice_get program.methods number) (MayStand program class)) (filter_map (find program class) (name ∷ names)) (s.is.number ∷ filter_map (find program class) names)
+    (cons_found (find program class name) s.is.number (find program class) names s.is.found)
+    (All-cons (λ number. IsSomeAnd (slice_get program.methods number) (MayStand program class)) s.is.number (filter_map (find program class) names) here rest)
+
+pub virtual_stand : (program : Program) → Typed program → (class : ℕ) →
+    All (λ number. IsSomeAnd (slice_get program.methods number) (MayStand program class)) (table_of program class)
+virtual_stand program typed class =
+    all_stand program class (virtual_names program class)
+    (All-weaker (λ name. has_virtual_name program class name ≡ true) (Stands program class)
+    (λ name has. let is = virtual_found program typed class name has in record { is = is; may = stands program typed class name is has })
+    (virtual_names program class) (among (virtual_names program class)))

@@ -24,6 +24,6 @@ pub use offset_laws::{
 pub use places::Layout;
 pub use table_laws::{
     callbacks_have_the_first_places, names_keep_their_places, places_hold_the_nearest_method,
-    tables_have_each_virtual_method, virtual_methods_have_places,
+    tables_have_each_virtual_method, tables_hold_virtual_methods, virtual_methods_have_places,
 };
 pub use whole::layout;

@@ -1,5 +1,5 @@
 //! Laws of the tables of virtual methods, for provers.
-ghost use Rattle.std.specs.Prelude.{◌≡◌, ℕ, false, IsSomeAnd, IsTrue, List, Some, is_some, map, slice_get};
+ghost use Rattle.std.specs.Prelude.{◌≡◌, ℕ, false, All, IsSomeAnd, IsTrue, List, Some, is_some, map, slice_get};
 ghost use Rattle.std.specs.Option.{option_map_or};
 ghost use Rattle.sed_typed.specs.Classes.{base_of, find, nearest};
 ghost use Rattle.sed_typed.specs.SysTypes.{component_type};
@@ -7,7 +7,7 @@ ghost use Rattle.sed_typed.specs.Typed.{Typed};
 ghost use Rattle.sed_typed.specs.TypedSchema.{is_below, is_below_sys};
 ghost use Rattle.sed_typed.specs.Virtual.{virtual_names};
 ghost use Rattle.sed_typed.specs.declared.program.Program.{Program as AnyProgram};
-ghost use Rattle.sed_layout.specs.MethodTables.{HasCallbacks, KeepsPlaces, place_of, table_of};
+ghost use Rattle.sed_layout.specs.MethodTables.{HasCallbacks, KeepsPlaces, MayStand, place_of, table_of};
 
 /// A table leaves no virtual method of its class out: at each place stands the nearest method of the name there.
 pub fn tables_have_each_virtual_method()
@@ -20,6 +20,12 @@ pub fn places_hold_the_nearest_method()
     ensures { (program : AnyProgram) → Typed program → (class place : ℕ) (name : List ℕ)
         → place_of program class name ≡ Some place
         → IsSomeAnd (slice_get (table_of program class) place) (λ number. find program class name ≡ Some number) }
+{}
+
+/// Each method in the table of a class is virtual, so it has a receiver, and is declared by the class or one above it.
+pub fn tables_hold_virtual_methods()
+    ensures { (program : AnyProgram) → Typed program → (class : ℕ)
+        → All (λ number. IsSomeAnd (slice_get program.methods number) (MayStand program class)) (table_of program class) }
 {}
 
 /// A name has a place in the table of a class exactly where the nearest method of that name is virtual.

@@ -15,7 +15,7 @@ use std::alloc::Global;
 ///
 /// `Memory` comes where memory is refused, and from no other cause.
 pub fn layout(alloc: Global, program: &Program) -> Result<Layout, Memory>
-    requires { Typed program.now }
+    requires typed { Typed program.now }
     ensures offsets { IfOk result (λ made. made.offsets ≡ of_classes program.now (offsets_of program.now)) }
     ensures statics { IfOk result (λ made. made.statics ≡ static_offsets program.now) }
     ensures tables { IfOk result (λ made. made.tables ≡ of_classes program.now (table_of program.now)) }
