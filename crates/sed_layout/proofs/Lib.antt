@@ -1,0 +1,9 @@
+pub mod Counts
+pub mod Inherited
+pub mod Data
+pub mod Apart
+pub mod OffsetLists
+pub mod BaseRows
+pub mod FoundMethods
+pub mod TableLists
+pub mod KeptPlaces
