@@ -25,7 +25,8 @@ pub fn places_hold_the_nearest_method()
 /// Each method in the table of a class is virtual, so it has a receiver, and is declared by the class or one above it.
 pub fn tables_hold_virtual_methods()
     ensures { (program : AnyProgram) → Typed program → (class : ℕ)
-        → All (λ number. IsSomeAnd (slice_get program.methods number) (MayStand program class)) (table_of program class) }
+        → All (λ number. IsSomeAnd (slice_get program.methods number) (MayStand program class))
+        (table_of program class) }
 {}
 
 /// A name has a place in the table of a class exactly where the nearest method of that name is virtual.
