@@ -4,3 +4,4 @@ pub mod Places
 pub mod Moving
 pub mod Changes
 pub mod Told
+pub mod BlockLaws

@@ -7,10 +7,15 @@
 
 mod block;
 mod entry;
+mod laws;
 mod moves;
 mod number;
 mod pool;
 mod start;
 
 pub use block::Block;
+pub use laws::{
+    all_else_stays, new_blocks_leave_the_others, removed_blocks_leave_the_others,
+    what_is_written_is_read,
+};
 pub use pool::Pool;
