@@ -102,19 +102,9 @@ held_moved p q all room count used filled far is firsts bytes directory moved li
 
 -- ---- add
 
-module _ (p : Parts) (all : List ℕ) (room count used filled class : ℕ) (is : IsKept p all room count used filled) (few : count < 4096) (of_class : class < length p.firsts)
-    (fits : used + length (get_or p.firsts class []) ≤ length p.bytes) where
-  abbrev pub new_parts : Parts
-  new_parts = parts p.firsts (put_at p.bytes used (get_or p.firsts class [])) (set p.directory (get_or all count 0) (record { offset = used; class = class }))
-
-  new_within : get_or all count 0 < length p.directory
-  new_within = let n = is.every.all in let m = is.entries in let lt = is.every.within count 0 (omega arith) in omega arith
-
+module _ (p : Parts) (all : List ℕ) (room count used filled : ℕ) (is : IsKept p all room count used filled) (few : count < 4096) where
   new_apart : (i : ℕ) → i < count → get_or all i 0 ≢ get_or all count 0
   new_apart i lt = let n = is.every.all in apart_at all is.every.apart i count (omega arith) (omega arith) (omega arith)
-
-  live_more : take (count + 1) all ≡ take count all ++ get_or all count 0 ∷ []
-  live_more = let n = is.every.all in take_more all count 0 (omega arith)
 
   pub fresh : finite.get (blocks_of p (take count all)) (get_or all count 0) ≡ None
   fresh = made_beside (kept_at p) (take count all) (get_or all count 0) (All-from_get_or (λ q. get_or all count 0 ≢ q) (take count all) 0 (λ i lt. beside i lt))
@@ -125,11 +115,22 @@ module _ (p : Parts) (all : List ℕ) (room count used filled class : ℕ) (is :
           let in' : i < count = omega arith in
           λ e. new_apart i in' (sym (get_or-take count all i 0 in') ∙ sym e)
 
+module _ (p : Parts) (all : List ℕ) (room count used filled class : ℕ) (is : IsKept p all room count used filled) (few : count < 4096) (of_class : class < length p.firsts)
+    (fits : used + length (get_or p.firsts class []) ≤ length p.bytes) where
+  abbrev pub new_parts : Parts
+  new_parts = parts p.firsts (put_at p.bytes used (get_or p.firsts class [])) (set p.directory (get_or all count 0) (record { offset = used; class = class }))
+
+  new_within : get_or all count 0 < length p.directory
+  new_within = let n = is.every.all in let m = is.entries in let lt = is.every.within count 0 (omega arith) in omega arith
+
+  live_more : take (count + 1) all ≡ take count all ++ get_or all count 0 ∷ []
+  live_more = let n = is.every.all in take_more all count 0 (omega arith)
+
   there : entry_at new_parts (get_or all count 0) ≡ record { offset = used; class = class }
   there = entry_set p new_parts.bytes (get_or all count 0) (record { offset = used; class = class }) new_within
 
   beside : (i : ℕ) → i < count → entry_at new_parts (get_or all i 0) ≡ entry_at p (get_or all i 0)
-  beside i lt = entry_beside p new_parts.bytes (get_or all count 0) (record { offset = used; class = class }) (get_or all i 0) (new_apart i lt)
+  beside i lt = entry_beside p new_parts.bytes (get_or all count 0) (record { offset = used; class = class }) (get_or all i 0) (new_apart p all room count used filled is few i lt)
 
   class_beside : (i : ℕ) → i < count → class_at new_parts (get_or all i 0) ≡ class_at p (get_or all i 0)
   class_beside i lt = ap (λ (e : Entry). e.class) (beside i lt)
@@ -174,7 +175,7 @@ module _ (p : Parts) (all : List ℕ) (room count used filled class : ℕ) (is :
       let same : blocks_of new_parts (take count all) ≡ blocks_of p (take count all) =
       made_same (kept_at new_parts) (kept_at p) (take count all) (in_front (λ q. kept_at new_parts q ≡ kept_at p q) kept_beside) in
       ap (blocks_of new_parts) live_more
-      ∙ made_more (kept_at new_parts) (take count all) (get_or all count 0) (ap (λ (b : Blocks). finite.get b (get_or all count 0)) same ∙ fresh)
+      ∙ made_more (kept_at new_parts) (take count all) (get_or all count 0) (ap (λ (b : Blocks). finite.get b (get_or all count 0)) same ∙ fresh p all room count used filled is few)
       ∙ ap (λ (b : Blocks). finite.insert b (get_or all count 0) (kept_at new_parts (get_or all count 0))) same
       ∙ ap (finite.insert (blocks_of p (take count all)) (get_or all count 0)) kept_there
 

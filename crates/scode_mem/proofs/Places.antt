@@ -1,11 +1,12 @@
 -- Places in their order, and what their entries say.
-use Rattle.std.proofs.Common.{◌≡◌, ◌≢◌, ℕ, ◌<◌, ◌≤◌, List, [], inl, inr, get_or, set, take, length, sym, ◌∙◌, ap, subst, arith}
+use Rattle.std.proofs.Common.{◌≡◌, ◌≢◌, ℕ, ◌+◌, ◌<◌, ◌≤◌, List, [], ◌∷◌, ◌++◌, inl, inr, get_or, set, take, length, sym, ◌∙◌, ap, subst, arith}
 use Rattle.std.specs.Prelude.{sum_by, AllPairs}
-use Rattle.std.proofs.lemmas.Bool.{cases_lt}
-use Rattle.std.proofs.lemmas.List.{get_or-set_other, get_or-set_same, get_or-take, get_or_default, length-take-le}
+use Rattle.std.proofs.lemmas.Bool.{cases_eq, cases_lt}
+use Rattle.std.proofs.lemmas.List.{get_or_append_left, get_or_push, get_or-set_other, get_or-set_same, get_or-take, get_or_default, length-take-le}
+use Rattle.std.proofs.lemmas.List.Elements.{All-from_get_or}
 use Rattle.scode_mem.specs.declared.entry.Entry.{Entry}
 use Rattle.scode_mem.specs.Blocks.{Kept, bytes_at}
-use Rattle.scode_mem.specs.Kept.{Parts, class_at, end_at, entry_at, kept_at, no_entry, size_at, start_at}
+use Rattle.scode_mem.specs.Kept.{ArePlaces, Parts, class_at, end_at, entry_at, kept_at, no_entry, size_at, start_at}
 use Rattle.scode_mem.proofs.Bytes.{length_range}
 
 -- two of a list, whichever comes first
@@ -60,3 +61,18 @@ module _ (p : Parts) (bytes : List ℕ) (place : ℕ) (e : Entry) where
 -- how many bytes a block has
 pub length-kept : (p : Parts) (place : ℕ) → end_at p place ≤ length p.bytes → length (kept_at p place).bytes ≡ size_at p place
 length-kept p place within = length_range p.bytes (start_at p place) (size_at p place) within
+
+-- a list that has each number below 4,096 at its place
+pub every_place : (xs : List ℕ) → length xs ≡ 4096 → ((k : ℕ) → k < 4096 → get_or xs k 0 ≡ k) → ArePlaces xs
+every_place xs as_many each = record {
+  all = as_many;
+  apart = pairs_from (λ a b. a ≢ b) xs (λ i j lt within e. (let first = each i (omega arith) in let other = each j (omega arith) in omega arith));
+  within = All-from_get_or (λ place. place < 4096) xs 0 (λ i lt. (let here = each i (omega arith) in omega arith));
+}
+
+-- one place more at the end of those below it
+pub place_more : (xs ys : List ℕ) (n : ℕ) → length xs ≡ n → ys ≡ xs ++ n ∷ [] → ((k : ℕ) → k < n → get_or xs k 0 ≡ k) → (k : ℕ) → k < n + 1 → get_or ys k 0 ≡ k
+place_more xs ys n as_many pushed each k lt = ap (λ (zs : List ℕ). get_or zs k 0) pushed ∙ elim (cases_eq k n) [
+  | inl is ↦ get_or_push xs n 0 k (as_many ∙ sym is) ∙ sym is
+  | inr ne ↦ (let within : k < length xs = omega arith in get_or_append_left xs (n ∷ []) 0 k within ∙ each k (omega arith))
+]

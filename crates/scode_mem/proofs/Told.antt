@@ -1,6 +1,6 @@
 -- What a pool's value tells of its parts.
 use Rattle.std.proofs.Common.{◌≡◌, ℕ, ◌+◌, ◌-◌, ◌<◌, ◌≤◌, List, [], ◌∷◌, ◌++◌, get_or, set, take, length, refl, sym, ◌∙◌, ap, subst, arith}
-use Rattle.std.specs.Prelude.{Option, Some, None, Contains, IsSome, IfSome, IsSomeAnd, remove, sum_by, vec_capacity}
+use Rattle.std.specs.Prelude.{Option, Some, None, Contains, IsSome, IfSome, IsSomeAnd, remove, vec_capacity}
 use Rattle.std.specs.Option.{option_map, option_map_or}
 use Rattle.std.specs.FinMap as finite
 use Rattle.std.proofs.lemmas.List.{get_or-take, get_or_default, get_or_read}
@@ -8,8 +8,8 @@ use Rattle.sed_engine.specs.declared.call.Place.{Place}
 use Rattle.scode_mem.specs.declared.block.Block.TheVariants.{Live}
 use Rattle.scode_mem.specs.declared.entry.Entry.{Entry}
 use Rattle.scode_mem.specs.declared.pool.Pool.TheInside.{Inside}
-use Rattle.scode_mem.specs.Blocks.{Blocks, HasBytes, Held, Kept, bytes_at, bytes_of, first_bytes, live_bytes, put_at, with_bytes, with_new, without}
-use Rattle.scode_mem.specs.Kept.{IsKept, LieInOrder, MovesOnly, Parts, blocks_of, class_at, entry_at, held_of, kept_at, no_entry, parts, size_at, start_at}
+use Rattle.scode_mem.specs.Blocks.{HasBytes, Held, Kept, bytes_at, bytes_of, first_bytes, live_bytes, put_at, with_bytes, with_new, without}
+use Rattle.scode_mem.specs.Kept.{IsAdded, IsKept, Parts, blocks_of, class_at, entry_at, held_of, kept_at, no_entry, parts, size_at, start_at}
 use Rattle.scode_mem.proofs.Bytes.{length-put_at, range_within}
 use Rattle.scode_mem.proofs.Changes.{added, class_there, end_there, fresh, held_added, held_moved, held_removed, how_many, length-live, live_at, live_where, place_below, removed, size_within, sum_there, written}
 use Rattle.scode_mem.proofs.Places.{length-kept}
@@ -167,46 +167,39 @@ module _ (i : Inside) (is : Keeps i) (h : Held) (view : seen i ≡ h) where
   first_told class = ap (λ (h : Held). first_bytes h class) (sym view)
 
   -- a block more, where the others may have moved
-  module _ (few : i.count < 4096) (class : ℕ) (of_class : class < length i.firsts.items) (bytes : List ℕ) (directory : List Entry) (start : ℕ)
-      (moved : MovesOnly (parts_of i) (parts i.firsts.items bytes directory) (take i.count i.places.items))
-      (lie : LieInOrder (parts i.firsts.items bytes directory) (take i.count i.places.items) start)
-      (filled : sum_by (size_at (parts_of i)) (take i.count i.places.items) ≤ start)
-      (long : length bytes ≡ length i.bytes.items) (entries : length directory ≡ length i.directory.items)
-      (room : start + length (get_or i.firsts.items class []) ≤ length i.bytes.items)
-      (place : ℕ) (next : place ≡ get_or i.places.items i.count 0) where
-    between : IsKept (parts i.firsts.items bytes directory) i.places.items (vec_capacity i.places) i.count start i.filled
-    between =
-        held_moved (parts_of i) (parts i.firsts.items bytes directory) i.places.items (vec_capacity i.places) i.count i.used i.filled start is refl long entries moved lie
-        (let was = is.counted in omega arith)
-
-    fits : start + length (get_or i.firsts.items class []) ≤ length bytes
-    fits = let far = room in omega arith
-
+  module _ (few : i.count < 4096) (class : ℕ) (of_class : class < length i.firsts.items) (place : ℕ) (next : place ≡ get_or i.places.items i.count 0) where
     pub fresh_told : finite.get h.live place ≡ None
     fresh_told =
-        ap (λ (h : Held). finite.get h.live place) (sym view) ∙ ap (λ (b : Blocks). finite.get b place) (sym moved.blocks)
-        ∙ ap (finite.get (blocks_of (parts i.firsts.items bytes directory) (take i.count i.places.items))) next
-        ∙ fresh (parts i.firsts.items bytes directory) i.places.items (vec_capacity i.places) i.count start i.filled class between few of_class fits
+        ap (λ (h : Held). finite.get h.live place) (sym view) ∙ ap (finite.get (blocks_of (parts_of i) (take i.count i.places.items))) next
+        ∙ fresh (parts_of i) i.places.items (vec_capacity i.places) i.count i.used i.filled is few
 
-    module _ (all : List ℕ) (new : List Entry) (size : ℕ) (put : all ≡ put_at bytes start (get_or i.firsts.items class [])) (noted : new ≡ set directory place (record { offset = start; class = class }))
-        (as_many : size ≡ length (get_or i.firsts.items class [])) where
-      new_entries : set directory (get_or i.places.items i.count 0) (record { offset = start; class = class }) ≡ new
-      new_entries = ap (λ q. set directory q (record { offset = start; class = class })) (sym next) ∙ sym noted
+    module _ (all : List ℕ) (new : List Entry) (start size : ℕ) (as_many : size ≡ length (get_or i.firsts.items class []))
+        (put : IsAdded (parts_of i) (parts i.firsts.items all new) (take i.count i.places.items) place class start) where
+      between : IsKept (parts i.firsts.items put.bytes put.directory) i.places.items (vec_capacity i.places) i.count start i.filled
+      between =
+          held_moved (parts_of i) (parts i.firsts.items put.bytes put.directory) i.places.items (vec_capacity i.places) i.count i.used i.filled start is refl put.as_many put.entries put.moved put.lie
+          (let was = is.counted in let far = put.after in omega arith)
+
+      fits : start + length (get_or i.firsts.items class []) ≤ length put.bytes
+      fits = let far = put.fits in let same = put.as_many in omega arith
+
+      new_entries : set put.directory (get_or i.places.items i.count 0) (record { offset = start; class = class }) ≡ new
+      new_entries = ap (λ q. set put.directory q (record { offset = start; class = class })) (sym next) ∙ sym put.noted
 
       pub more_told : IsKept (parts i.firsts.items all new) i.places.items (vec_capacity i.places) (i.count + 1) (start + size) (i.filled + size)
       more_told =
-          subst (λ (b : List ℕ). IsKept (parts i.firsts.items b new) i.places.items (vec_capacity i.places) (i.count + 1) (start + size) (i.filled + size)) (sym put)
-          (subst (λ (d : List Entry). IsKept (parts i.firsts.items (put_at bytes start (get_or i.firsts.items class [])) d) i.places.items (vec_capacity i.places) (i.count + 1) (start + size) (i.filled + size)) new_entries
-          (subst (λ (n : ℕ). IsKept (parts i.firsts.items (put_at bytes start (get_or i.firsts.items class [])) (set directory (get_or i.places.items i.count 0) (record { offset = start; class = class }))) i.places.items (vec_capacity i.places) (i.count + 1) (start + n) (i.filled + n)) (sym as_many)
-          (held_added (parts i.firsts.items bytes directory) i.places.items (vec_capacity i.places) i.count start i.filled class between few of_class fits)))
+          subst (λ (b : List ℕ). IsKept (parts i.firsts.items b new) i.places.items (vec_capacity i.places) (i.count + 1) (start + size) (i.filled + size)) (sym put.put)
+          (subst (λ (d : List Entry). IsKept (parts i.firsts.items (put_at put.bytes start (get_or i.firsts.items class [])) d) i.places.items (vec_capacity i.places) (i.count + 1) (start + size) (i.filled + size)) new_entries
+          (subst (λ (n : ℕ). IsKept (parts i.firsts.items (put_at put.bytes start (get_or i.firsts.items class [])) (set put.directory (get_or i.places.items i.count 0) (record { offset = start; class = class }))) i.places.items (vec_capacity i.places) (i.count + 1) (start + n) (i.filled + n)) (sym as_many)
+          (held_added (parts i.firsts.items put.bytes put.directory) i.places.items (vec_capacity i.places) i.count start i.filled class between few of_class fits)))
 
       pub added_told : held_of (parts i.firsts.items all new) i.places.items (i.count + 1) i.statics.items ≡ with_new h place class
       added_told =
-          let same : length all ≡ length i.bytes.items = ap length put ∙ length-put_at bytes start (get_or i.firsts.items class []) fits ∙ long in
+          let same : length all ≡ length i.bytes.items = ap length put.put ∙ length-put_at put.bytes start (get_or i.firsts.items class []) fits ∙ put.as_many in
           let left : blocks_of (parts i.firsts.items all new) (take (i.count + 1) i.places.items) ≡ finite.insert (seen i).live place (record { class = class; bytes = get_or i.firsts.items class [] }) =
-          (λ j. blocks_of (parts i.firsts.items (put j) (sym new_entries j)) (take (i.count + 1) i.places.items))
-          ∙ added (parts i.firsts.items bytes directory) i.places.items (vec_capacity i.places) i.count start i.filled class between few of_class fits
-          ∙ (λ j. finite.insert (moved.blocks j) (sym next j) (record { class = class; bytes = get_or i.firsts.items class [] })) in
+          (λ j. blocks_of (parts i.firsts.items (put.put j) (sym new_entries j)) (take (i.count + 1) i.places.items))
+          ∙ added (parts i.firsts.items put.bytes put.directory) i.places.items (vec_capacity i.places) i.count start i.filled class between few of_class fits
+          ∙ (λ j. finite.insert (put.moved.blocks j) (sym next j) (record { class = class; bytes = get_or i.firsts.items class [] })) in
           (λ j. record (seen i) { live = left j; limit = same j }) ∙ ap (λ (h : Held). with_new h place class) view
 
 -- a fact of parts that are equal to others

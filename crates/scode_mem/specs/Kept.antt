@@ -2,12 +2,12 @@
 --
 -- The live places are the first of a list of all places, in the order in which their blocks lie. So blocks lie apart,
 -- none lies behind `used`, and a place that is not live is one that stands further back in the list.
-use Rattle.std.specs.Prelude.{ℕ, ◌≡◌, ◌≢◌, ◌+◌, ◌<◌, ◌≤◌, ◌^◌, List, [], map, length, take, drop, slice_index_or}
-use Rattle.std.specs.Prelude.{sum_by, All, AllPairs, refl}
+use Rattle.std.specs.Prelude.{ℕ, ◌≡◌, ◌≢◌, ◌+◌, ◌<◌, ◌≤◌, ◌^◌, List, [], map, length, take, drop}
+use Rattle.std.specs.Prelude.{slice_index_or, slice_set, sum_by, All, AllPairs, refl}
 use Rattle.std.specs.Coded.{Coded, code_by, coded×, coded_ℕ, coded_list}
 use Rattle.std.specs.FinMap as finite
 use Rattle.scode_mem.specs.declared.entry.Entry.{Entry}
-use Rattle.scode_mem.specs.Blocks.{Blocks, Held, Kept}
+use Rattle.scode_mem.specs.Blocks.{Blocks, Held, Kept, put_at}
 
 -- the parts that blocks are seen by: the first bytes of classes, all bytes, and where the block of each place begins
 pub record Parts : Type 0 where
@@ -79,6 +79,21 @@ held_of p places count statics =
 pub record MovesOnly (old new : Parts) (places : List ℕ) : Type 0 where
   pub classes : (place : ℕ) → class_at new place ≡ class_at old place
   pub blocks : blocks_of new places ≡ blocks_of old places
+
+-- behind the blocks of these places, which may have moved, stands a new one with the first bytes of its class; all else
+-- is as it was
+pub record IsAdded (old new : Parts) (places : List ℕ) (place class start : ℕ) : Type 0 where
+  -- as the blocks had moved
+  pub bytes : List ℕ
+  pub directory : List Entry
+  pub moved : MovesOnly old (parts old.firsts bytes directory) places
+  pub lie : LieInOrder (parts old.firsts bytes directory) places start
+  pub as_many : length bytes ≡ length old.bytes
+  pub entries : length directory ≡ length old.directory
+  pub after : sum_by (size_at old) places ≤ start
+  pub fits : start + length (slice_index_or old.firsts class []) ≤ length old.bytes
+  pub put : new.bytes ≡ put_at bytes start (slice_index_or old.firsts class [])
+  pub noted : new.directory ≡ slice_set directory place (record { offset = start; class = class })
 
 -- ---- codes of what is kept
 

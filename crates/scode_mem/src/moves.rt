@@ -2,7 +2,7 @@
 ghost use Rattle.std.specs.Prelude.{◌≡◌, ◌≢◌, ◌+◌, ◌<◌, ◌≤◌, ◌^◌, [], length, slice_index_or, slice_set, sum_by};
 ghost use Rattle.std.specs.Prelude.{All, AllPairs};
 ghost use Rattle.scode_mem.specs.Blocks.{put_at};
-ghost use Rattle.scode_mem.specs.Kept.{LieInOrder, MovesOnly, parts, size_at};
+ghost use Rattle.scode_mem.specs.Kept.{IsAdded, LieInOrder, MovesOnly, parts, size_at};
 
 use crate::entry::Entry;
 use sed_value::Items;
@@ -97,4 +97,33 @@ pub fn put_block(
         offset: start as u32,
         class,
     };
+}
+
+/// Puts a block with the first bytes of its class behind those of these places, which lie in this order and move where
+/// it finds no room else. Gives where it begins.
+pub fn add_block(
+    firsts: &[Items<u8>],
+    bytes: &mut [u8],
+    places: &[u16],
+    directory: &mut [Entry],
+    used: usize,
+    place: u16,
+    class: u16,
+) -> usize
+    requires apart { AllPairs (λ a b. a ≢ b) places.now }
+    requires within { All (λ place. place < length directory.old) places.now }
+    requires lie { LieInOrder (parts firsts.now bytes.old directory.old) places.now used }
+    requires filled { sum_by (size_at (parts firsts.now bytes.old directory.old)) places.now ≤ used }
+    requires numbered { length bytes.old < 2 ^ 32 }
+    requires place { place < length directory.old }
+    requires class { class < length firsts.now }
+    requires fits { sum_by (size_at (parts firsts.now bytes.old directory.old)) places.now
+        + length (slice_index_or firsts.now class []) ≤ length bytes.old }
+    ensures { IsAdded (parts firsts.now bytes.old directory.old) (parts firsts.now bytes.new directory.new)
+        places.now place class result }
+{
+    let size = size_of(firsts, class);
+    let start = make_room(firsts, bytes, places, directory, used, size);
+    put_block(firsts, bytes, directory, place, start, class);
+    start
 }

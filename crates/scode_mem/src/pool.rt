@@ -8,7 +8,7 @@ ghost use Rattle.scode_mem.specs.Blocks.{with_new, with_number, without};
 
 use crate::block::Block;
 use crate::entry::Entry;
-use crate::moves::{make_room, put_block, size_of};
+use crate::moves::{add_block, size_of};
 use crate::number::{number_at, put_number};
 use crate::start::{all_places, empty_directory, first_bytes as firsts_of, some_bytes};
 use scode_image::Image;
@@ -89,21 +89,14 @@ impl Pool {
         if size > self.bytes.len() - self.filled {
             return Err(AddRefusal::DataFull);
         }
-        let start = make_room(
+        let place = self.places[self.count];
+        let start = add_block(
             &self.firsts,
             &mut self.bytes,
             &self.places[..self.count],
             &mut self.directory,
             self.used,
-            size,
-        );
-        let place = self.places[self.count];
-        put_block(
-            &self.firsts,
-            &mut self.bytes,
-            &mut self.directory,
             place,
-            start,
             t.0,
         );
         self.count += 1;
