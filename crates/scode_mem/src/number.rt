@@ -1,0 +1,28 @@
+//! Numbers among bytes.
+ghost use Rattle.std.specs.Prelude.{◌≡◌, ◌+◌, ◌<◌, ◌≤◌, ◌^◌, length};
+ghost use Rattle.std.specs.Int.{bytes_high_first};
+ghost use Rattle.sed_wire.specs.Number.{number_of};
+ghost use Rattle.scode_mem.specs.Blocks.{bytes_at, put_at};
+
+use byteorder::{BigEndian, ByteOrder};
+
+/// The number in 1 to 8 bytes from a place on, the highest first.
+pub fn number_at(bytes: &[u8], at: usize, width: usize) -> u64
+    requires some { 1 ≤ width }
+    requires most { width ≤ 8 }
+    requires there { at + width ≤ length bytes.now }
+    ensures { result ≡ number_of (bytes_at bytes.now at width) }
+{
+    BigEndian::read_uint(&bytes[at..at + width], width)
+}
+
+/// Puts a number into 1 to 8 bytes from a place on, the highest first. All other bytes stay.
+pub fn put_number(bytes: &mut [u8], at: usize, width: usize, number: u64)
+    requires some { 1 ≤ width }
+    requires most { width ≤ 8 }
+    requires there { at + width ≤ length bytes.old }
+    requires fits { number < 256 ^ width }
+    ensures { bytes.new ≡ put_at bytes.old at (bytes_high_first width number) }
+{
+    BigEndian::write_uint(&mut bytes[at..at + width], number, width);
+}
