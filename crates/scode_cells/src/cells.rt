@@ -159,7 +159,7 @@ impl Cells {
         self.frame.method
     }
 
-    /// The place of its next instruction.
+    /// The place of the running frame's next instruction.
     pub fn place(&self) -> u16
         requires { IsRunning self.now }
         ensures { result ≡ (running self.now).place }
@@ -167,7 +167,7 @@ impl Cells {
         self.frame.place
     }
 
-    /// Sets the place of its next instruction.
+    /// Sets the place of the running frame's next instruction.
     pub fn set_place(&mut self, place: u16)
         requires { IsRunning self.old }
         ensures { self.new ≡ placed self.old place }

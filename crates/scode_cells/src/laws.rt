@@ -1,8 +1,8 @@
 //! Laws of frames. Each is the contract of a function that does nothing.
 ghost use Rattle.std.specs.Prelude.{◌≡◌, ◌≢◌, ◌<◌, ℕ, List, drop, length, slice_get, Some};
 ghost use Rattle.scode_cells.specs.declared.cell.Cell.{Cell as AnyCell};
-ghost use Rattle.scode_cells.specs.Frames.{Frames, IsRunning, entered, left, popped, pushed, running, stored};
-ghost use Rattle.scode_cells.specs.Frames.{with_stack};
+ghost use Rattle.scode_cells.specs.Frames.{Frame, Frames, IsRunning, entered, left, popped, pushed, running, stored};
+ghost use Rattle.scode_cells.specs.Frames.{with_running, with_stack};
 
 /// What is stored is loaded, and other locals stay.
 pub fn what_is_stored_is_loaded()
@@ -18,9 +18,9 @@ pub fn what_is_pushed_is_popped()
     ensures rest { (s : Frames) (v : AnyCell) → IsRunning s → popped (pushed s v) ≡ s }
 {}
 
-/// A frame that was entered, and left with whatever it had come to, leaves its caller without the arguments, and
-/// nothing else of any frame below it is changed.
+/// A frame that was entered and is left, whatever it has come to, leaves its caller without the arguments, and nothing
+/// else of any frame below it is changed.
 pub fn calls_leave_their_caller()
-    ensures { (s : Frames) (method args : ℕ) (zeros : List AnyCell) →
-        left (entered s method args zeros) ≡ with_stack s (drop args (running s).stack) }
+    ensures { (s : Frames) (method args : ℕ) (zeros : List AnyCell) (f : Frame) →
+        left (with_running (entered s method args zeros) f) ≡ with_stack s (drop args (running s).stack) }
 {}

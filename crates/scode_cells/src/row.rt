@@ -8,7 +8,7 @@ use crate::extent::Extent;
 use sed_value::Memory;
 use std::alloc::Global;
 
-/// So many frames are there at most.
+/// How many frames there are at most.
 pub const FRAMES: usize = 32;
 
 /// Cells for all frames, of which each has so many at most.
