@@ -12,4 +12,5 @@ pub mod Wants
 pub mod CodeRules
 pub mod TableRules
 pub mod Faults
+pub mod Breaks
 pub mod Verified
