@@ -1,6 +1,7 @@
 pub mod Going
 pub mod Building
 pub mod Examples
+pub mod PartExamples
 pub mod RuleExamples
 pub mod Places
 pub mod Tells
@@ -11,3 +12,4 @@ pub mod Walks
 pub mod Agreeing
 pub mod Firsts
 pub mod Verifies
+pub mod Parts

@@ -1,5 +1,6 @@
 pub mod Tables
 pub mod Contents
+pub mod Parts
 pub mod Fields
 pub mod Machine
 pub mod Effect

@@ -3,6 +3,7 @@ ghost use Rattle.std.specs.Prelude.{◌≡◌, ◌↔◌, ◌+◌, ◌≤◌, �
 ghost use Rattle.sed_engine.specs.Asked.{MayAsk};
 ghost use Rattle.sed_engine.specs.Code.{Question};
 ghost use Rattle.sed_engine.specs.Expressions.{Called};
+ghost use Rattle.sed_engine.specs.Values.{Spot};
 ghost use Rattle.scode_image.specs.declared.image.Image.{Image as AnyImage};
 ghost use Rattle.scode_code.specs.Breaks.{BreaksNone, IsFirstBroken};
 ghost use Rattle.scode_code.specs.Faults.{Broken, IsVerified, first_broken};
@@ -10,8 +11,10 @@ ghost use Rattle.scode_code.specs.Fields.{Setting};
 ghost use Rattle.scode_code.specs.Image.{code_of, meaning_of};
 ghost use Rattle.scode_code.specs.Kinds.{Shape};
 ghost use Rattle.scode_code.specs.Machine.{Point, Over};
+ghost use Rattle.scode_code.specs.Parts.{Reference, part_of, ref_of};
 ghost use Rattle.scode_code.specs.Root.{root};
 ghost use Rattle.scode_code.specs.Steps.{steps};
+ghost use Rattle.scode_code.specs.Tables.{form_of};
 ghost use Rattle.scode_code.specs.Verified.{AreCovered, IsVerifiedBy, KindsIn};
 
 use sed_engine::masked_codes_answer;
@@ -53,4 +56,10 @@ pub fn images_without_fault_are_verified()
 pub fn stacks_keep_their_maximum()
     ensures { (image : AnyImage) (method place : ℕ) (shape : Shape) → IsVerified image
         → (here : KindsIn image method place shape) → length shape.stack ≤ here.m.stack }
+{}
+
+/// The reference that one in memory is leads to what stands there: in its block, at its offset, of its form.
+pub fn references_lead_to_their_places()
+    ensures { (image : AnyImage) (class : ℕ) (r : Reference) (spot : Spot) → ref_of image class r ≡ Some spot
+        → (spot.base ≡ r.base) × (part_of image class r.base spot.path ≡ Some (r.to.offset, form_of r.to)) }
 {}
