@@ -1,5 +1,15 @@
 pub mod Going
 pub mod Building
 pub mod Examples
+pub mod PartExamples
 pub mod RuleExamples
+pub mod Places
+pub mod Tells
+pub mod Ascending
+pub mod Arrivals
+pub mod Instructions
 pub mod Walks
+pub mod Agreeing
+pub mod Firsts
+pub mod Verifies
+pub mod Parts

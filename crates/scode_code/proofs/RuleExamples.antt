@@ -1,5 +1,5 @@
 -- The rules on small images, computed from the definitions: each broken once, beside a neighbour that keeps it.
-use Rattle.std.proofs.Common.{◌≡◌, ℕ, List, [], ◌∷◌, Option, Some, None, refl}
+use Rattle.std.proofs.Common.{◌≡◌, ℕ, List, [], ◌∷◌, drop, Option, Some, None, refl}
 use Rattle.scode_image.specs.declared.image.Image.{Image}
 use Rattle.scode_image.specs.declared.image.ImageEntry.{ImageEntry}
 use Rattle.scode_image.specs.declared.image.ImageKind.{ImageKind}
@@ -110,6 +110,18 @@ too_many : fault (0x04 ∷ 0x04 ∷ 0x04 ∷ 0x04 ∷ 0x04 ∷ 0x04 ∷ 0x04 ∷
 unfolding with_entries plain fault
 too_many = refl
 
+-- an entry that has nine, which nothing leads to; and one that has eight
+nine_nulls : List ImageKind
+nine_nulls = kind 5 ∷ kind 5 ∷ kind 5 ∷ kind 5 ∷ kind 5 ∷ kind 5 ∷ kind 5 ∷ kind 5 ∷ kind 5 ∷ []
+
+enters_with_nine : fault (0x72 ∷ 0x0a ∷ 0x72 ∷ []) (entry 1 nine_nulls ∷ []) ≡ Some (1, 6)
+unfolding with_entries entry plain fault nine_nulls
+enters_with_nine = refl
+
+enters_with_eight : fault (0x72 ∷ 0x0a ∷ 0x72 ∷ []) (entry 1 (drop 1 nine_nulls) ∷ []) ≡ None
+unfolding with_entries entry plain fault nine_nulls
+enters_with_eight = refl
+
 wrong_kind : fault (0x04 ∷ 0x1a ∷ 0x0a ∷ 0x72 ∷ []) [] ≡ Some (1, 7)
 unfolding with_entries plain fault
 wrong_kind = refl
@@ -212,6 +224,20 @@ behind_return = refl
 no_start : fault (0x07 ∷ 0 ∷ 0x0a ∷ 0x72 ∷ []) (entry 1 [] ∷ []) ≡ Some (1, 9)
 unfolding with_entries entry plain fault
 no_start = refl
+
+-- also where it has more bits than a place
+far_behind_all : fault (0x4b ∷ 0x72 ∷ []) (entry 70000 [] ∷ []) ≡ Some (70000, 9)
+unfolding with_entries entry plain fault
+far_behind_all = refl
+
+-- behind a jump too an instruction wants an entry
+behind_jump : fault (0x48 ∷ 0 ∷ 4 ∷ 0x4b ∷ 0x72 ∷ []) (entry 4 [] ∷ []) ≡ Some (3, 9)
+unfolding with_entries entry plain fault
+behind_jump = refl
+
+behind_jump_entered : fault (0x48 ∷ 0 ∷ 4 ∷ 0x4b ∷ 0x72 ∷ []) (entry 3 [] ∷ entry 4 [] ∷ []) ≡ None
+unfolding with_entries entry plain fault
+behind_jump_entered = refl
 
 behind_all : fault (0x4b ∷ 0x72 ∷ []) (entry 7 [] ∷ []) ≡ Some (7, 9)
 unfolding with_entries entry plain fault

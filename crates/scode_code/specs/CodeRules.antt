@@ -1,5 +1,5 @@
 -- The rules that code keeps, each with its number, and the first that is broken.
-use Rattle.std.specs.Prelude.{ℕ, zero, suc, ◌+◌, ◌-◌, ◌==◌, ◌&&◌, ◌||◌, nat_lt, nat_le, not, Bool, true, false, if◌then◌else◌, List, [], ◌∷◌, ◌++◌, find, length, take, drop, reverse, slice_get, is_some, Option, Some, None}
+use Rattle.std.specs.Prelude.{ℕ, zero, suc, ◌+◌, ◌==◌, ◌&&◌, ◌||◌, nat_lt, nat_le, not, Bool, true, false, if◌then◌else◌, List, [], ◌∷◌, ◌++◌, find, length, take, drop, reverse, slice_get, is_some, Option, Some, None}
 use Rattle.std.specs.List.{list_any}
 use Rattle.std.specs.Option.{option_map, option_map_or}
 use Rattle.scode_ops.specs.declared.op.Op.{Op}
@@ -86,13 +86,14 @@ number_missing image m (op.Call n) = option_map_or is_abstract (slice_get image.
 number_missing image m (op.VirtualCall class place) = not (is_some (table_method image class place))
 number_missing image m other = false
 
--- 6: the stack lacks a cell, or would pass its maximum
+-- 6: the stack is above its maximum, lacks a cell, or would pass its maximum
 abbrev pub after_stack : Wants → List ImageKind → List ImageKind
 after_stack w stack = w.puts (take (length w.takes) stack) ++ drop (length w.takes) stack
 
 abbrev pub stack_breaks : Image → ImageMethod → Shape → Op → Bool
 stack_breaks image m shape i =
-    nat_lt (length shape.stack) (length (wants_of image shape i).takes)
+    nat_lt m.stack (length shape.stack)
+    || nat_lt (length shape.stack) (length (wants_of image shape i).takes)
     || nat_lt m.stack (length (after_stack (wants_of image shape i) shape.stack))
 
 -- 7: a cell has a kind that does not go to the one needed
@@ -186,12 +187,14 @@ abbrev pub plain_rules : Image → ImageMethod → ℕ → Op → List (ℕ × B
 plain_rules image m place i =
     (2, runs_past m place i) ∷ (3, misses_start m i) ∷ (4, goes_back m place i) ∷ (5, number_missing image m i) ∷ []
 
--- all rules, where kinds arrive that may not go to the entry's
-abbrev pub rules_with : Image → ImageMethod → ℕ → Bool → Shape → Op → List (ℕ × Bool)
-rules_with image m place wrong shape i =
-    plain_rules image m place i
-    ++ (6, stack_breaks image m shape i) ∷ (7, kind_differs image shape i) ∷ (8, field_missing image shape.stack i)
+-- rules 6 to 10, where kinds stand; kinds that arrive may not go to the entry's
+abbrev pub kind_rules : Image → ImageMethod → Bool → Shape → Op → List (ℕ × Bool)
+kind_rules image m wrong shape i =
+    (6, stack_breaks image m shape i) ∷ (7, kind_differs image shape i) ∷ (8, field_missing image shape.stack i)
     ∷ (9, wrong || arrives_wrong image m shape i) ∷ (10, result_differs image m shape i) ∷ []
+
+abbrev pub rules_with : Image → ImageMethod → ℕ → Bool → Shape → Op → List (ℕ × Bool)
+rules_with image m place wrong shape i = plain_rules image m place i ++ kind_rules image m wrong shape i
 
 abbrev pub broken_with : Image → ImageMethod → ℕ → Bool → Shape → Op → Option ℕ
 broken_with image m place wrong shape i = first_of (rules_with image m place wrong shape i)
@@ -227,8 +230,18 @@ abbrev pub carried_on : Image → Option Shape → Op → Option Shape
 carried_on image shape i = if is_end i then None else option_map (λ s. after image s i) shape
 
 -- the first entry between two places: its place is no start
-abbrev pub entry_between : ImageMethod → ℕ → ℕ → Option ℕ
-entry_between m from to = option_map (λ e. e.place) (find (λ e. nat_lt from e.place && nat_lt e.place to) m.entries)
+abbrev pub is_between : ℕ → ℕ → ImageEntry → Bool
+is_between from to e = nat_lt from e.place && nat_lt e.place to
+
+abbrev pub entry_between : List ImageEntry → ℕ → ℕ → Option ℕ
+entry_between entries from to = option_map (λ e. e.place) (find (is_between from to) entries)
+
+-- the first entry from a place on: where the code is over, its place is no start
+abbrev pub is_from : ℕ → ImageEntry → Bool
+is_from place e = nat_le place e.place
+
+abbrev pub entry_from : List ImageEntry → ℕ → Option ℕ
+entry_from entries place = option_map (λ e. e.place) (find (is_from place) entries)
 
 -- a place with a rule that is broken there
 abbrev pub Fault : Type 0
@@ -248,7 +261,7 @@ abbrev pub fault_on : (ℕ → Option Shape → Option Fault) → Image → Imag
 fault_on later image m place carried None = Some (place, 2)
 fault_on later image m place carried (Some i) =
     fault_or place (broken_at image m place carried i)
-    (stray_or (entry_between m place (place + size_of i))
+    (stray_or (entry_between m.entries place (place + size_of i))
     (later (place + size_of i) (carried_on image (shape_at (entry_at m place) carried) i)))
 
 -- the first fault of code from a place on, where these kinds are left by the instruction before
@@ -257,7 +270,7 @@ fault_from zero image m place carried = None
 fault_from (suc most) image m place carried =
     if nat_lt place (length m.code)
     then fault_on (λ next left. fault_from most image m next left) image m place carried (op_at m.code place)
-    else stray_or (entry_between m (place - 1) 0x10000) None
+    else stray_or (entry_from m.entries place) None
 
 -- a method begins with its locals as they are at entry, and an empty stack
 abbrev pub first_shape : ImageMethod → Shape

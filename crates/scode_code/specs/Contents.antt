@@ -1,4 +1,4 @@
--- The first contents that the bytes of an image stand for, by path.
+-- The contents that the bytes of an object stand for, by path: its first bytes, or those that it has now.
 use Rattle.std.specs.Prelude.{ℕ, zero, suc, ◌+◌, ◌*◌, List, [], ◌∷◌, ◌++◌, map, length, take, drop, slice_get}
 use Rattle.std.specs.Int.{cast_signed, w32, w64}
 use Rattle.std.specs.List.{flat_map, enumerate_from, range_with_len}
@@ -34,36 +34,42 @@ primitive_at p bytes offset = primitive_from p (bytes_at bytes offset (width_of 
 abbrev pub buf_at : List ℕ → ℕ → Value
 buf_at bytes offset = kept.Buf (bytes_at bytes (offset + 2) (number_of (bytes_at bytes offset 2)))
 
--- what a field at this path begins with, where that of objects is known by class, path and bytes
-abbrev pub field_begun : (ℕ → Path → List ℕ → Contents) → Path → FieldForm → List ℕ → ℕ → Contents
-field_begun object path (form.Prim p) bytes offset = (path, primitive_at p bytes offset) ∷ []
-field_begun object path (form.Str n) bytes offset = (path, kept.Buf (bytes_at bytes offset n)) ∷ []
-field_begun object path (form.Buf n) bytes offset = (path, buf_at bytes offset) ∷ []
-field_begun object path (form.Array p n) bytes offset =
+-- what a field at this path holds, where that of objects is known by class, path and bytes
+abbrev pub field_held : (ℕ → Path → List ℕ → Contents) → Path → FieldForm → List ℕ → ℕ → Contents
+field_held object path (form.Prim p) bytes offset = (path, primitive_at p bytes offset) ∷ []
+field_held object path (form.Str n) bytes offset = (path, kept.Buf (bytes_at bytes offset n)) ∷ []
+field_held object path (form.Buf n) bytes offset = (path, buf_at bytes offset) ∷ []
+field_held object path (form.Array p n) bytes offset =
     map (λ i. (path ++ i ∷ [], primitive_at p bytes (offset + i * width_of p))) (range_with_len 0 n)
-field_begun object path (form.Object t) bytes offset = object t.0 path (drop offset bytes)
+field_held object path (form.Object t) bytes offset = object t.0 path (drop offset bytes)
 
-abbrev pub fields_begun : (ℕ → Path → List ℕ → Contents) → Path → List ImageField → List ℕ → Contents
-fields_begun object path fields bytes =
-    flat_map (λ (at : ℕ × ImageField). field_begun object (path ++ at.0 ∷ []) (form_of at.1) bytes at.1.offset)
+abbrev pub fields_held : (ℕ → Path → List ℕ → Contents) → Path → List ImageField → List ℕ → Contents
+fields_held object path fields bytes =
+    flat_map (λ (at : ℕ × ImageField). field_held object (path ++ at.0 ∷ []) (form_of at.1) bytes at.1.offset)
     (enumerate_from 0 fields)
 
 -- what these bytes of an object of a class at a path stand for, objects being inside one another at most so deep
-abbrev pub object_begun : Image → ℕ → ℕ → Path → List ℕ → Contents
-object_begun image zero class path bytes = []
-object_begun image (suc depth) class path bytes =
-    fields_begun (object_begun image depth) path (class_fields image class) bytes
+abbrev pub object_held : Image → ℕ → ℕ → Path → List ℕ → Contents
+object_held image zero class path bytes = []
+object_held image (suc depth) class path bytes =
+    fields_held (object_held image depth) path (class_fields image class) bytes
+
+-- what an object of a class holds whose bytes are these, and the static block
+abbrev pub held : Image → ℕ → List ℕ → Contents
+held image class bytes = object_held image (length image.classes) class [] bytes
+
+abbrev pub statics_held : Image → List ℕ → Contents
+statics_held image bytes = fields_held (object_held image (length image.classes)) [] image.static_fields bytes
 
 abbrev pub class_bytes : Image → ℕ → List ℕ
 class_bytes image class = option_map_or (λ c. c.contents) (slice_get image.classes class) []
 
 -- the contents of a new object of a class, and of the statics before any event
 abbrev pub initial : Image → ℕ → Contents
-initial image class = object_begun image (length image.classes) class [] (class_bytes image class)
+initial image class = held image class (class_bytes image class)
 
 abbrev pub initial_statics : Image → Contents
-initial_statics image =
-    fields_begun (object_begun image (length image.classes)) [] image.static_fields image.static_bytes
+initial_statics image = statics_held image image.static_bytes
 
 abbrev pub data_size : Image → ℕ → ℕ
 data_size image class = length (class_bytes image class)

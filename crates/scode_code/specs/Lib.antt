@@ -1,5 +1,6 @@
 pub mod Tables
 pub mod Contents
+pub mod Parts
 pub mod Fields
 pub mod Machine
 pub mod Effect
@@ -12,4 +13,5 @@ pub mod Wants
 pub mod CodeRules
 pub mod TableRules
 pub mod Faults
+pub mod Breaks
 pub mod Verified

@@ -63,12 +63,13 @@ abbrev pub begins : Option ImageMethod → ℕ → Val → Shared → Point
 begins None number argument shared = Over (record { result = Err Untyped; shared = shared })
 begins (Some m) number argument shared = enters number (locals_of m (root_arguments argument)) [] shared
 
--- how it ended; what did not end is as if it were stuck
+-- How it ended. What is not over after so many steps is as if it were stuck: both are part of what a root call is defined
+-- to be. That verified code is over by then is a law of its own, which comes with the machine.
 abbrev pub ended : Point → Called
 ended (Over c) = c
 ended (AtWork m) = record { result = Err Untyped; shared = m.shared }
 
--- so many instructions for each turn, and for the time before the first
+-- so many steps are made: the instructions of the longest method for each turn, and for the time before the first
 abbrev pub most_steps : Image → ℕ → ℕ
 most_steps image turns = (1 + turns) * longest_of (map (λ m. m.code) image.methods)
 

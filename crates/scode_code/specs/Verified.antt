@@ -1,13 +1,15 @@
 -- What code that keeps the rules is, for who proves of it: shapes at places, each of which an instruction leads on to
 -- others.
-use Rattle.std.specs.Prelude.{◌≡◌, ◌⊎◌, ℕ, zero, suc, ◌+◌, ◌==◌, ◌<◌, if◌then◌else◌, true, false, IsTrue, IfSome, length, slice_get, Option, Some, None}
+use Rattle.std.specs.Prelude.{◌≡◌, ◌⊎◌, ℕ, ◌+◌, ◌<◌, true, false, IsTrue, IfSome, IsSome, length, slice_get, Some}
 use Rattle.scode_ops.specs.declared.op.Op.{Op}
 use Rattle.scode_ops.specs.declared.op.Op.TheVariants.{Turn}
 use Rattle.scode_ops.specs.Decoding.{op_at, size_of}
 use Rattle.scode_image.specs.declared.image.Image.{Image}
+use Rattle.scode_image.specs.declared.image.ImageEntry.{ImageEntry}
 use Rattle.scode_image.specs.declared.image.ImageMethod.{ImageMethod}
 use Rattle.scode_code.specs.Kinds.{Shape, shape_goes}
-use Rattle.scode_code.specs.CodeRules.{after, carried_on, entry_at, field_missing, first_shape, is_abstract, is_end, jumps_to, kind_differs, misses_start, number_missing, result_differs, shape_at, stack_breaks}
+use Rattle.scode_code.specs.CodeRules.{after, entry_at, field_missing, first_shape, is_abstract, is_end, jumps_to, kind_differs, misses_start, number_missing, result_differs, stack_breaks}
+use Rattle.scode_code.specs.Breaks.{IsReached, IsStart, KindsAt, StartsAt}
 use Rattle.scode_code.specs.TableRules.{tables_agree}
 
 -- which shapes stand at which places of which methods
@@ -54,28 +56,27 @@ pub record IsVerifiedBy (image : Image) (shapes : Shapes) : Type 0 where
       (λ m. is_abstract m ≡ false → Leads image shapes method 0 (first_shape m))
   pub each : (method place : ℕ) (shape : Shape) → shapes method place shape → Stands image shapes method place shape
 
--- ---- the shapes that the walk of the rules finds
-
--- the shape at a place from an instruction on, if one stands there
-abbrev pub shape_on : (ℕ → Option Shape → Option Shape) → Image → ImageMethod → ℕ → Option Shape → ℕ → Option Op
-    → Option Shape
-shape_on later image m place carried target None = None
-shape_on later image m place carried target (Some i) =
-    if place == target then shape_at (entry_at m place) carried
-    else later (place + size_of i) (carried_on image (shape_at (entry_at m place) carried) i)
-
--- the shape at a place, from another on at which these kinds are left by the instruction before
-abbrev pub shape_within : ℕ → Image → ImageMethod → ℕ → Option Shape → ℕ → Option Shape
-shape_within zero image m place carried target = None
-shape_within (suc most) image m place carried target =
-    shape_on (λ next left. shape_within most image m next left target) image m place carried target (op_at m.code place)
-
-abbrev pub shape_in : Image → ImageMethod → ℕ → Option Shape
-shape_in image m place = shape_within (suc (length m.code)) image m 0 (Some (first_shape m)) place
+-- ---- the kinds of the rules, as shapes
 
 -- in methods that are not abstract
-pub record Walked (image : Image) (method place : ℕ) (shape : Shape) : Type 0 where
+pub record KindsIn (image : Image) (method place : ℕ) (shape : Shape) : Type 0 where
   pub m : ImageMethod
   pub there : slice_get image.methods method ≡ Some m
   pub concrete : is_abstract m ≡ false
-  pub found : shape_in image m place ≡ Some shape
+  pub kinds : KindsAt image m place shape
+
+-- What the rules ask beyond that the kinds of a method are fine: also of code that is never reached, and of entries that
+-- nothing leads to.
+pub record IsCovered (image : Image) (m : ImageMethod) : Type 0 where
+  -- instructions stand one behind the other to the end of the code
+  pub decoded : (place : ℕ) → IsReached m place → place < length m.code → IsStart m place
+  -- kinds stand at each
+  pub shaped : (place : ℕ) → IsStart m place → (shape : Shape) × KindsAt image m place shape
+  -- a jump goes to an entry
+  pub entered : (place to : ℕ) (i : Op) → StartsAt m place i → jumps_to i ≡ Some to → IsSome (entry_at m to)
+  -- an entry stands at the start of an instruction
+  pub placed : (n : ℕ) (e : ImageEntry) → slice_get m.entries n ≡ Some e → IsStart m e.place
+
+abbrev pub AreCovered : Image → Type 0
+AreCovered image = (method : ℕ) (m : ImageMethod) → slice_get image.methods method ≡ Some m → is_abstract m ≡ false
+    → IsCovered image m

@@ -3,21 +3,20 @@ use Rattle.std.proofs.Common.{◌≡◌, ℕ, ◌+◌, ◌-◌, ◌≤◌, Bool,
 use Rattle.std.proofs.lemmas.List.{length-map, length-reverse}
 use Rattle.scode_image.specs.declared.image.ImageKind.{ImageKind}
 use Rattle.scode_image.specs.declared.image.ImageMethod.{ImageMethod}
-use Rattle.scode_code.specs.Calls.{is_instance}
+use Rattle.scode_code.specs.Calls.{argument_count, is_instance}
 use Rattle.scode_code.specs.CodeRules.{after_stack}
 use Rattle.scode_code.specs.Kinds.{object}
 use Rattle.scode_code.specs.Wants as wants
-use Rattle.scode_rules.specs.Words.{argument_count}
 
 front : ℕ → Bool → List ImageKind
 front class b = if b then object class ∷ [] else []
 
 counted : (class : ℕ) (b : Bool) (params : List ImageKind)
     → length (map wants.Goes (reverse ((if b then object class ∷ [] else []) ++ params)))
-    ≡ (if b then length params + 1 else length params)
+    ≡ (if b then 1 else 0) + length params
 counted class true params =
     length-map (reverse (object class ∷ params)) wants.Goes ∙ length-reverse (object class ∷ params) ∙ omega arith
-counted class false params = length-map (reverse params) wants.Goes ∙ length-reverse params
+counted class false params = length-map (reverse params) wants.Goes ∙ length-reverse params ∙ omega arith
 
 pub arguments_are : (class : ℕ) (m : ImageMethod) → length (wants.call_wants class m).takes ≡ argument_count m
 arguments_are class m = counted class (is_instance m) m.params

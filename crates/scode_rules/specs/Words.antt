@@ -1,11 +1,9 @@
 -- What the values of this crate stand for, and names for parts of the rules' definitions.
-use Rattle.std.specs.Prelude.{ℕ, ◌+◌, Bool, false, not, true, if◌then◌else◌, List, [], ◌∷◌, ◌++◌, drop, length, reverse, slice_get, take, Option, Some, None}
+use Rattle.std.specs.Prelude.{ℕ, Bool, false, not, true, List, [], ◌∷◌, ◌++◌, drop, reverse, slice_get, take, Option, Some, None}
 use Rattle.std.specs.Option.{option_map_or}
 use Rattle.scode_image.specs.declared.image.Image.{Image}
 use Rattle.scode_image.specs.declared.image.ImageKind.{ImageKind}
-use Rattle.scode_image.specs.declared.image.ImageMethod.{ImageMethod}
 use Rattle.scode_code.specs.Kinds.{Shape, goes_to}
-use Rattle.scode_code.specs.Calls.{is_instance}
 use Rattle.scode_code.specs.CodeRules.{field_missing, is_abstract, lacks_field}
 use Rattle.scode_ops.specs.declared.op.Op.{Op}
 use Rattle.scode_ops.specs.declared.op.Op.TheVariants as op
@@ -76,9 +74,6 @@ top_differs image stack kind = not (option_map_or (λ k. goes_to image k kind) (
 -- kinds of locals, and of a stack with the lowest cell first
 abbrev pub shape : List ImageKind → List ImageKind → Shape
 shape locals stack = record { locals = locals; stack = reverse stack }
-
-abbrev pub argument_count : ImageMethod → ℕ
-argument_count m = if is_instance m then length m.params + 1 else length m.params
 
 -- of a cell that is not there nothing is said
 abbrev pub meets_at : Image → wants.Need → Option ImageKind → Bool

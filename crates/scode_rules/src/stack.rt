@@ -1,6 +1,7 @@
 //! The rules on the stack: how many cells stand on it, and of which kinds.
 ghost use Rattle.std.specs.Prelude.{◌≡◌, ◌≤◌, ◌<◌, ◌+◌, length, List, map, reverse, slice_get};
 ghost use Rattle.scode_image.specs.declared.image.ImageKind.{ImageKind as AnyKind};
+ghost use Rattle.scode_code.specs.Calls as calls;
 ghost use Rattle.scode_code.specs.CodeRules as rules;
 ghost use Rattle.scode_code.specs.Wants as wants;
 ghost use Rattle.scode_rules.specs.Words as words;
@@ -17,7 +18,7 @@ use scode_tables::{is_instance, method_at};
 // ---- how many cells
 
 fn argument_count(method: &ImageMethod) -> usize
-    ensures { result ≡ words.argument_count method.now }
+    ensures { result ≡ calls.argument_count method.now }
 {
     let params = method.params.as_slice().len();
     if is_instance(method) {
@@ -74,7 +75,7 @@ fn puts_count(image: &Image, puts: Puts, taken: usize) -> usize
     }
 }
 
-/// Whether the stack lacks a cell for an instruction, or would pass the method's maximum.
+/// Whether the stack is above the method's maximum, lacks a cell for an instruction, or would pass the maximum.
 pub fn stack_breaks(
     image: &Image,
     method: &ImageMethod,
@@ -86,7 +87,7 @@ pub fn stack_breaks(
 {
     let effect = effect_of(image, locals, op);
     let taken = takes_count(image, effect.takes);
-    if stack.len() < taken {
+    if usize::from(method.stack) < stack.len() || stack.len() < taken {
         return true;
     }
     let left = stack.len() - taken;

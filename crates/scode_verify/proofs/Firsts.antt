@@ -6,10 +6,10 @@ use Rattle.scode_image.specs.declared.image.ImageKind.{ImageKind}
 use Rattle.scode_image.specs.declared.image.ImageMethod.{ImageMethod}
 use Rattle.scode_ops.specs.declared.op.Op.{Op}
 use Rattle.scode_code.specs.Kinds.{Shape}
-use Rattle.scode_code.specs.CodeRules.{broken_by, first_of, plain_rules, stack_breaks}
+use Rattle.scode_code.specs.CodeRules.{broken_by, first_of, kind_rules, plain_rules, stack_breaks}
 use Rattle.scode_code.specs.Wants.{wants_of}
 use Rattle.scode_rules.specs.Words.{shape}
-use Rattle.scode_verify.specs.Words.{carried, kind_rules}
+use Rattle.scode_verify.specs.Words.{carried}
 
 cases_first : (n : ℕ) (b : Bool) (xs ys : List (ℕ × Bool)) (r : ℕ) → cond b (Some n) (first_of xs) ≡ Some r
     → (first_of xs ≡ Some r → first_of (xs ++ ys) ≡ Some r) → cond b (Some n) (first_of (xs ++ ys)) ≡ Some r
@@ -73,4 +73,4 @@ pub room : (image : Image) (m : ImageMethod) (place : ℕ) (wrong : Bool) (s : S
 room image m place wrong s i none =
     let kinds = none_behind (plain_rules image m place i) (kind_rules image m wrong s i) none in
     let cells = not_first 6 (stack_breaks image m s i) _ kinds in
-    ltb-false (length s.stack) (length (wants_of image s i).takes) (or_parts _ _ cells).0
+    ltb-false (length s.stack) (length (wants_of image s i).takes) (or_parts _ _ (or_parts _ _ cells).0).1

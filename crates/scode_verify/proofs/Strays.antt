@@ -6,7 +6,7 @@ use Rattle.std.proofs.lemmas.List.{drop_all}
 use Rattle.scode_tables.proofs.Rests.{next_left}
 use Rattle.scode_image.specs.declared.image.ImageEntry.{ImageEntry}
 use Rattle.scode_code.specs.TableRules.{places_ascend}
-use Rattle.scode_verify.specs.Words.{is_between, stray_between}
+use Rattle.scode_code.specs.CodeRules.{entry_between, is_between}
 
 -- one that stands at a place or before it is not between it and another
 pub passes : (es : List ImageEntry) (k : ℕ) (e : ImageEntry) (from to : ℕ) → k < length es → e ≡ get_or es k e
@@ -46,7 +46,7 @@ between_next e es least from to ascend low high =
 -- the next entry stands between the two places
 pub stray_there : (es : List ImageEntry) (k : ℕ) (e : ImageEntry) (from to : ℕ) → k < length es → e ≡ get_or es k e
     → find (is_between from to) es ≡ find (is_between from to) (drop k es) → from < e.place → e.place < to
-    → stray_between es from to ≡ Some e.place
+    → entry_between es from to ≡ Some e.place
 stray_there es k e from to within is passed low high =
     ap (λ (o : Option ImageEntry). option_map (λ x. x.place) o)
     (passed ∙ ap (λ (xs : List ImageEntry). find (is_between from to) xs) (next_left k es e within is)
@@ -57,7 +57,7 @@ stray_there es k e from to within is passed low high =
 pub stray_behind : (es : List ImageEntry) (k : ℕ) (e : ImageEntry) (from to : ℕ) → k < length es → e ≡ get_or es k e
     → places_ascend 0 es ≡ true
     → find (is_between from to) es ≡ find (is_between from to) (drop k es) → from < e.place → to ≤ e.place
-    → stray_between es from to ≡ None
+    → entry_between es from to ≡ None
 stray_behind es k e from to within is ascend passed low high =
     let rest = ascend_behind k 0 es ascend in
     let next = next_left k es e within is in
@@ -67,7 +67,7 @@ stray_behind es k e from to within is ascend passed low high =
 
 -- there is none
 pub stray_none : (es : List ImageEntry) (k from to : ℕ) → length es ≤ k
-    → find (is_between from to) es ≡ find (is_between from to) (drop k es) → stray_between es from to ≡ None
+    → find (is_between from to) es ≡ find (is_between from to) (drop k es) → entry_between es from to ≡ None
 stray_none es k from to past passed =
     ap (λ (o : Option ImageEntry). option_map (λ x. x.place) o)
     (passed ∙ ap (λ (xs : List ImageEntry). find (is_between from to) xs) (drop_all k es past))

@@ -1,6 +1,5 @@
 -- What the verifier knows of a method's places, and of the kinds at one.
-use Rattle.std.specs.Prelude.{◌≡◌, ℕ, suc, true, ◌+◌, ◌-◌, ◌<◌, ◌≤◌, ◌==◌, ◌&&◌, ◌||◌, nat_lt, Bool, false, if◌then◌else◌, List, [], ◌∷◌, drop, find, length, slice_get, slice_index_or, Option, Some, None}
-use Rattle.std.specs.Option.{option_map}
+use Rattle.std.specs.Prelude.{◌≡◌, ℕ, suc, true, ◌+◌, ◌<◌, ◌≤◌, ◌==◌, nat_lt, Bool, false, if◌then◌else◌, List, [], ◌∷◌, drop, find, length, slice_get, slice_index_or, Option, Some, None}
 use Rattle.scode_image.specs.declared.image.Image.{Image}
 use Rattle.scode_image.specs.declared.image.ImageEntry.{ImageEntry}
 use Rattle.scode_image.specs.declared.image.ImageKind.{ImageKind}
@@ -8,7 +7,7 @@ use Rattle.scode_image.specs.declared.image.ImageMethod.{ImageMethod}
 use Rattle.scode_ops.specs.declared.op.Op.{Op}
 use Rattle.scode_code.specs.Faults.{Broken as AnyBroken}
 use Rattle.scode_code.specs.Kinds.{Shape}
-use Rattle.scode_code.specs.CodeRules.{Fault, arrives_wrong, carried_on, entry_at, entry_between, fault_from, field_missing, first_shape, is_start, kind_differs, result_differs, shape_at, stack_breaks, stray_or}
+use Rattle.scode_code.specs.CodeRules.{Fault, carried_on, entry_at, entry_from, fault_from, first_shape, is_between, is_start, shape_at, stray_or}
 use Rattle.scode_code.specs.TableRules.{places_ascend}
 use Rattle.scode_code.specs.Wants.{wants_of}
 use Rattle.scode_rules.specs.Words.{shape}
@@ -33,12 +32,6 @@ pub record AreNumbers (numbers : List (Option ℕ)) (m : ImageMethod) : Type 0 w
 abbrev pub found : List ImageEntry → ℕ → Option ImageEntry
 found entries place = find (λ e. e.place == place) entries
 
--- rules 6 to 10
-abbrev pub kind_rules : Image → ImageMethod → Bool → Shape → Op → List (ℕ × Bool)
-kind_rules image m wrong shape i =
-    (6, stack_breaks image m shape i) ∷ (7, kind_differs image shape i) ∷ (8, field_missing image shape.stack i)
-    ∷ (9, wrong || arrives_wrong image m shape i) ∷ (10, result_differs image m shape i) ∷ []
-
 -- the kinds at a place, if any stand there
 abbrev pub carried : Bool → List ImageKind → List ImageKind → Option Shape
 carried stands locals stack = if stands then Some (shape locals stack) else None
@@ -55,12 +48,6 @@ abbrev pub HasRoom : Image → Kinds → Op → Type 0
 HasRoom image k i = (s : Shape) → kinds_of k ≡ Some s → length (wants_of image s i).takes ≤ length s.stack
 
 -- ---- entries that are no starts
-
-abbrev pub is_between : ℕ → ℕ → ImageEntry → Bool
-is_between from to e = nat_lt from e.place && nat_lt e.place to
-
-abbrev pub stray_between : List ImageEntry → ℕ → ℕ → Option ℕ
-stray_between entries from to = option_map (λ e. e.place) (find (is_between from to) entries)
 
 -- the first ones stand at a place or before it
 abbrev pub Passed : List ImageEntry → ℕ → ℕ → Type 0
@@ -81,7 +68,7 @@ whole_walk image m = fault_from (suc (length m.code)) image m 0 (Some (first_sha
 -- where no instruction stands
 abbrev pub last_fault : ImageMethod → ℕ → Option Fault
 last_fault m place =
-    if nat_lt place (length m.code) then Some (place, 2) else stray_or (entry_between m (place - 1) 0x10000) None
+    if nat_lt place (length m.code) then Some (place, 2) else stray_or (entry_from m.entries place) None
 
 -- ---- the whole image
 

@@ -92,7 +92,7 @@ pub(crate) fn stray(entries: &[ImageEntry], passed: usize, from: usize, to: usiz
     requires passed { words.Passed entries.now passed from }
     requires next { words.IsBehind entries.now passed from }
     requires ascend { tables.places_ascend 0 entries.now ≡ true }
-    ensures { result ≡ words.stray_between entries.now from to }
+    ensures { result ≡ rules.entry_between entries.now from to }
 {
     if passed < entries.len() && usize::from(entries[passed].place) < to {
         return Some(entries[passed].place);

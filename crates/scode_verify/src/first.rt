@@ -124,7 +124,7 @@ fn kind_rule(
     op: Op,
 ) -> Option<u8>
     requires { words.AreNumbers numbers.now method.now }
-    ensures { result ≡ rules.first_of (words.kind_rules image.now method.now wrong (shape locals.now stack.now) op) }
+    ensures { result ≡ rules.first_of (rules.kind_rules image.now method.now wrong (shape locals.now stack.now) op) }
 {
     if stack_breaks(image, method, locals, stack, op) {
         return Some(6);

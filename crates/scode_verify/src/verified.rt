@@ -5,6 +5,7 @@ ghost use Rattle.scode_verify.specs.Outcome.{IsOutcome};
 ghost use Rattle.scode_verify.specs.Words as words;
 
 use crate::walk::code_fault;
+use scode_code::{first_broken_is_least, rules_are_broken_or_not};
 use scode_fields::tables_agree;
 use scode_image::Image;
 use sed_value::Memory;
@@ -98,6 +99,8 @@ fn first_broken(alloc: Global, image: &Image) -> Result<Option<Found>, Memory>
 pub fn verify(alloc: Global, image: Image) -> Result<Verified, VerifyRefusal>
     ensures { IsOutcome image result }
 {
+    rules_are_broken_or_not();
+    first_broken_is_least();
     match first_broken(alloc, &image) {
         Ok(Some(found)) => Err(VerifyRefusal::Fault {
             method: found.method,

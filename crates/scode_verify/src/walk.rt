@@ -83,8 +83,7 @@ fn last_fault(method: &ImageMethod, place: usize) -> Option<Broken>
             rule: 2,
         });
     }
-    let from = place.saturating_sub(1);
-    match between(method.entries.as_slice(), from, 65536) {
+    match first_from(method.entries.as_slice(), place) {
         Some(entry) => Some(Broken {
             at: entry.place,
             rule: 9,
@@ -93,10 +92,12 @@ fn last_fault(method: &ImageMethod, place: usize) -> Option<Broken>
     }
 }
 
-fn between(entries: &[ImageEntry], from: usize, to: usize) -> Option<&ImageEntry>
-    ensures { option_copied result ≡ find (words.is_between from to) entries.now }
+fn first_from(entries: &[ImageEntry], place: usize) -> Option<&ImageEntry>
+    ensures { option_copied result ≡ find (rules.is_from place) entries.now }
 {
-    entries.iter().find(|entry| from < usize::from(entry.place) && usize::from(entry.place) < to)
+    entries
+        .iter()
+        .find(|entry| place <= usize::from(entry.place))
 }
 
 // The first fault along the code. Each round is at one instruction.

@@ -21,7 +21,7 @@ use Rattle.sed_engine.proofs.FirstPaths.{IsLeaf, has}
 use Rattle.scode_image.specs.declared.image.Image.{Image}
 use Rattle.scode_image.specs.declared.image.ImageClass.{ImageClass}
 use Rattle.scode_image.specs.declared.image.ImageField.{ImageField}
-use Rattle.scode_code.specs.Contents.{buf_at, bytes_at, field_begun, fields_begun, initial, initial_statics, object_begun, primitive_at}
+use Rattle.scode_code.specs.Contents.{buf_at, bytes_at, field_held, fields_held, initial, initial_statics, object_held, primitive_at}
 use Rattle.scode_code.specs.TableRules as rule
 use Rattle.scode_code.specs.Tables.{class_fields, form_of, primitive_of, shape_of}
 use Rattle.scode_whole.proofs.Truths.{in_all, no_truth, no_value, passes, two}
@@ -181,7 +181,7 @@ module _ (image : Image) (is : Agrees image) (F : Path → Option FieldForm) whe
   ObjectsKept depth = (class : ℕ) (c : ImageClass) → slice_get image.classes class ≡ Some c
       → (path : Path) (bytes : List ℕ)
       → are_bytes bytes ≡ true → length c.contents ≤ length bytes → rule.object_fits depth image class bytes ≡ true
-      → Inside shapes F path 0 c.fields → all_kept F (object_begun image depth class path bytes) ≡ true
+      → Inside shapes F path 0 c.fields → all_kept F (object_held image depth class path bytes) ≡ true
 
   object_kept : (depth : ℕ) → ObjectsKept depth → (path : Path) (bytes : List ℕ) (size : ℕ) (f : ImageField)
       → FieldIs image size f → size ≤ length bytes → are_bytes bytes ≡ true
@@ -189,7 +189,7 @@ module _ (image : Image) (is : Agrees image) (F : Path → Option FieldForm) whe
       ≡ option_map_or (λ (c : ImageClass). length c.contents) (slice_get image.classes f.n) 0
       → (f.form == 8) ≡ true → rule.object_fits depth image f.n (drop f.offset bytes) ≡ true
       → Agree shapes F path (Some (form.Object (record { 0 = f.n })))
-      → all_kept F (object_begun image depth f.n path (drop f.offset bytes)) ≡ true
+      → all_kept F (object_held image depth f.n path (drop f.offset bytes)) ≡ true
   object_kept depth objects path bytes size f g long good width d fits a =
       let known : f.n < length image.classes =
       ltb-true f.n (length image.classes) (second (f.form == 8) (rule.has_class image f.n) d g.there) in
@@ -210,25 +210,25 @@ module _ (image : Image) (is : Agrees image) (F : Path → Option FieldForm) whe
   field_kept : (depth : ℕ) → ObjectsKept depth → (path : Path) (bytes : List ℕ) (size : ℕ) (f : ImageField)
       → FieldIs image size f → size ≤ length bytes → are_bytes bytes ≡ true
       → rule.field_fits (rule.object_fits depth image) bytes f ≡ true → Agree shapes F path (Some (form_of f))
-      → all_kept F (field_begun (object_begun image depth) path (form_of f) bytes f.offset) ≡ true
+      → all_kept F (field_held (object_held image depth) path (form_of f) bytes f.offset) ≡ true
   field_kept depth objects path bytes size f g long good fits a =
       by_number (nat_le f.form 5) (f.form == 6) (f.form == 7) (f.form == 8) refl refl refl refl
     where
       begun : FieldForm → Contents
-      begun of = field_begun (object_begun image depth) path of bytes f.offset
+      begun of = field_held (object_held image depth) path of bytes f.offset
 
       agree : (of : FieldForm) → form_of f ≡ of → Agree shapes F path (Some of)
       agree of e = subst (λ (h : FieldForm). Agree shapes F path (Some h)) e a
 
       as_form : (of : FieldForm) → form_of f ≡ of
-          → all_kept F (field_begun (object_begun image depth) path of bytes f.offset) ≡ true
-          → all_kept F (field_begun (object_begun image depth) path (form_of f) bytes f.offset) ≡ true
+          → all_kept F (field_held (object_held image depth) path of bytes f.offset) ≡ true
+          → all_kept F (field_held (object_held image depth) path (form_of f) bytes f.offset) ≡ true
       as_form of e h =
-          subst (λ (x : FieldForm). all_kept F (field_begun (object_begun image depth) path x bytes f.offset) ≡ true)
+          subst (λ (x : FieldForm). all_kept F (field_held (object_held image depth) path x bytes f.offset) ≡ true)
           (sym e) h
 
       by_number : (x y z w : Bool) → nat_le f.form 5 ≡ x → (f.form == 6) ≡ y → (f.form == 7) ≡ z → (f.form == 8) ≡ w
-          → all_kept F (field_begun (object_begun image depth) path (form_of f) bytes f.offset) ≡ true
+          → all_kept F (field_held (object_held image depth) path (form_of f) bytes f.offset) ≡ true
       by_number true y z w ex ey ez ew =
           let of : form_of f ≡ form.Prim (primitive_of f.form) = form_prim f ex in
           as_form (form.Prim (primitive_of f.form)) of
@@ -271,7 +271,7 @@ module _ (image : Image) (is : Agrees image) (F : Path → Option FieldForm) whe
       → FieldsAre image size all → size ≤ length bytes → are_bytes bytes ≡ true
       → list_all (rule.field_fits (rule.object_fits depth image) bytes) all ≡ true → Inside shapes F path k all
       → all_kept F
-      (flat_map (λ (at : ℕ × ImageField). field_begun (object_begun image depth) (path ++ at.0 ∷ [])
+      (flat_map (λ (at : ℕ × ImageField). field_held (object_held image depth) (path ++ at.0 ∷ [])
       (form_of at.1) bytes at.1.offset)
       (enumerate_from k all))
       ≡ true
@@ -279,8 +279,8 @@ module _ (image : Image) (is : Agrees image) (F : Path → Option FieldForm) whe
   fields_kept depth objects path bytes size k (f ∷ fs) each long good fits within =
       let p = and_parts (rule.field_fits (rule.object_fits depth image) bytes f)
       (list_all (rule.field_fits (rule.object_fits depth image) bytes) fs) fits in
-      all_kept-append F (field_begun (object_begun image depth) (path ++ k ∷ []) (form_of f) bytes f.offset)
-      (flat_map (λ (at : ℕ × ImageField). field_begun (object_begun image depth) (path ++ at.0 ∷ [])
+      all_kept-append F (field_held (object_held image depth) (path ++ k ∷ []) (form_of f) bytes f.offset)
+      (flat_map (λ (at : ℕ × ImageField). field_held (object_held image depth) (path ++ at.0 ∷ [])
       (form_of at.1) bytes at.1.offset)
       (enumerate_from (k + 1) fs))
       (field_kept depth objects (path ++ k ∷ []) bytes size f (each 0 f refl) long good p.0 (within k 0 (omega arith)))
@@ -294,7 +294,7 @@ module _ (image : Image) (is : Agrees image) (F : Path → Option FieldForm) whe
       let own : list_all (rule.field_fits (rule.object_fits depth image) bytes) c.fields ≡ true =
       sym (ap (λ (all : List ImageField). list_all (rule.field_fits (rule.object_fits depth image) bytes) all)
       (fields_at image class c at)) ∙ fits in
-      subst (λ (all : List ImageField). all_kept F (fields_begun (object_begun image depth) path all bytes) ≡ true)
+      subst (λ (all : List ImageField). all_kept F (fields_held (object_held image depth) path all bytes) ≡ true)
       (sym (fields_at image class c at))
       (fields_kept depth (objects_kept depth) path bytes (length c.contents) 0 c.fields
       (fields_are image (length c.contents) c.fields c.contents a.fields) long good own within)
@@ -360,7 +360,7 @@ initial_kept image is class c at =
     (fields_at image class c at) (at_top (shapes_of image) (class_fields image class)) in
     let same : length c.contents ≤ length c.contents = omega arith in
     ap (λ (o : Option ImageClass). all_kept (form_in (shapes_of image) (shapes_of image class))
-    (object_begun image (length image.classes) class [] (option_map_or (λ (d : ImageClass). d.contents) o [])))
+    (object_held image (length image.classes) class [] (option_map_or (λ (d : ImageClass). d.contents) o [])))
     at
     ∙ objects_kept image is (form_in (shapes_of image) (shapes_of image class)) (length image.classes) class c at []
     c.contents a.bytes same (fits_less image (length image.classes) class c.contents fits) inside
@@ -401,7 +401,7 @@ has_back (e ∷ es) b path h = by_test (bytes_eq e.0 path) (has_back es b path h
 
 begun_has : (object : ℕ → Path → List ℕ → Contents) (path : Path) (f : FieldForm) (bytes : List ℕ) (offset : ℕ)
     → IsLeaf f
-    → has (field_begun object path f bytes offset) path ≡ true
+    → has (field_held object path f bytes offset) path ≡ true
 begun_has object path (form.Prim p) bytes offset leaf = one_has path (primitive_at p bytes offset)
 begun_has object path (form.Str n) bytes offset leaf = one_has path (kept.Buf (bytes_at bytes offset n))
 begun_has object path (form.Buf n) bytes offset leaf = one_has path (buf_at bytes offset)
@@ -410,7 +410,7 @@ begun_has object path (form.Object t) bytes offset leaf = absurd leaf
 
 begun_all : (ℕ → Path → List ℕ → Contents) → List ℕ → ℕ → List ImageField → Contents
 begun_all object bytes k all =
-    flat_map (λ (at : ℕ × ImageField). field_begun object ([] ++ at.0 ∷ []) (form_of at.1) bytes at.1.offset)
+    flat_map (λ (at : ℕ × ImageField). field_held object ([] ++ at.0 ∷ []) (form_of at.1) bytes at.1.offset)
     (enumerate_from k all)
 
 fields_have : (object : ℕ → Path → List ℕ → Contents) (bytes : List ℕ) (k i : ℕ) (all : List ImageField)
@@ -421,14 +421,14 @@ fields_have object bytes k i [] f e leaf = no_value f e
 fields_have object bytes k zero (g ∷ gs) f e leaf =
     let same : g ≡ f = cc in
     let first : k ≡ k + 0 = omega arith in
-    has_front (field_begun object (k ∷ []) (form_of g) bytes g.offset) (begun_all object bytes (k + 1) gs)
+    has_front (field_held object (k ∷ []) (form_of g) bytes g.offset) (begun_all object bytes (k + 1) gs)
     ((k + 0) ∷ [])
-    (subst (λ (n : ℕ). has (field_begun object (k ∷ []) (form_of g) bytes g.offset) (n ∷ []) ≡ true) first
+    (subst (λ (n : ℕ). has (field_held object (k ∷ []) (form_of g) bytes g.offset) (n ∷ []) ≡ true) first
     (begun_has object (k ∷ []) (form_of g) bytes g.offset (subst (λ (h : ImageField). IsLeaf (form_of h))
     (sym same) leaf)))
 fields_have object bytes k (suc i) (g ∷ gs) f e leaf =
     let next : k + 1 + i ≡ k + suc i = omega arith in
-    has_back (field_begun object (k ∷ []) (form_of g) bytes g.offset) (begun_all object bytes (k + 1) gs)
+    has_back (field_held object (k ∷ []) (form_of g) bytes g.offset) (begun_all object bytes (k + 1) gs)
     ((k + suc i) ∷ [])
     (subst (λ (n : ℕ). has (begun_all object bytes (k + 1) gs) (n ∷ []) ≡ true) next
     (fields_have object bytes (k + 1) i gs f e leaf))
@@ -440,15 +440,15 @@ pub initial_has : (image : Image) (class i : ℕ) (c : ImageClass) (f : ImageFie
 unfolding begun_all
 initial_has image class i c f at known there leaf =
     ap (λ (o : Option ImageClass). has
-    (object_begun image (length image.classes) class [] (option_map_or (λ (d : ImageClass). d.contents) o [])) (i ∷ []))
+    (object_held image (length image.classes) class [] (option_map_or (λ (d : ImageClass). d.contents) o [])) (i ∷ []))
     at
     ∙ by_depth (length image.classes) known
   where
-    by_depth : (n : ℕ) → class < n → has (object_begun image n class [] c.contents) (i ∷ []) ≡ true
+    by_depth : (n : ℕ) → class < n → has (object_held image n class [] c.contents) (i ∷ []) ≡ true
     by_depth zero low = absurd (omega (arith, low))
     by_depth (suc n) low =
         let same : 0 + i ≡ i = omega arith in
-        ap (λ (all : List ImageField). has (fields_begun (object_begun image n) [] all c.contents) (i ∷ []))
+        ap (λ (all : List ImageField). has (fields_held (object_held image n) [] all c.contents) (i ∷ []))
         (fields_at image class c at)
-        ∙ subst (λ (k : ℕ). has (begun_all (object_begun image n) c.contents 0 c.fields) (k ∷ []) ≡ true) same
-        (fields_have (object_begun image n) c.contents 0 i c.fields f there leaf)
+        ∙ subst (λ (k : ℕ). has (begun_all (object_held image n) c.contents 0 c.fields) (k ∷ []) ≡ true) same
+        (fields_have (object_held image n) c.contents 0 i c.fields f there leaf)

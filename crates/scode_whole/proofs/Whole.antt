@@ -20,7 +20,7 @@ use Rattle.sed_engine.proofs.MaskedCodes.{to_masked}
 use Rattle.scode_image.specs.declared.image.Image.{Image}
 use Rattle.scode_image.specs.declared.image.ImageClass.{ImageClass}
 use Rattle.scode_image.specs.declared.image.ImageField.{ImageField}
-use Rattle.scode_code.specs.Contents.{data_size, fields_begun, initial, object_begun}
+use Rattle.scode_code.specs.Contents.{data_size, fields_held, initial, object_held}
 use Rattle.scode_code.specs.Faults.{Broken, IsVerified, methods_broken}
 use Rattle.scode_code.specs.Image.{code_of, meaning_of}
 use Rattle.scode_code.specs.TableRules.{tables_agree}
@@ -101,10 +101,10 @@ first_are image is class known =
 -- ---- beyond the classes
 
 begun_beyond : (image : Image) (depth class : ℕ) (bytes : List ℕ) → class_fields image class ≡ []
-    → object_begun image depth class [] bytes ≡ []
+    → object_held image depth class [] bytes ≡ []
 begun_beyond image zero class bytes e = refl
 begun_beyond image (suc depth) class bytes e =
-    ap (λ (all : List ImageField). fields_begun (object_begun image depth) [] all bytes) e
+    ap (λ (all : List ImageField). fields_held (object_held image depth) [] all bytes) e
 
 nothing_beyond : (image : Image) (class : ℕ) → length (schema_of image).classes ≤ class
     → SaysNothing (code_of image) class

@@ -1,5 +1,5 @@
-use Rattle.scode_code.proofs.Walks.{verified_by_walk}
+use Rattle.scode_code.proofs.Verifies.{verified_by_kinds}
 use Rattle.scode_code.proofs.laws.images_without_fault_are_verified.Goals as goal
 
 pub returns : goal.returns
-returns c = verified_by_walk
+returns c = verified_by_kinds

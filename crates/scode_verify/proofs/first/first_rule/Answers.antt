@@ -1,8 +1,7 @@
 use Rattle.std.proofs.Common.{List, ap, sym, ◌∙◌}
 use Rattle.scode_image.specs.declared.image.ImageKind.{ImageKind}
-use Rattle.scode_code.specs.CodeRules.{first_of}
+use Rattle.scode_code.specs.CodeRules.{first_of, kind_rules}
 use Rattle.scode_rules.specs.Words.{shape}
-use Rattle.scode_verify.specs.Words.{kind_rules}
 use Rattle.scode_verify.proofs.Firsts.{broken_by_kinds, broken_plainly, broken_without_kinds}
 use Rattle.scode_verify.proofs.first.first_rule.Goals as goal
 

@@ -4,9 +4,9 @@ use Rattle.sed_value.specs.declared.memory.Memory.{Memory}
 use Rattle.scode_image.specs.declared.image.ImageEntry.{ImageEntry}
 use Rattle.scode_ops.specs.declared.op.Op.{Op}
 use Rattle.scode_ops.specs.Decoding.{op_at, size_of}
-use Rattle.scode_code.specs.CodeRules.{fault_from}
+use Rattle.scode_code.specs.CodeRules.{entry_between, fault_from}
 use Rattle.scode_code.specs.Kinds.{Shape}
-use Rattle.scode_verify.specs.Words.{kinds_of, left_at, stray_between}
+use Rattle.scode_verify.specs.Words.{kinds_of, left_at}
 use Rattle.scode_verify.proofs.Rounds.{all_gone, broken_there, goes_on, no_more, strayed_there}
 use Rattle.scode_verify.proofs.walk.along.Goals as goal
 
@@ -55,9 +55,9 @@ returns-in-Some-stray c =
     ap (λ (xs : List ℕ). op_at xs c.loop.place) (sym c.as_slice-code.ensures) ∙ sym c.op_at.ensures.found
     ∙ ap (λ (o : Option (Op × ℕ)). option_map (λ r. r.0) o) c.in-Some.is in
     let within : c.loop.place < length m.code = omega (arith, c.in-Some.ensures.within, ap length c.as_slice-code.ensures) in
-    let there : stray_between m.entries c.loop.place (c.loop.place + size_of c.in-Some.op) ≡ Some c.in-Some-stray.at =
-    ap (λ (b : ℕ). stray_between m.entries c.loop.place b) (sym c.in-Some.ensures.behind)
-    ∙ ap (λ (es : List ImageEntry). stray_between es c.loop.place c.in-Some.behind) (sym c.as_slice-entries.ensures)
+    let there : entry_between m.entries c.loop.place (c.loop.place + size_of c.in-Some.op) ≡ Some c.in-Some-stray.at =
+    ap (λ (b : ℕ). entry_between m.entries c.loop.place b) (sym c.in-Some.ensures.behind)
+    ∙ ap (λ (es : List ImageEntry). entry_between es c.loop.place c.in-Some.behind) (sym c.as_slice-entries.ensures)
     ∙ sym c.stray.ensures ∙ c.in-Some-stray.is in
     sym (strayed_there image m (length c.as_slice-code.result.now + 1) c.loop.counter c.loop.place c.in-Some-stray.at
     (kinds_of c.loop.kinds) c.in-Some.op (omega arith) within some (sym c.in_ok-rule.ensures.rule ∙ c.in_default-2.is) there)
@@ -72,9 +72,9 @@ loop-preserved c =
     ap (λ (xs : List ℕ). op_at xs c.loop.place) (sym c.as_slice-code.ensures) ∙ sym c.op_at.ensures.found
     ∙ ap (λ (o : Option (Op × ℕ)). option_map (λ r. r.0) o) c.in-Some.is in
     let within : c.loop.place < length m.code = omega (arith, c.in-Some.ensures.within, ap length c.as_slice-code.ensures) in
-    let none : ◌≡◌ {A = Option ℕ} (stray_between m.entries c.loop.place (c.loop.place + size_of c.in-Some.op)) None =
-    ap (λ (b : ℕ). stray_between m.entries c.loop.place b) (sym c.in-Some.ensures.behind)
-    ∙ ap (λ (es : List ImageEntry). stray_between es c.loop.place c.in-Some.behind) (sym c.as_slice-entries.ensures)
+    let none : ◌≡◌ {A = Option ℕ} (entry_between m.entries c.loop.place (c.loop.place + size_of c.in-Some.op)) None =
+    ap (λ (b : ℕ). entry_between m.entries c.loop.place b) (sym c.in-Some.ensures.behind)
+    ∙ ap (λ (es : List ImageEntry). entry_between es c.loop.place c.in-Some.behind) (sym c.as_slice-entries.ensures)
     ∙ sym c.stray.ensures ∙ c.in_default-stray.is in
     let left : kinds_of c.at_instruction.new.kinds ≡ left_at image m c.loop.place (kinds_of c.loop.kinds) c.in-Some.op =
     c.at_instruction.ensures.kinds
