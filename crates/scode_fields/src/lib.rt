@@ -1,11 +1,10 @@
 //! The fields of an image, their first bytes and the limits; and with them whether all tables agree: the first of the
 //! rules that an image keeps.
 //!
-//! Each part of the rule is asked by a call whose answer is the part's definition, and `tables_agree` asks them all, in
-//! time that is linear in the image but for what goes over pairs of classes, of which an image has 1,024 at most. Fields
-//! overlap where one takes a byte that another has; a walk over the classes puts each behind those that it leads to, or
-//! finds one that leads back to itself; and in that order each class gets a row that tells how great each of its bytes may
-//! be. The verifier stands on this crate.
+//! Each part of the rule is asked by a call whose answer is the part's definition, and `tables_agree` asks them all.
+//! Nothing here goes over pairs of fields, or into one object twice. Fields overlap where one takes a byte that another
+//! has. A walk over the classes puts each behind those that it leads to, or finds one that leads back to itself; and in
+//! that order each class gets a row that tells how great each of its bytes may be. The verifier stands on this crate.
 #![tactic(auto)]
 
 mod bytes;
