@@ -1,5 +1,10 @@
+pub mod Apart
 pub mod Arrays
+pub mod Counting
+pub mod Fits
 pub mod Loops
-pub mod Leads
+pub mod Lowering
+pub mod Walks
+pub mod Visiting
 pub mod SlotSizes
 pub mod Staged

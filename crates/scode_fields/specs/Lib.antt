@@ -1,3 +1,6 @@
 pub mod Words
-pub mod Leading
+pub mod Rows
+pub mod Walking
+pub mod Visits
 pub mod Stages
+pub mod Fitting

@@ -1,5 +1,6 @@
 //! Fields: their numbers, their widths, and that they lie apart.
-ghost use Rattle.std.specs.Prelude.{◌≡◌, ◌<◌, ◌≤◌, ◌+◌, drop, length};
+ghost use Rattle.std.specs.Prelude.{◌≡◌, ◌≤◌, ◌+◌, ◌-◌, false, IfOk, length, not, replicate, slice_set, true};
+ghost use Rattle.std.specs.Bool.{OnTrue};
 ghost use Rattle.std.specs.List.{list_all};
 ghost use Rattle.sed_value.specs.SlotType.{width_of};
 ghost use Rattle.scode_code.specs.TableRules as rules;
@@ -8,6 +9,8 @@ ghost use Rattle.scode_fields.specs.Words as words;
 
 use scode_image::{Image, ImageClass, ImageField};
 use scode_tables::{class_at, has_class, is_abstract_class, is_component};
+use sed_value::Memory;
+use std::alloc::{AllocError, Global};
 
 // The form of an object.
 pub(crate) const OBJECT: u8 = 8;
@@ -128,58 +131,115 @@ fn lies_within(image: &Image, size: usize, field: &ImageField) -> bool
     ends_by(field.offset, field_width(image, field), size)
 }
 
+fn are_of_class_and_count(image: &Image, fields: &[ImageField]) -> bool
+    ensures { result ≡ words.are_of_class_and_count image.now fields.now }
+{
+    object_fields_are_there(image, fields)
+        && objects_may_be_inline(image, fields)
+        && all_are_of_form(fields)
+}
+
+// Where a field ends that lies in data of a size.
+fn end_of(image: &Image, size: usize, field: &ImageField) -> usize
+    requires { words.lies_within image.now size field.now ≡ true }
+    ensures end { result ≡ field.now.offset + rules.field_width image.now field.now }
+    ensures within { result ≤ size }
+{
+    usize::from(field.offset) + field_width(image, field)
+}
+
 fn all_lie_within(image: &Image, size: usize, fields: &[ImageField]) -> bool
     ensures { result ≡ list_all (words.lies_within image.now size) fields.now }
 {
     fields.iter().all(|field| lies_within(image, size, field))
 }
 
-fn are_apart(image: &Image, a: &ImageField, b: &ImageField) -> bool
-    ensures { result ≡ rules.are_apart image.now a.now b.now }
+// Whether no field so far takes a byte.
+fn is_free(taken: &[bool], at: usize) -> bool
+    ensures { result ≡ not (words.is_taken taken.now at) }
 {
-    ends_by(a.offset, field_width(image, a), usize::from(b.offset))
-        || ends_by(b.offset, field_width(image, b), usize::from(a.offset))
+    at >= taken.len() || !taken[at]
 }
 
-fn is_apart_from(image: &Image, field: &ImageField, others: &[ImageField]) -> bool
-    ensures { result ≡ list_all (rules.are_apart image.now field.now) others.now }
+fn are_free(taken: &[bool], from: usize, to: usize) -> bool
+    ensures { result ≡ words.are_free taken.now from (to - from) }
 {
-    others.iter().all(|other| are_apart(image, field, other))
+    (from..to).all(|at| is_free(taken, at))
 }
 
-// The fields behind one.
-fn behind(fields: &[ImageField], place: usize) -> &[ImageField]
-    requires { place < length fields.now }
-    ensures { result.now ≡ drop (place + 1) fields.now }
+fn take_byte(taken: &mut Vec<bool>, at: usize)
+    ensures { taken.new.items ≡ slice_set taken.old.items at true }
 {
-    let (_, others) = fields.split_at(place + 1);
-    others
-}
-
-fn all_apart(image: &Image, fields: &[ImageField]) -> bool
-    ensures { result ≡ rules.all_apart image.now fields.now }
-{
-    for place in 0..fields.len() {
-        if !is_apart_from(image, &fields[place], behind(fields, place)) {
-            return false;
-        }
+    if at < taken.len() {
+        taken[at] = true;
     }
+}
+
+fn take_bytes(taken: &mut Vec<bool>, from: usize, to: usize)
+    requires order { from ≤ to }
+    requires within { to ≤ length taken.old.items }
+    ensures { words.AreTaken taken.old.items taken.new.items from to }
+{
+    for at in from..to {
+        take_byte(taken, at);
+    }
+}
+
+fn none_taken(alloc: Global, size: usize) -> Result<Vec<bool>, AllocError>
+    ensures { IfOk result (λ taken. taken.items ≡ replicate size false) }
+{
+    vec![in alloc; false; size]
+}
+
+// Takes the bytes of a field, where all of them are free.
+fn take_field(taken: &mut Vec<bool>, from: usize, to: usize) -> bool
+    requires order { from ≤ to }
+    requires within { to ≤ length taken.old.items }
+    ensures free { result ≡ words.are_free taken.old.items from (to - from) }
+    ensures taken { OnTrue result (words.AreTaken taken.old.items taken.new.items from to) }
+{
+    if !are_free(taken.as_slice(), from, to) {
+        return false;
+    }
+    take_bytes(taken, from, to);
     true
 }
 
-/// Whether fields lie in data of a size, and no two of them overlap.
-pub fn fields_lie_apart(image: &Image, size: usize, fields: &[ImageField]) -> bool
-    ensures { result ≡ rules.fields_lie_apart image.now size fields.now }
+// Whether no two fields overlap: each takes its bytes, of which no other has any. Takes a truth for each byte of data.
+fn all_apart(
+    alloc: Global,
+    image: &Image,
+    size: usize,
+    fields: &[ImageField],
+) -> Result<bool, Memory>
+    requires within { list_all (words.lies_within image.now size) fields.now ≡ true }
+    requires wide { list_all (words.has_width image.now) fields.now ≡ true }
+    ensures { IfOk result (λ apart. apart ≡ rules.all_apart image.now fields.now) }
 {
-    all_lie_within(image, size, fields) && all_apart(image, fields)
+    let mut taken = none_taken(alloc, size)?;
+    for field in fields {
+        let from = usize::from(field.offset);
+        let to = end_of(image, size, field);
+        if !take_field(&mut taken, from, to) {
+            return Ok(false);
+        }
+    }
+    Ok(true)
 }
 
-/// Whether fields are of classes and counts that they may have, and lie apart.
-pub fn fields_are_laid(image: &Image, size: usize, fields: &[ImageField]) -> bool
-    ensures { result ≡ words.fields_are_laid image.now size fields.now }
+/// Whether fields are of classes and counts that they may have, lie in data of a size, and no two of them overlap.
+///
+/// Takes a truth for each byte of data.
+pub fn fields_are_laid(
+    alloc: Global,
+    image: &Image,
+    size: usize,
+    fields: &[ImageField],
+) -> Result<bool, Memory>
+    ensures { IfOk result (λ laid. laid ≡ words.fields_are_laid image.now size fields.now) }
 {
-    object_fields_are_there(image, fields)
-        && objects_may_be_inline(image, fields)
-        && all_are_of_form(fields)
-        && fields_lie_apart(image, size, fields)
+    if !are_of_class_and_count(image, fields) || !all_lie_within(image, size, fields) {
+        return Ok(false);
+    }
+    all_apart(alloc, image, size, fields)
 }

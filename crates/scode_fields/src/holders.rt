@@ -1,131 +1,142 @@
-//! No object is within itself.
-ghost use Rattle.std.specs.Prelude.{◌≡◌, ◌<◌, length, IfOk};
-ghost use Rattle.std.specs.List.{list_any, list_all};
-ghost use Rattle.scode_code.specs.TableRules as rules;
-ghost use Rattle.scode_fields.specs.Leading as leading;
+//! No object is within itself: a walk over the classes comes to each behind those that it leads to, or finds one that
+//! leads back to itself.
+ghost use Rattle.std.specs.Prelude.{◌≡◌, false, true, IfOk, [], option_map, replicate, slice_get, slice_set, Some};
+ghost use Rattle.scode_fields.specs.Walking as walking;
+ghost use Rattle.scode_fields.specs.Visits as visits;
 
 use crate::fields::OBJECT;
 use scode_image::{Image, ImageClass, ImageField};
+use scode_tables::class_at;
 use sed_value::Memory;
-use std::alloc::Global;
+use std::alloc::{AllocError, Global};
 
-// Which classes lead to one within so many steps is told by truths, each at a class's number.
-fn is_told(told: &[bool], class: u16) -> bool
-    ensures { result ≡ leading.is_told told.now class }
+// Which classes are begun, which are done, and these in the order in which they were.
+#[derive(Drop)]
+struct Walk {
+    begun: Vec<bool>,
+    done: Vec<bool>,
+    order: Vec<usize>,
+}
+
+fn is_told(told: &[bool], class: usize) -> bool
+    ensures { result ≡ walking.is_told told.now class }
 {
-    let class = usize::from(class);
     if class < told.len() {
         return told[class];
     }
     false
 }
 
-fn leads_by_field(told: &[bool], field: &ImageField) -> bool
-    ensures { result ≡ leading.leads_by_field told.now field.now }
+fn mark(told: &mut Vec<bool>, class: usize)
+    ensures { told.new.items ≡ slice_set told.old.items class true }
 {
-    field.form == OBJECT && is_told(told, field.n)
-}
-
-fn leads_by_any(told: &[bool], fields: &[ImageField]) -> bool
-    ensures { result ≡ list_any (leading.leads_by_field told.now) fields.now }
-{
-    fields.iter().any(|field| leads_by_field(told, field))
-}
-
-// Whether a class is the one that is led to, or leads in one step to one that is told.
-fn leads_in_one(told: &[bool], to: usize, class: usize, found: &ImageClass) -> bool
-    ensures { result ≡ leading.leads_in_one told.now to class found.now }
-{
-    class == to || leads_by_any(told, found.fields.as_slice()) || is_told(told, found.base)
-}
-
-// Which classes lead to one within a step more.
-fn one_more(alloc: Global, image: &Image, to: usize, told: &[bool]) -> Result<Vec<bool>, Memory>
-    ensures { IfOk result (λ next. next.items ≡ leading.one_more image.now to told.now) }
-{
-    let classes = image.classes.as_slice();
-    let mut next = Vec::new(alloc);
-    for class in 0..classes.len() {
-        next.push(leads_in_one(told, to, class, &classes[class]))?;
+    if class < told.len() {
+        told[class] = true;
     }
-    Ok(next)
 }
 
-// Which classes lead to one within no step: it alone.
-fn none_but(alloc: Global, image: &Image, to: usize) -> Result<Vec<bool>, Memory>
-    ensures { IfOk result (λ told. told.items ≡ leading.none_but 0 image.now.classes to) }
+fn none_told(alloc: Global, count: usize) -> Result<Vec<bool>, AllocError>
+    ensures { IfOk result (λ told. told.items ≡ replicate count false) }
 {
-    let classes = image.classes.as_slice();
-    let mut told = Vec::new(alloc);
-    for class in 0..classes.len() {
-        told.push(class == to)?;
-    }
-    Ok(told)
+    vec![in alloc; false; count]
 }
 
-// Which classes lead to one. Where a step more tells no more, no further one does.
-fn all_leading(alloc: Global, image: &Image, to: usize) -> Result<Vec<bool>, Memory>
-    ensures { IfOk result (λ told. told.items ≡ leading.told_within (length image.now.classes) image.now to) }
+// Goes to a class. False where a class was found that leads back to itself.
+#[cycle(walking)]
+fn go(image: &Image, walk: &mut Walk, class: usize) -> Result<bool, Memory>
+    requires sound { visits.IsSound image.now walk.old }
+    requires way { visits.LeadsTo image.now walk.old class }
+    ensures { IfOk result (λ well. visits.WentTo image.now walk.old walk.new class well) }
 {
-    let count = image.classes.len();
-    let mut told = none_but(alloc, image, to)?;
-    for _ in 0..count {
-        let next = one_more(alloc, image, to, told.as_slice())?;
-        if next.as_slice() == told.as_slice() {
-            return Ok(told);
+    match class_at(image, class) {
+        Some(found) => {
+            if is_told(walk.done.as_slice(), class) {
+                return Ok(true);
+            }
+            if is_told(walk.begun.as_slice(), class) {
+                return Ok(false);
+            }
+            enter(image, walk, class, found)
         }
-        told = next;
+        None => Ok(true),
     }
-    Ok(told)
 }
 
-fn is_no_holder(told: &[bool], field: &ImageField) -> bool
-    ensures { result ≡ leading.is_no_holder told.now field.now }
+// Goes to what a class leads to, and then puts the class behind them.
+#[cycle(walking)]
+fn enter(image: &Image, walk: &mut Walk, class: usize, found: &ImageClass) -> Result<bool, Memory>
+    requires sound { visits.IsSound image.now walk.old }
+    requires way { visits.LeadsTo image.now walk.old class }
+    requires there { slice_get image.now.classes class ≡ Some found.now }
+    requires unbegun { walking.is_told walk.old.begun.items class ≡ false }
+    requires undone { walking.is_told walk.old.done.items class ≡ false }
+    ensures { IfOk result (λ well. visits.WentTo image.now walk.old walk.new class well) }
 {
-    !leads_by_field(told, field)
+    mark(&mut walk.begun, class);
+    if !go_to_fields(image, walk, found.fields.as_slice())? {
+        return Ok(false);
+    }
+    if !go(image, walk, usize::from(found.base))? {
+        return Ok(false);
+    }
+    mark(&mut walk.done, class);
+    walk.order.push(class)?;
+    Ok(true)
 }
 
-fn are_no_holders(told: &[bool], fields: &[ImageField]) -> bool
-    ensures { result ≡ list_all (leading.is_no_holder told.now) fields.now }
+#[cycle(walking)]
+fn go_to_field(image: &Image, walk: &mut Walk, field: &ImageField) -> Result<bool, Memory>
+    requires sound { visits.IsSound image.now walk.old }
+    requires way { visits.LeadsByField image.now walk.old field.now }
+    ensures { IfOk result (λ well. visits.WentToField image.now walk.old walk.new field.now well) }
 {
-    fields.iter().all(|field| is_no_holder(told, field))
-}
-
-fn has_object(fields: &[ImageField]) -> bool
-    ensures { result ≡ list_any leading.is_object fields.now }
-{
-    fields.iter().any(|field| field.form == OBJECT)
-}
-
-/// Whether none of a class's objects leads back to it through objects and bases.
-///
-/// Takes two truths a class, and want of memory is the only refusal.
-pub fn holds_no_holder(
-    alloc: Global,
-    image: &Image,
-    class: usize,
-    found: &ImageClass,
-) -> Result<bool, Memory>
-    requires { class < length image.now.classes }
-    ensures { IfOk result (λ free. free ≡ rules.holds_no_holder image.now class found.now) }
-{
-    let fields = found.fields.as_slice();
-    if !has_object(fields) {
+    if field.form != OBJECT {
         return Ok(true);
     }
-    let told = all_leading(alloc, image, class)?;
-    Ok(are_no_holders(told.as_slice(), fields))
+    go(image, walk, usize::from(field.n))
 }
 
-/// Whether no class of an image holds itself.
-pub(crate) fn no_class_holds_itself(alloc: Global, image: &Image) -> Result<bool, Memory>
-    ensures { IfOk result (λ free. free ≡ rules.all_classes image.now (rules.holds_no_holder image.now)) }
+#[cycle(walking)]
+fn go_to_fields(image: &Image, walk: &mut Walk, fields: &[ImageField]) -> Result<bool, Memory>
+    requires sound { visits.IsSound image.now walk.old }
+    requires way { visits.LeadsByFields image.now walk.old fields.now }
+    ensures { IfOk result (λ well. visits.WentToFields image.now walk.old walk.new fields.now well) }
 {
-    let classes = image.classes.as_slice();
-    for class in 0..classes.len() {
-        if !holds_no_holder(alloc, image, class, &classes[class])? {
+    for field in fields {
+        if !go_to_field(image, walk, field)? {
             return Ok(false);
         }
     }
     Ok(true)
+}
+
+fn begun(alloc: Global, count: usize) -> Result<Walk, Memory>
+    ensures begun { IfOk result (λ walk. walk.begun.items ≡ replicate count false) }
+    ensures done { IfOk result (λ walk. walk.done.items ≡ replicate count false) }
+    ensures order { IfOk result (λ walk. walk.order.items ≡ []) }
+{
+    let begun = none_told(alloc, count)?;
+    let done = none_told(alloc, count)?;
+    Ok(Walk {
+        begun,
+        done,
+        order: Vec::new(alloc),
+    })
+}
+
+/// The classes of an image, each behind its base and those of its objects; none where one holds itself.
+///
+/// Takes two truths and a number a class.
+pub(crate) fn order_of(alloc: Global, image: &Image) -> Result<Option<Vec<usize>>, Memory>
+    requires { walking.AreBased image.now }
+    ensures { IfOk result (λ order. walking.IsOrderOf image.now (option_map (λ v. v.items) order)) }
+{
+    let count = image.classes.len();
+    let mut walk = begun(alloc, count)?;
+    for class in 0..count {
+        if !go(image, &mut walk, class)? {
+            return Ok(None);
+        }
+    }
+    Ok(Some(walk.order))
 }

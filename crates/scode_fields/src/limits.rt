@@ -1,5 +1,5 @@
 //! Limits.
-ghost use Rattle.std.specs.Prelude.{◌≡◌, ◌≤◌, ◌==◌, filter, length, map};
+ghost use Rattle.std.specs.Prelude.{◌≡◌, ◌<◌, ◌≤◌, ◌+◌, IfOk, length, map, replicate, slice_index_or, slice_set};
 ghost use Rattle.std.specs.Bool.{OnTrue};
 ghost use Rattle.std.specs.List.{list_all};
 ghost use Rattle.sed_typed.specs.Sizes as sizes;
@@ -10,15 +10,34 @@ ghost use Rattle.scode_fields.specs.Words as words;
 use crate::fields::primitive_width;
 use scode_image::{Image, ImageClass, ImageMethod, ImageSlot};
 use scode_tables::count_in_kit;
+use sed_value::Memory;
+use std::alloc::{AllocError, Global};
 
-// How many methods a class declares.
-fn count_of_class(methods: &[ImageMethod], class: usize) -> usize
-    ensures { result ≡ length (filter (λ m. m.class == class) methods.now) }
+fn none_counted(alloc: Global, count: usize) -> Result<Vec<usize>, AllocError>
+    ensures { IfOk result (λ counts. counts.items ≡ replicate count 0) }
 {
-    methods
-        .iter()
-        .filter(|method| usize::from(method.class) == class)
-        .count()
+    vec![in alloc; 0; count]
+}
+
+fn count_one(counts: &mut Vec<usize>, class: usize)
+    requires { slice_index_or counts.old.items class 0 < 18446744073709551615 }
+    ensures { counts.new.items ≡ slice_set counts.old.items class (slice_index_or counts.old.items class 0 + 1) }
+{
+    if class < counts.len() {
+        counts[class] += 1;
+    }
+}
+
+// How many methods each class declares.
+fn count_methods(alloc: Global, image: &Image) -> Result<Vec<usize>, Memory>
+    ensures { IfOk result (λ counts. words.AreCounts counts.items image.now) }
+{
+    let methods = image.methods.as_slice();
+    let mut counts = none_counted(alloc, image.classes.len())?;
+    for number in 0..methods.len() {
+        count_one(&mut counts, usize::from(methods[number].class));
+    }
+    Ok(counts)
 }
 
 // How many bytes the value of a slot takes as it is written out.
@@ -80,22 +99,24 @@ fn runtime_size(slots: &[ImageSlot]) -> usize
     values_size(slots, false)
 }
 
-fn counts_keep_limits(image: &Image, class: usize, found: &ImageClass) -> bool
+fn counts_keep_limits(image: &Image, class: usize, found: &ImageClass, declared: usize) -> bool
+    requires { declared ≡ words.declared image.now class }
     ensures same { result ≡ words.counts_keep_limits image.now class found.now }
     ensures few { OnTrue result (length found.now.slots ≤ 64) }
 {
     found.contents.len() <= 65535
         && found.slots.len() <= 64
         && found.table.len() <= 255
-        && count_of_class(image.methods.as_slice(), class) <= 60
+        && declared <= 60
 }
 
-/// Whether a class keeps its limits: 65,535 bytes of data, 64 slots, 255 methods in its table, 60 of its own, and 400 bytes
-/// each of config and runtime values.
-pub fn class_keeps_limits(image: &Image, class: usize, found: &ImageClass) -> bool
+/// Whether a class keeps its limits: 65,535 bytes of data, 64 slots, 255 methods in its table, 60 of its own, and 400
+/// bytes each of config and runtime values. How many methods it declares is told.
+pub fn class_keeps_limits(image: &Image, class: usize, found: &ImageClass, declared: usize) -> bool
+    requires { declared ≡ words.declared image.now class }
     ensures { result ≡ rules.class_keeps_limits image.now class found.now }
 {
-    if !counts_keep_limits(image, class, found) {
+    if !counts_keep_limits(image, class, found, declared) {
         return false;
     }
     config_size(found.slots.as_slice()) <= 400 && runtime_size(found.slots.as_slice()) <= 400
@@ -114,12 +135,22 @@ fn methods_keep_limits(methods: &[ImageMethod]) -> bool
     methods.iter().all(|method| method_keeps_limits(method))
 }
 
-fn classes_keep_limits(image: &Image) -> bool
+fn count_at(counts: &[usize], class: usize) -> usize
+    ensures { result ≡ slice_index_or counts.now class 0 }
+{
+    if class < counts.len() {
+        return counts[class];
+    }
+    0
+}
+
+fn classes_keep_limits(image: &Image, counts: &[usize]) -> bool
+    requires { words.AreCounts counts.now image.now }
     ensures { result ≡ rules.all_classes image.now (rules.class_keeps_limits image.now) }
 {
     let classes = image.classes.as_slice();
     for class in 0..classes.len() {
-        if !class_keeps_limits(image, class, &classes[class]) {
+        if !class_keeps_limits(image, class, &classes[class], count_at(counts, class)) {
             return false;
         }
     }
@@ -133,16 +164,29 @@ fn kits_keep_limits(image: &Image) -> bool
     (0..image.kits.len()).all(|kit| count_in_kit(classes, kit) <= 64)
 }
 
-/// Whether an image keeps its limits: 16 kits, 64 types to a kit, 4,096 texts, 65,535 bytes of statics, 65,535 methods,
-/// and those of each class and method.
-pub fn keeps_limits(image: &Image) -> bool
-    ensures { result ≡ rules.keeps_limits image.now }
+fn kits_are_few(image: &Image) -> bool
+    ensures { result ≡ words.kits_are_few image.now }
 {
     image.kits.len() <= 16
         && kits_keep_limits(image)
         && image.texts.len() <= 4096
         && image.static_bytes.len() <= 65535
-        && classes_keep_limits(image)
-        && methods_keep_limits(image.methods.as_slice())
-        && image.methods.len() <= 65535
+}
+
+/// Whether an image keeps its limits: 16 kits, 64 types to a kit, 4,096 texts, 65,535 bytes of statics, 65,535 methods,
+/// and those of each class and method.
+///
+/// Takes a number a class.
+pub fn keeps_limits(alloc: Global, image: &Image) -> Result<bool, Memory>
+    ensures { IfOk result (λ kept. kept ≡ rules.keeps_limits image.now) }
+{
+    if !kits_are_few(image) {
+        return Ok(false);
+    }
+    let counts = count_methods(alloc, image)?;
+    Ok(
+        classes_keep_limits(image, counts.as_slice())
+            && methods_keep_limits(image.methods.as_slice())
+            && image.methods.len() <= 65535,
+    )
 }
