@@ -1,1 +1,3 @@
 pub mod Left
+pub mod Rules
+pub mod Cells
