@@ -94,7 +94,7 @@ alone image is above class e (Based base low b rest) =
 made_kind : ℕ → ℕ → ImageKind
 made_kind kind class = record { kind = kind; class = class }
 
-same_kinds : (k l : ImageKind) → same_kind k l ≡ true → k ≡ l
+pub same_kinds : (k l : ImageKind) → same_kind k l ≡ true → k ≡ l
 unfolding made_kind
 same_kinds k l h =
     let p = two (k.kind == l.kind) (k.class == l.class) h in

@@ -1,3 +1,6 @@
 pub mod Left
 pub mod Rules
 pub mod Cells
+pub mod Spots
+pub mod Members
+pub mod Nesting

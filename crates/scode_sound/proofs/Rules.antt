@@ -110,7 +110,7 @@ sized_buf : (f : ImageField) → nat_le f.form 5 ≡ false → (f.form == 6) ≡
     → rule.n_is_of_form f ≡ (nat_le 1 f.n && nat_le f.n 128)
 sized_buf f a b c = rw (a, b, c) refl
 
-stands_at : {X : Type 0} (xs : List X) (k : ℕ) → k < length xs → (x : X) × (slice_get xs k ≡ Some x)
+pub stands_at : {X : Type 0} (xs : List X) (k : ℕ) → k < length xs → (x : X) × (slice_get xs k ≡ Some x)
 stands_at [] k h = absurd (omega (arith, h))
 stands_at (x ∷ xs) zero h = (x, refl)
 stands_at (x ∷ xs) (suc k) h = stands_at xs k (omega (arith, h))
