@@ -4,3 +4,5 @@ pub mod Cells
 pub mod Spots
 pub mod Members
 pub mod Nesting
+pub mod FirstValues
+pub mod Keeping

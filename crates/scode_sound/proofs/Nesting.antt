@@ -1,9 +1,10 @@
 -- Objects stand inside one another at most as deep as there are classes.
-use Rattle.std.proofs.Common.{◌≡◌, ◌≤◌, ◌+◌, ◌==◌, ◌&&◌, ◌||◌, not, ℕ, zero, suc, Bool, true, false, List, [], ◌∷◌, length, Option, Some, None, refl, sym, ap, subst, ◌∙◌, arith, eqb}
+use Rattle.std.proofs.Common.{◌≡◌, ◌<◌, ◌≤◌, ◌+◌, ◌==◌, ◌&&◌, ◌||◌, not, ℕ, zero, suc, Bool, true, false, List, [], ◌∷◌, length, Option, Some, None, refl, sym, ap, subst, ◌∙◌, arith, eqb}
 use Rattle.std.specs.Prelude.{slice_get}
-use Rattle.std.specs.List.{list_any}
+use Rattle.std.specs.List.{list_any, AllByRecursion, IsDistinct}
 use Rattle.std.specs.Option.{option_map_or}
-use Rattle.std.proofs.lemmas.Bool.{eqb-true}
+use Rattle.std.proofs.lemmas.Bool.{eqb-true, ltb-true}
+use Rattle.std.proofs.lemmas.Map.Steps.{length-le_from_distinct_below}
 use Rattle.scode_image.specs.declared.image.Image.{Image}
 use Rattle.scode_image.specs.declared.image.ImageClass.{ImageClass}
 use Rattle.scode_image.specs.declared.image.ImageField.{ImageField}
@@ -11,7 +12,7 @@ use Rattle.scode_code.specs.TableRules as rule
 use Rattle.scode_code.specs.Tables.{class_fields}
 use Rattle.scode_whole.proofs.Bases.{fields_at}
 use Rattle.scode_whole.proofs.Truths.{no_truth, no_value, same_value, passes}
-use Rattle.scode_sound.proofs.Rules.{Tables, class_rule}
+use Rattle.scode_sound.proofs.Rules.{Tables, class_rule, second}
 
 -- an object of the one class holds one of the other in a field
 pub record Holds (image : Image) (class held : ℕ) : Type 0 where
@@ -118,14 +119,73 @@ chain_next image class held cs h g = ((held, g, refl), chain_on image 0 class he
 
 -- a class is none of those before it
 chain_fresh : (image : Image) → Tables image → (n class : ℕ) (cs : List ℕ) → n + length cs ≤ suc (length image.classes)
-    → Chain image n class cs → list_any (eqb class) cs ≡ false
-chain_fresh image is n class [] few h = refl
+    → Chain image n class cs → AllByRecursion (λ c. eqb class c ≡ false) cs
+chain_fresh image is n class [] few h = tt
 chain_fresh image is n class (c ∷ cs) few h =
-    by_test (eqb class c) refl (chain_fresh image is (suc n) class cs (omega (arith, few)) h.1)
+    (by_test (eqb class c) refl, chain_fresh image is (suc n) class cs (omega (arith, few)) h.1)
   where
-    by_test : (b : Bool) → eqb class c ≡ b → list_any (eqb class) cs ≡ false → (b || list_any (eqb class) cs) ≡ false
-    by_test false e rest = rest
-    by_test true e rest =
+    by_test : (b : Bool) → eqb class c ≡ b → b ≡ false
+    by_test false e = refl
+    by_test true e =
         let same : class ≡ c = eqb-true class c e in
         absurd (not_itself image is c n (omega (arith, few))
         (subst (λ (k : ℕ). Reaches image (suc n) c k) same h.0))
+
+-- objects stand in one of this class at most so deep
+abbrev pub Nested : Image → ℕ → ℕ → Type 0
+Nested image zero class = ⊥
+Nested image (suc n) class = (held : ℕ) → Holds image class held → Nested image n held
+
+held_there : (image : Image) → Tables image → (class held : ℕ) → Holds image class held → held < length image.classes
+held_there image is class held g = by_class (slice_get image.classes class) refl
+  where
+    by_class : (o : Option ImageClass) → slice_get image.classes class ≡ o → held < length image.classes
+    by_class None e =
+        no_value g.field
+        (sym (ap (λ (p : Option ImageClass). slice_get (option_map_or (λ (d : ImageClass). d.fields) p []) g.place) e)
+        ∙ g.stands)
+    by_class (Some c) e =
+        let at : slice_get c.fields g.place ≡ Some g.field =
+        sym (ap (λ (all : List ImageField). slice_get all g.place) (fields_at image class c e)) ∙ g.stands in
+        let test : (not (g.field.form == 8) || rule.has_class image g.field.n) ≡ true =
+        passes (λ (f : ImageField). not (f.form == 8) || rule.has_class image f.n) c.fields g.place g.field
+        (class_rule image is class c e).fields.are_there at in
+        let known : g.field.n < length image.classes =
+        ltb-true g.field.n (length image.classes)
+        (second (g.field.form == 8) (rule.has_class image g.field.n) g.object test) in
+        subst (λ (k : ℕ). k < length image.classes) g.is known
+
+-- those of a list are below a number
+abbrev AllBelow : ℕ → List ℕ → Type 0
+AllBelow n [] = Unit {0}
+AllBelow n (c ∷ cs) = (c < n) × AllBelow n cs
+
+below_each : (n : ℕ) (cs : List ℕ) → AllBelow n cs → (q : ℕ) → list_any (eqb q) cs ≡ true → q < n
+below_each n [] h q e = no_truth e
+below_each n (c ∷ cs) h q e = by_test (eqb q c) refl (below_each n cs h.1 q) e
+  where
+    by_test : (b : Bool) → eqb q c ≡ b → (list_any (eqb q) cs ≡ true → q < n) → (b || list_any (eqb q) cs) ≡ true
+        → q < n
+    by_test true is later e = let same : q ≡ c = eqb-true q c is in let low : c < n = h.0 in omega (arith, same, low)
+    by_test false is later e = later e
+
+nested : (image : Image) → Tables image → (n class : ℕ) (cs : List ℕ) → n + length cs ≡ length image.classes
+    → Chain image 0 class cs → IsDistinct eqb (class ∷ cs) → AllBelow (length image.classes) (class ∷ cs)
+    → Nested image n class
+unfolding IsDistinct
+nested image is zero class cs all chain apart low =
+    let few = length-le_from_distinct_below (class ∷ cs) (length image.classes) apart
+    (below_each (length image.classes) (class ∷ cs) low) in
+    omega (arith, few, all)
+nested image is (suc n) class cs all chain apart low =
+    λ held g.
+    let more : Chain image 0 held (class ∷ cs) = chain_next image class held cs chain g in
+    nested image is n held (class ∷ cs) (omega (arith, all)) more
+    (chain_fresh image is 0 held (class ∷ cs) (omega (arith, all)) more, apart)
+    (held_there image is class held g, low)
+
+pub all_nested : (image : Image) → Tables image → (class : ℕ) → class < length image.classes
+    → Nested image (length image.classes) class
+unfolding IsDistinct
+all_nested image is class low =
+    nested image is (length image.classes) class [] (omega arith) tt (tt, tt) (low, tt)

@@ -94,11 +94,11 @@ IsGood image (form.Buf n) = n ≤ 128
 IsGood image (form.Array p n) = Unit {0}
 IsGood image (form.Object t) = Concrete image t.0
 
-form_object : (f : ImageField) → nat_le f.form 5 ≡ false → (f.form == 6) ≡ false → (f.form == 7) ≡ false
+pub form_object : (f : ImageField) → nat_le f.form 5 ≡ false → (f.form == 6) ≡ false → (f.form == 7) ≡ false
     → (f.form == 8) ≡ true → form_of f ≡ form.Object (record { 0 = f.n })
 form_object f a b c d = rw (a, b, c, d) refl
 
-form_array : (f : ImageField) → nat_le f.form 5 ≡ false → (f.form == 6) ≡ false → (f.form == 7) ≡ false
+pub form_array : (f : ImageField) → nat_le f.form 5 ≡ false → (f.form == 6) ≡ false → (f.form == 7) ≡ false
     → (f.form == 8) ≡ false → form_of f ≡ form.Array (primitive_of (f.form - 8)) f.n
 form_array f a b c d = rw (a, b, c, d) refl
 
@@ -115,7 +115,7 @@ stands_at [] k h = absurd (omega (arith, h))
 stands_at (x ∷ xs) zero h = (x, refl)
 stands_at (x ∷ xs) (suc k) h = stands_at xs k (omega (arith, h))
 
-second : (a b : Bool) → a ≡ true → (not a || b) ≡ true → b ≡ true
+pub second : (a b : Bool) → a ≡ true → (not a || b) ≡ true → b ≡ true
 second true b e h = h
 second false b e h = no_truth e
 
