@@ -6,3 +6,5 @@ pub mod Members
 pub mod Nesting
 pub mod FirstValues
 pub mod Keeping
+pub mod Plain
+pub mod Stacks
