@@ -8,3 +8,4 @@ pub mod FirstValues
 pub mod Keeping
 pub mod Plain
 pub mod Stacks
+pub mod Objects
