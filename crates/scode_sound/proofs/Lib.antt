@@ -9,3 +9,5 @@ pub mod Keeping
 pub mod Plain
 pub mod Stacks
 pub mod Objects
+pub mod Characters
+pub mod Strs
