@@ -11,3 +11,4 @@ pub mod Stacks
 pub mod Objects
 pub mod Characters
 pub mod Strs
+pub mod Straight
