@@ -12,3 +12,4 @@ pub mod Objects
 pub mod Characters
 pub mod Strs
 pub mod Straight
+pub mod Arguments
