@@ -15,6 +15,11 @@ use Rattle.sed_engine.proofs.FirstFits.{zeros_bytes, zeros_length, equal}
 use Rattle.sed_engine.proofs.Ranges.{low_byte}
 use Rattle.sed_engine.proofs.TextSteps.{StrBytes, TextBytes}
 
+pub byte_at : (bytes : List ℕ) (i : ℕ) → are_bytes bytes ≡ true → nat_lt (slice_index bytes i) 256 ≡ true
+byte_at [] i h = refl
+byte_at (b ∷ bs) zero h = (and_parts (nat_lt b 256) (are_bytes bs) h).0
+byte_at (b ∷ bs) (suc i) h = byte_at bs i (and_parts (nat_lt b 256) (are_bytes bs) h).1
+
 bytes_set : (bytes : List ℕ) (i b : ℕ) → are_bytes bytes ≡ true → nat_lt b 256 ≡ true → are_bytes (slice_set bytes i b) ≡ true
 bytes_set [] i b h k = refl
 bytes_set (x ∷ xs) zero b h k = and_from (nat_lt b 256) (are_bytes xs) k (and_parts (nat_lt x 256) (are_bytes xs) h).1

@@ -8,8 +8,9 @@ pub mod FirstValues
 pub mod Keeping
 pub mod Plain
 pub mod Stacks
-pub mod Objects
 pub mod Characters
+pub mod Objects
 pub mod Strs
 pub mod Straight
 pub mod Arguments
+pub mod Running

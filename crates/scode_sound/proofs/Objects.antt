@@ -41,6 +41,7 @@ use Rattle.scode_whole.proofs.Truths.{either, no_truth, no_value, three}
 use Rattle.scode_sound.proofs.Rules.{Concrete, Tables}
 use Rattle.scode_sound.proofs.Cells.{HasKind, LeadsTo, Text, Block, Object, class_from, classes_of, form_from, goes}
 use Rattle.scode_sound.proofs.Spots.{form_at_is, form_further, class_further, form_in_object, static_form, static_class, good}
+use Rattle.scode_sound.proofs.Characters.{byte_at}
 use Rattle.scode_sound.proofs.Members.{fields_grow}
 use Rattle.scode_sound.proofs.Keeping.{Now, load_holds, store_holds, read_buf_holds}
 use Rattle.scode_sound.proofs.Plain.{IsOf, cell_is, image_kind, nothing, plain_read, sound_from, to_plain}
@@ -59,7 +60,7 @@ record FieldThere (w : Setting) (spot : Spot) (test : ImageField → Bool) : Typ
   passes : test field ≡ true
   stands : StandsAt w (inside spot number) (form_of field)
 
-class_is : (w : Setting) (base : Base) (path : Path)
+pub class_is : (w : Setting) (base : Base) (path : Path)
     → class_of w (record { base = base; path = path }) ≡ class_from w base path
 class_is w Component path = refl
 class_is w Statics path = refl
@@ -408,11 +409,6 @@ module _ (w : Setting) (is : Tables w.image) (own : Concrete w.image w.class) (g
 
   pub small_int : (n : ℕ) → n ≤ 256 → Has int (Int (pos n))
   small_int n h = (refl, small n (omega (arith, h)))
-
-  byte_at : (bytes : List ℕ) (i : ℕ) → are_bytes bytes ≡ true → nat_lt (slice_index bytes i) 256 ≡ true
-  byte_at [] i h = refl
-  byte_at (b ∷ bs) zero h = (and_parts (nat_lt b 256) (are_bytes bs) h).0
-  byte_at (b ∷ bs) (suc i) h = byte_at bs i (and_parts (nat_lt b 256) (are_bytes bs) h).1
 
   pub byte_int : (bytes : List ℕ) (i : ℕ) → are_bytes bytes ≡ true → Has int (Int (pos (slice_index bytes i)))
   byte_int bytes i h =

@@ -92,7 +92,7 @@ module _ (w : Setting) (G : State → Type 0) where
   three_off Q n m o (k ∷ l ∷ j ∷ ks) (v ∷ u ∷ []) next t each = absurd t.1.1
   three_off Q n m o (k ∷ l ∷ j ∷ ks) (v ∷ u ∷ x ∷ vs) next t each = each x u v ks vs t.1.1.0 t.1.0 t.0 t.1.1.1
 
-  pushed_fits : (k : ImageKind) (ks : List ImageKind) (v : Val) (stack : List Val) → HasKind w k v → Fit w ks stack
+  pub pushed_fits : (k : ImageKind) (ks : List ImageKind) (v : Val) (stack : List Val) → HasKind w k v → Fit w ks stack
       → Fit w (k ∷ ks) (pushed v stack)
   pushed_fits k ks Nothing stack h f = absurd h
   pushed_fits k ks (Truth t) stack h f = (h, f)
