@@ -38,7 +38,7 @@ use Rattle.scode_whole.proofs.Truths.{no_truth, no_value, same_value, two, throu
 use Rattle.scode_sound.specs.Over.{IsTyped}
 use Rattle.scode_sound.proofs.Left.{at_back, at_later, at_most, at_some, first_start, left_at, longest_is_most, next_start, paid, size_some, turn_at}
 use Rattle.scode_sound.proofs.Rules.{Concrete, MethodRule, Tables, method_rule, stands_at}
-use Rattle.scode_sound.proofs.Cells.{Fit, HasKind, LeadsTo, Text, Block, Object, all_goes, classes_of, fit_length, fit_set}
+use Rattle.scode_sound.proofs.Cells.{Fit, HasKind, LeadsTo, Text, Block, Object, all_goes, goes as cell_goes, classes_of, fit_length, fit_set}
 use Rattle.scode_sound.proofs.Members.{InTable, Received, has_code, received, method_there as table_there, table_below}
 use Rattle.scode_sound.proofs.Characters.{byte_at}
 use Rattle.scode_sound.proofs.Keeping.{Fitting, Now, turn_fitting}
@@ -355,3 +355,252 @@ module _ (w : Setting) (is : Tables w.image) (own : Concrete w.image w.class) (g
           record { fitting = fitting; turns_are = refl; locals_are = refl } in
           let one = all.holds s0 first in
           landed (effect w i stack s0).result (effect w i stack s0).state one.0 one.1
+
+    -- ---- a local
+
+    stored : (n : ℕ) (ks : List ImageKind) (stack : List Val) → Here (op.Store n)
+        → (e : shape.stack ≡ ks) → Takes w (Anything ∷ []) ks stack
+        → Better now (moves frame below (place + size_of (op.Store n)) (effect w (op.Store n) stack s0).result
+        (effect w (op.Store n) stack s0).state)
+    stored n [] stack h e t = absurd t
+    stored n (k ∷ ks) [] h e t = absurd t
+    stored n (k ∷ ks) (v ∷ rest) h e t =
+        let low : n < length m.locals =
+        ltb-true n (length m.locals) (not_not (nat_lt n (length m.locals)) h.fine.numbers) in
+        let as_many : length locals ≡ length shape.locals = fit_length w shape.locals locals fit_locals in
+        let old = stands_at locals n (omega (arith, low, as_many, many)) in
+        let has : HasKind w k v = subst (λ (x : ImageKind). HasKind w x v) (sym (same_value k t.0.kind t.0.is)) t.0.has in
+        let l : Leads w.image shapes method (place + size_of (op.Store n))
+        (record { locals = with_kind shape.locals n k; stack = ks }) =
+        subst (λ (all : List ImageKind). Leads w.image shapes method (place + size_of (op.Store n))
+        (after w.image (record { locals = shape.locals; stack = all }) (op.Store n))) e (h.fine.goes_on refl) in
+        let start_next = next_start_is (op.Store n) h.instruction
+        (record { locals = with_kind shape.locals n k; stack = ks }) l in
+        subst (λ (o : Option Val).
+        Better now (moves frame below (place + size_of (op.Store n))
+        (no_push rest (then_do (answers (map_ok (λ _. slice_set locals n v) (is_there o)) s0)
+        (λ (all : List Val) (s1 : State). gives v (record { shared = s1.shared; locals = all })))).result
+        (no_push rest (then_do (answers (map_ok (λ _. slice_set locals n v) (is_there o)) s0)
+        (λ (all : List Val) (s1 : State). gives v (record { shared = s1.shared; locals = all })))).state)) (sym old.1)
+        (arrives (place + size_of (op.Store n)) (record { locals = with_kind shape.locals n k; stack = ks })
+        (slice_set locals n v) rest sh l start_next (set_length shape.locals n k ∙ many)
+        (fit_set w shape.locals locals n k v fit_locals has) t.1 fitting refl
+        (next_less (op.Store n) h.instruction refl start_next))
+
+    -- ---- turns
+
+    turn_less : (next : ℕ) → 0 < sh.turns → (turn_taken sh).turns * longest + left_of method next + weigh below < now
+    turn_less next some =
+        let most = left_most method next m known in
+        let pays = paid sh.turns longest (left_of method next) some most in
+        let one = at_some m.code place start in
+        let e = left_is place in
+        omega (arith, pays, one, e)
+
+    turned : Here op.Turn → (b : Bool) → (sh.turns == 0) ≡ b
+        → Better now (moves frame below (place + size_of op.Turn)
+        (after_step (if b then Err (Traps TurnsSpent) else Ok (tt {0}))
+        (record { shared = turn_taken sh; locals = locals })
+        (λ (u : Unit {0}) (s1 : State). gives (Onward stack) s1)).result
+        (after_step (if b then Err (Traps TurnsSpent) else Ok (tt {0}))
+        (record { shared = turn_taken sh; locals = locals })
+        (λ (u : Unit {0}) (s1 : State). gives (Onward stack) s1)).state)
+    turned h true e = trapped TurnsSpent (turn_taken sh) (turn_fitting w given sh fitting)
+    turned h false e =
+        let next : ℕ = place + size_of op.Turn in
+        let l = h.fine.goes_on refl in
+        let start_next = next_start_is op.Turn h.instruction (after w.image shape op.Turn) l in
+        record {
+          fine = arrive (place + size_of op.Turn) (after w.image shape op.Turn) locals stack (turn_taken sh) l start_next
+              many fit_locals fit_stack (turn_fitting w given sh fitting);
+          less = turn_less (place + size_of op.Turn) (positive sh.turns e);
+        }
+
+    -- ---- out of the method
+
+    waits_own : AllWait m.result below
+    waits_own = subst (λ (k : ImageKind). AllWait k below) (result_is method m known) waits
+
+    leaves : (v : Val) → HasResult w m.result v → (fs : List Frame) → AllWait m.result fs → fs ≡ below
+        → Better now (returned v fs sh)
+    leaves v h [] ws same = record { fine = record { typed = tt; fitting = fitting }; less = some_left }
+    leaves v h (g ∷ fs) ws same =
+        let one = at_some m.code place start in
+        let e = left_is place in
+        let weight : weigh (g ∷ fs) ≡ weigh below = ap weigh same in
+        record {
+          fine = record {
+            shape = ws.0.shape;
+            at = ws.0.at;
+            fit_locals = ws.0.fit_locals;
+            fit_stack = all_goes w is (result_cells m.result ++ ws.0.kinds) ws.0.shape.stack (pushed v g.stack) ws.0.leads
+                (result_fits w m.result ws.0.kinds v g.stack h ws.0.fit_rest);
+            fitting = fitting;
+            waits = ws.1;
+          };
+          less = omega (arith, one, e, weight);
+        }
+
+    leaves_none : Here op.Return
+        → Better now (moves frame below (place + size_of op.Return) (effect w op.Return stack s0).result
+        (effect w op.Return stack s0).state)
+    leaves_none h =
+        leaves Nothing (inl (not_not (m.result.kind == 0) h.fine.result, refl)) below waits_own refl
+
+    leaves_value : (ks : List ImageKind) (stack : List Val) → Here op.ReturnValue → (e : shape.stack ≡ ks)
+        → Takes w (Anything ∷ []) ks stack
+        → Better now (moves frame below (place + size_of op.ReturnValue) (effect w op.ReturnValue stack s0).result
+        (effect w op.ReturnValue stack s0).state)
+    leaves_value [] stack h e t = absurd t
+    leaves_value (k ∷ ks) [] h e t = absurd t
+    leaves_value (k ∷ ks) (v ∷ rest) h e t =
+        let differs : ((m.result.kind == 0) || not (goes_to w.image k m.result)) ≡ false =
+        sym (ap (λ (all : List ImageKind). (m.result.kind == 0)
+        || not (option_map_or (λ (x : ImageKind). goes_to w.image x m.result) (slice_get all 0) true)) e)
+        ∙ h.fine.result in
+        let has : HasKind w k v = subst (λ (x : ImageKind). HasKind w x v) (sym (same_value k t.0.kind t.0.is)) t.0.has in
+        leaves v
+        (inr (first_false (m.result.kind == 0) (not (goes_to w.image k m.result)) differs,
+        cell_goes w is k m.result v
+        (not_not (goes_to w.image k m.result) (second_false (m.result.kind == 0) (not (goes_to w.image k m.result))
+        differs)) has)) below waits_own refl
+
+    -- ---- into a method
+
+    called : (i : Op) → Here i → is_end i ≡ false → is_turn (Some i) ≡ false → locals_after shape i ≡ shape.locals
+        → (number : ℕ) (c : ImageMethod) (args rest : List Val) (kinds : List ImageKind)
+        → slice_get w.image.methods number ≡ Some c → is_abstract c ≡ false → Fit w (kinds_of c.class c) args
+        → after_stack (wants_of w.image shape i) shape.stack ≡ result_cells c.result ++ kinds → Fit w kinds rest
+        → (b : Bool) → (sh.turns == 0) ≡ b
+        → Better now (moves frame below (place + size_of i)
+        (after_step (if b then Err (Traps TurnsSpent) else Ok (tt {0}))
+        (record { shared = turn_taken sh; locals = locals })
+        (λ (u : Unit {0}) (s1 : State). gives (Enter number (locals_of c args) rest) s1)).result
+        (after_step (if b then Err (Traps TurnsSpent) else Ok (tt {0}))
+        (record { shared = turn_taken sh; locals = locals })
+        (λ (u : Unit {0}) (s1 : State). gives (Enter number (locals_of c args) rest) s1)).state)
+    called i h on no_turn same number c args rest kinds e code fit_args leaves_it fit_rest true z =
+        trapped TurnsSpent (turn_taken sh) (turn_fitting w given sh fitting)
+    called i h on no_turn same number c args rest kinds e code fit_args leaves_it fit_rest false z =
+        enter (nat_lt (suc (length below)) most_frames)
+      where
+        back : Leads w.image shapes method (place + size_of i) (after w.image shape i)
+        back = h.fine.goes_on on
+
+        start_next : is_start m.code (place + size_of i) ≡ true
+        start_next = next_start_is i h.instruction (after w.image shape i) (h.fine.goes_on on)
+
+        first : Leads w.image shapes number 0 (first_shape c)
+        first =
+            subst (λ (o : Option ImageMethod).
+            IfSome o (λ (x : ImageMethod). is_abstract x ≡ false → Leads w.image shapes number 0 (first_shape x))) e
+            (verified.starts number) code
+
+        enter : (b : Bool)
+            → Better now (if b then AtWork (record {
+              top = record { method = number; place = 0; locals = locals_of c args; stack = [] };
+              below = record { method = method; place = place + size_of i; locals = locals; stack = rest } ∷ below;
+              shared = turn_taken sh;
+            }) else Over (record { result = Err (Traps TooDeep); shared = turn_taken sh }))
+        enter false = trapped TooDeep (turn_taken sh) (turn_fitting w given sh fitting)
+        enter true =
+            let some : 0 < sh.turns = positive sh.turns z in
+            let j = code_there number 0 c (first_shape c) e first in
+            let p = goes_parts (first_shape c) first.reached first.goes in
+            let q = goes_parts (after w.image shape i) back.reached back.goes in
+            let count : length (locals_after shape i) ≡ length m.locals =
+            ap (λ (ks : List ImageKind). length ks) same ∙ many in
+            let own_locals : Fit w (locals_after shape i) locals =
+            subst (λ (ks : List ImageKind). Fit w ks locals) (sym same) fit_locals in
+            let most = left_most number 0 c e in
+            let pays = paid sh.turns longest (left_of number 0) some most in
+            let on_less = next_less i h.instruction no_turn start_next in
+            let here = left_is place in
+            let there = left_is (place + size_of i) in
+            record {
+              fine = record {
+                shape = first.reached;
+                at = reached_at number 0 c (first_shape c) e (first_start c.code j.0 j.1) refl first;
+                fit_locals = all_goes w is c.locals first.reached.locals (locals_of c args) p.0
+                    (locals_fit w is c args (method_rule w.image is number c e) fit_args);
+                fit_stack = all_goes w is [] first.reached.stack [] p.1 tt;
+                fitting = turn_fitting w given sh fitting;
+                waits = subst (λ (k : ImageKind). AllWait k (record {
+                  method = method;
+                  place = place + size_of i;
+                  locals = locals;
+                  stack = rest;
+                } ∷ below)) (sym (result_is number c e)) (
+                  record {
+                    shape = back.reached;
+                    at = reached_at method (place + size_of i) m (after w.image shape i) known start_next count back;
+                    fit_locals = all_goes w is (locals_after shape i) back.reached.locals locals q.0 own_locals;
+                    kinds = kinds;
+                    leads = subst (λ (ks : List ImageKind). all_go w.image ks back.reached.stack ≡ true) leaves_it q.1;
+                    fit_rest = fit_rest;
+                  },
+                  waits,
+                );
+              };
+              less = omega (arith, pays, on_less, here, there);
+            }
+
+    -- where an end leads
+    abbrev LeadsOn : ℕ → End Move → Type 0
+    LeadsOn next e = Better now (moves frame below next e.result e.state)
+
+    -- a turn, and into the method
+    entered : (i : Op) → Here i → is_end i ≡ false → is_turn (Some i) ≡ false → locals_after shape i ≡ shape.locals
+        → (number : ℕ) (c : ImageMethod) (args rest : List Val) (kinds : List ImageKind)
+        → slice_get w.image.methods number ≡ Some c → is_abstract c ≡ false → Fit w (kinds_of c.class c) args
+        → after_stack (wants_of w.image shape i) shape.stack ≡ result_cells c.result ++ kinds → Fit w kinds rest
+        → LeadsOn (place + size_of i) (goes_into number c args rest s0)
+    entered i h on no_turn same number c args rest kinds e code fit_args leaves_it fit_rest =
+        called i h on no_turn same number c args rest kinds e code fit_args leaves_it fit_rest (sh.turns == 0) refl
+
+    -- a method by its number, where its receiver is there
+    met : (n : ℕ) → Here (op.Call n) → (c : ImageMethod) (args rest : List Val) (kinds : List ImageKind)
+        → slice_get w.image.methods n ≡ Some c → is_abstract c ≡ false → Fit w (kinds_of c.class c) args
+        → after_stack (wants_of w.image shape (op.Call n)) shape.stack ≡ result_cells c.result ++ kinds → Fit w kinds rest
+        → (r : Result (Unit {0}) Stop) → Sound (λ _. Unit {0}) r
+        → LeadsOn (place + size_of (op.Call n))
+        (then_do (answers r s0) (λ (u : Unit {0}) (s3 : State). goes_into n c args rest s3))
+    met n h c args rest kinds e code fit_args leaves_it fit_rest (Ok u) p =
+        entered (op.Call n) h refl refl refl n c args rest kinds e code fit_args leaves_it fit_rest
+    met n h c args rest kinds e code fit_args leaves_it fit_rest (Err (Traps t)) p = trapped t sh fitting
+    met n h c args rest kinds e code fit_args leaves_it fit_rest (Err Untyped) p = absurd p
+
+    call_it : (n : ℕ) → Here (op.Call n) → LeadsOn (place + size_of (op.Call n)) (effect w (op.Call n) stack s0)
+    call_it n h = by_method (slice_get w.image.methods n) refl
+      where
+        by_method : (o : Option ImageMethod) → slice_get w.image.methods n ≡ o
+            → LeadsOn (place + size_of (op.Call n)) (effect w (op.Call n) stack s0)
+        by_method None e =
+            no_truth (sym (sym (ap (λ (o : Option ImageMethod). option_map_or is_abstract o true) e) ∙ h.fine.numbers))
+        by_method (Some c) e =
+            let code : is_abstract c ≡ false =
+            sym (ap (λ (o : Option ImageMethod). option_map_or is_abstract o true) e) ∙ h.fine.numbers in
+            let cells : Takes w (static_wants (Some c)).takes shape.stack stack =
+            subst (λ (o : Option ImageMethod). Takes w (static_wants o).takes shape.stack stack) e h.cells in
+            let t = arguments w is c.class c shape.stack stack cells in
+            let leaves_it : after_stack (wants_of w.image shape (op.Call n)) shape.stack
+            ≡ result_cells c.result ++ drop (length (map Goes (reverse (kinds_of c.class c)))) shape.stack =
+            ap (λ (o : Option ImageMethod). after_stack (static_wants o) shape.stack) e in
+            let last : LeadsOn (place + size_of (op.Call n))
+            (then_do (answers (receiver_there c t.args) s0)
+            (λ (u : Unit {0}) (s3 : State). goes_into n c t.args t.rest s3)) =
+            met n h c t.args t.rest (drop (length (map Goes (reverse (kinds_of c.class c)))) shape.stack)
+            e code t.fit_args leaves_it t.fit_rest (receiver_there c t.args)
+            (receiver_is w c.class c t.args t.fit_args) in
+            let taken_is : LeadsOn (place + size_of (op.Call n))
+            (then_do (answers (taken (argument_count c) stack []) s0)
+            (λ (t : List Val × List Val) (s2 : State). then_do (answers (receiver_there c t.0) s2)
+            (λ (u : Unit {0}) (s3 : State). goes_into n c t.0 t.1 s3))) =
+            subst (λ (r : Result (List Val × List Val) Stop). LeadsOn (place + size_of (op.Call n))
+            (then_do (answers r s0) (λ (t : List Val × List Val) (s2 : State). then_do (answers (receiver_there c t.0) s2)
+            (λ (u : Unit {0}) (s3 : State). goes_into n c t.0 t.1 s3)))) (sym t.is) last in
+            subst (λ (o : Option ImageMethod). LeadsOn (place + size_of (op.Call n))
+            (then_do (answers (is_there o) s0) (λ (c : ImageMethod) (s1 : State).
+            then_do (answers (taken (argument_count c) stack []) s1)
+            (λ (t : List Val × List Val) (s2 : State). then_do (answers (receiver_there c t.0) s2)
+            (λ (u : Unit {0}) (s3 : State). goes_into n c t.0 t.1 s3))))) (sym e) taken_is
