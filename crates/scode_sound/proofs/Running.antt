@@ -1,6 +1,6 @@
 -- No state that a verified image reaches is stuck, and each step leaves less to do.
 use Rattle.std.proofs.Common.{◌≡◌, ◌<◌, ◌≤◌, ◌+◌, ◌*◌, ◌-◌, ◌==◌, ◌&&◌, ◌||◌, not, nat_lt, nat_le, ℕ, zero, suc, Bool, true, false, if◌then◌else◌, List, [], ◌∷◌, ◌++◌, length, map, drop, reverse, Option, Some, None, Result, Ok, Err, refl, sym, ap, subst, ◌∙◌, arith, inl, inr, ◌⊎◌}
-use Rattle.std.specs.Prelude.{IfSome, is_some, slice_get, slice_set, slice_index_or}
+use Rattle.std.specs.Prelude.{IfSome, is_some, slice_get, slice_set, slice_index, slice_index_or}
 use Rattle.std.specs.Option.{option_and_then, option_map_or}
 use Rattle.std.proofs.lemmas.Bool.{and_parts, cases_lt, eqb-true, ltb-true}
 use Rattle.std.proofs.lemmas.Option.{slice_get_within}
@@ -34,11 +34,12 @@ use Rattle.scode_code.specs.Machine.{Frame, Machine, Point, At as AtWork, Over, 
 use Rattle.scode_code.specs.Steps.{act, code_of, effect, instruction_count, longest_of, step}
 use Rattle.scode_code.specs.Verified.{IsFine, IsVerifiedBy, Leads, MayJump, Shapes, Stands}
 use Rattle.scode_code.specs.Wants.{Need, Goes, Anything, call_wants_of, declared_method, result_cells, static_wants, wants_of}
+use Rattle.scode_whole.proofs.Kits.{classes_most}
 use Rattle.scode_whole.proofs.Truths.{no_truth, no_value, same_value, two, through}
 use Rattle.scode_sound.specs.Over.{IsTyped}
 use Rattle.scode_sound.proofs.Left.{at_back, at_later, at_most, at_some, first_start, left_at, longest_is_most, next_start, paid, size_some, turn_at}
 use Rattle.scode_sound.proofs.Rules.{Concrete, MethodRule, Tables, method_rule, stands_at}
-use Rattle.scode_sound.proofs.Cells.{Fit, HasKind, LeadsTo, Text, Block, Object, all_goes, goes as cell_goes, classes_of, fit_length, fit_set}
+use Rattle.scode_sound.proofs.Cells.{Fit, HasKind, LeadsTo, Text, Block, Object, all_goes, class_from, goes as cell_goes, classes_of, fit_length, fit_set}
 use Rattle.scode_sound.proofs.Members.{InTable, Received, has_code, received, method_there as table_there, table_below}
 use Rattle.scode_sound.proofs.Characters.{byte_at}
 use Rattle.scode_sound.proofs.Keeping.{Fitting, Now, turn_fitting}
@@ -604,3 +605,164 @@ module _ (w : Setting) (is : Tables w.image) (own : Concrete w.image w.class) (g
             then_do (answers (taken (argument_count c) stack []) s1)
             (λ (t : List Val × List Val) (s2 : State). then_do (answers (receiver_there c t.0) s2)
             (λ (u : Unit {0}) (s3 : State). goes_into n c t.0 t.1 s3))))) (sym e) taken_is
+
+    -- ---- into the method that stands in the table of the object's class
+
+    module _ (class slot number : ℕ) (x : ImageMethod) (h : Here (op.VirtualCall class slot))
+        (found : table_method w.image class slot ≡ Some number) (declared : slice_get w.image.methods number ≡ Some x)
+        (rest : List Val) (kinds : List ImageKind) (fit_rest : Fit w kinds rest)
+        (leaves_it : after_stack (wants_of w.image shape (op.VirtualCall class slot)) shape.stack
+        ≡ result_cells x.result ++ kinds) where
+      on_object : (spot : Spot) (vs : List Val) (at : ℕ) → class_from w spot.base spot.path ≡ Some at
+          → Concrete w.image at → Below (classes_of w.image) class at → Fit w x.params vs
+          → LeadsOn (place + size_of (op.VirtualCall class slot))
+          (then_do (answers (found_for w spot slot) s0)
+          (λ (n : ℕ) (s4 : State). then_do (answers (method_there w.image n) s4)
+          (λ (y : ImageMethod) (s5 : State). goes_into n y (At spot ∷ vs) rest s5)))
+      on_object spot vs at here concrete below_it fit =
+          let f : InTable w.image at slot x =
+          table_below w.image is class at slot number x below_it found declared in
+          let r : Received w.image at f.method = received w.image is at slot f.number f.method f.found f.stands in
+          let code : is_abstract f.method ≡ false =
+          has_code w.image is at slot f.number f.method concrete f.found f.stands in
+          let receiver : HasKind w (object f.method.class) (At spot) = Object refl at here concrete r.above in
+          let params : Fit w f.method.params vs =
+          subst (λ (ks : List ImageKind). Fit w ks vs) (sym f.same.params) fit in
+          let args : Fit w (kinds_of f.method.class f.method) (At spot ∷ vs) =
+          subst (λ (b : Bool). Fit w ((if b then object f.method.class ∷ [] else []) ++ f.method.params) (At spot ∷ vs))
+          (sym r.instance) (receiver, params) in
+          let leaves_own : after_stack (wants_of w.image shape (op.VirtualCall class slot)) shape.stack
+          ≡ result_cells f.method.result ++ kinds =
+          leaves_it ∙ ap (λ (k : ImageKind). result_cells k ++ kinds) (sym f.same.result) in
+          let last : LeadsOn (place + size_of (op.VirtualCall class slot))
+          (goes_into f.number f.method (At spot ∷ vs) rest s0) =
+          entered (op.VirtualCall class slot) h refl refl refl f.number f.method (At spot ∷ vs) rest kinds f.stands code
+          args leaves_own fit_rest in
+          let method_is : LeadsOn (place + size_of (op.VirtualCall class slot))
+          (then_do (answers (method_there w.image f.number) s0)
+          (λ (y : ImageMethod) (s5 : State). goes_into f.number y (At spot ∷ vs) rest s5)) =
+          subst (λ (o : Option ImageMethod). LeadsOn (place + size_of (op.VirtualCall class slot))
+          (then_do (answers (is_there o) s0)
+          (λ (y : ImageMethod) (s5 : State). goes_into f.number y (At spot ∷ vs) rest s5))) (sym f.stands) last in
+          let is_found : option_and_then (λ (c : ℕ). table_method w.image c slot) (class_of w spot) ≡ Some f.number =
+          ap (λ (o : Option ℕ). option_and_then (λ (c : ℕ). table_method w.image c slot) o)
+          (class_is w spot.base spot.path ∙ here) ∙ f.found in
+          subst (λ (o : Option ℕ). LeadsOn (place + size_of (op.VirtualCall class slot))
+          (then_do (answers (is_there o) s0)
+          (λ (n : ℕ) (s4 : State). then_do (answers (method_there w.image n) s4)
+          (λ (y : ImageMethod) (s5 : State). goes_into n y (At spot ∷ vs) rest s5)))) (sym is_found) method_is
+
+      abbrev On_receiver : Val → List Val → Type 0
+      On_receiver v vs =
+          LeadsOn (place + size_of (op.VirtualCall class slot))
+          (then_do (answers (spot_of v) s0)
+          (λ (spot : Spot) (s3 : State). then_do (answers (found_for w spot slot) s3)
+          (λ (n : ℕ) (s4 : State). then_do (answers (method_there w.image n) s4)
+          (λ (y : ImageMethod) (s5 : State). goes_into n y (v ∷ vs) rest s5))))
+
+      on_receiver : (v : Val) (vs : List Val) → HasKind w (object class) v → Fit w x.params vs → On_receiver v vs
+      on_receiver Nothing vs f g = absurd f
+      on_receiver (Truth t) vs f g = absurd (omega (arith, f.0))
+      on_receiver (Int n) vs f g = absurd (omega (arith, f.0))
+      on_receiver (Long n) vs f g = absurd (omega (arith, f.0))
+      on_receiver (Literal n) vs f g = absurd (omega (arith, f.0))
+      on_receiver Null vs f g = trapped NullReference sh fitting
+      on_receiver (At spot) vs (Text e n y) g = absurd (omega (arith, e))
+      on_receiver (At spot) vs (Block e c s) g =
+          let t = through (λ (y : ImageClass). slice_get y.table slot) (slice_get w.image.classes class) number found in
+          let inside = slice_get_within w.image.classes class t.0 t.1 in
+          let few = classes_most w.image is.whole in
+          absurd (omega (arith, c, inside, few))
+      on_receiver (At spot) vs (Object e at y c b) g =
+          on_object spot vs at y c b g
+
+      on_args : (args : List Val) → Fit w (object class ∷ x.params) args
+          → LeadsOn (place + size_of (op.VirtualCall class slot))
+          (then_do (answers (spot_of (slice_index_or args 0 Nothing)) s0)
+          (λ (spot : Spot) (s3 : State). then_do (answers (found_for w spot slot) s3)
+          (λ (n : ℕ) (s4 : State). then_do (answers (method_there w.image n) s4)
+          (λ (y : ImageMethod) (s5 : State). goes_into n y args rest s5))))
+      on_args [] f = absurd f
+      on_args (v ∷ vs) f = on_receiver v vs f.0 f.1
+
+    some_number : (o : Option ℕ) → is_some o ≡ true → (n : ℕ) × (o ≡ Some n)
+    some_number None h = no_truth h
+    some_number (Some n) h = (n, refl)
+
+    virtual_it : (class slot : ℕ) → Here (op.VirtualCall class slot)
+        → LeadsOn (place + size_of (op.VirtualCall class slot)) (effect w (op.VirtualCall class slot) stack s0)
+    virtual_it class slot h =
+        let n = some_number (table_method w.image class slot)
+        (not_not (is_some (table_method w.image class slot)) h.fine.numbers) in
+        let c = through (λ (y : ImageClass). slice_get y.table slot) (slice_get w.image.classes class) n.0 n.1 in
+        let x = table_there w.image is class slot n.0 c.0 c.1 c.2 in
+        let r : Received w.image class x.0 = received w.image is class slot n.0 x.0 n.1 x.1 in
+        let declared : option_and_then (λ (k : ℕ). slice_get w.image.methods k) (table_method w.image class slot)
+        ≡ Some x.0 =
+        ap (λ (o : Option ℕ). option_and_then (λ (k : ℕ). slice_get w.image.methods k) o) n.1 ∙ x.1 in
+        let cells : Takes w (call_wants_of class (Some x.0)).takes shape.stack stack =
+        subst (λ (o : Option ImageMethod). Takes w (call_wants_of class o).takes shape.stack stack) declared h.cells in
+        let t = arguments w is class x.0 shape.stack stack cells in
+        let leaves_it : after_stack (wants_of w.image shape (op.VirtualCall class slot)) shape.stack
+        ≡ result_cells x.0.result ++ drop (length (map Goes (reverse (kinds_of class x.0)))) shape.stack =
+        ap (λ (o : Option ImageMethod). after_stack (call_wants_of class o) shape.stack) declared in
+        let args : Fit w (object class ∷ x.0.params) t.args =
+        subst (λ (b : Bool). Fit w ((if b then object class ∷ [] else []) ++ x.0.params) t.args) r.instance t.fit_args in
+        let last = on_args class slot n.0 x.0 h n.1 x.1 t.rest
+        (drop (length (map Goes (reverse (kinds_of class x.0)))) shape.stack) t.fit_rest leaves_it t.args args in
+        let taken_is : LeadsOn (place + size_of (op.VirtualCall class slot))
+        (then_do (answers (taken (argument_count x.0) stack []) s0)
+        (λ (t : List Val × List Val) (s2 : State). then_do (answers (spot_of (slice_index_or t.0 0 Nothing)) s2)
+        (λ (spot : Spot) (s3 : State). then_do (answers (found_for w spot slot) s3)
+        (λ (n : ℕ) (s4 : State). then_do (answers (method_there w.image n) s4)
+        (λ (y : ImageMethod) (s5 : State). goes_into n y t.0 t.1 s5))))) =
+        subst (λ (r : Result (List Val × List Val) Stop). LeadsOn (place + size_of (op.VirtualCall class slot))
+        (then_do (answers r s0)
+        (λ (t : List Val × List Val) (s2 : State). then_do (answers (spot_of (slice_index_or t.0 0 Nothing)) s2)
+        (λ (spot : Spot) (s3 : State). then_do (answers (found_for w spot slot) s3)
+        (λ (n : ℕ) (s4 : State). then_do (answers (method_there w.image n) s4)
+        (λ (y : ImageMethod) (s5 : State). goes_into n y t.0 t.1 s5)))))) (sym t.is) last in
+        subst (λ (o : Option ImageMethod). LeadsOn (place + size_of (op.VirtualCall class slot))
+        (then_do (answers (is_there o) s0)
+        (λ (d : ImageMethod) (s1 : State). then_do (answers (taken (argument_count d) stack []) s1)
+        (λ (t : List Val × List Val) (s2 : State). then_do (answers (spot_of (slice_index_or t.0 0 Nothing)) s2)
+        (λ (spot : Spot) (s3 : State). then_do (answers (found_for w spot slot) s3)
+        (λ (n : ℕ) (s4 : State). then_do (answers (method_there w.image n) s4)
+        (λ (y : ImageMethod) (s5 : State). goes_into n y t.0 t.1 s5))))))) (sym declared) taken_is
+
+    -- ---- any instruction
+
+    instruction_better : (i : Op) → Here i → LeadsOn (place + size_of i) (effect w i stack s0)
+    instruction_better (op.Store n) h = stored n shape.stack stack h refl h.cells
+    instruction_better op.Turn h = turned h (sh.turns == 0) refl
+    instruction_better (op.Call n) h = call_it n h
+    instruction_better (op.VirtualCall class slot) h = virtual_it class slot h
+    instruction_better op.Return h = leaves_none h
+    instruction_better op.ReturnValue h = leaves_value shape.stack stack h refl h.cells
+    instruction_better other h = straight_better other h refl
+
+  -- ---- a step
+
+  pub step_better : (x : Machine) → FineAt x → Better (potential (AtWork x)) (step w (AtWork x))
+  step_better x fine =
+      let v : Stands w.image shapes x.top.method x.top.place fine.shape =
+      verified.each x.top.method x.top.place fine.shape fine.at.stands in
+      let same : fine.at.m ≡ v.m = same_value fine.at.m v.m (sym fine.at.known ∙ v.there) in
+      let rules : MethodRule w.image v.m = method_rule w.image is x.top.method v.m v.there in
+      let spelled : IsOp v.i =
+      (found-stands v.m.code x.top.place v.i
+      (λ k. ltb-true (slice_index v.m.code k) 256 (byte_at v.m.code k rules.bytes)) v.instruction).is in
+      let enough : nat_lt (length fine.shape.stack) (length (wants_of w.image fine.shape v.i).takes) ≡ false =
+      first_false (nat_lt (length fine.shape.stack) (length (wants_of w.image fine.shape v.i).takes))
+      (nat_lt v.m.stack (length (after_stack (wants_of w.image fine.shape v.i) fine.shape.stack))) v.fine.stack in
+      let meet : all_meet w.image (wants_of w.image fine.shape v.i).takes fine.shape.stack ≡ true =
+      not_not (all_meet w.image (wants_of w.image fine.shape v.i).takes fine.shape.stack) v.fine.kinds in
+      let cells = takes w (wants_of w.image fine.shape v.i).takes fine.shape.stack x.top.stack enough meet fine.fit_stack in
+      let here : op_at (code_of w.image x.top.method) x.top.place ≡ Some v.i =
+      ap (λ (code : List ℕ). op_at code x.top.place) (code_is x.top.method v.m v.there) ∙ v.instruction in
+      subst (λ (o : Option Op). Better (potential (AtWork x)) (act w o x.top x.below x.shared)) (sym here)
+      (instruction_better x.top.method x.top.place x.top.locals x.top.stack x.below x.shared v.m fine.shape v.there
+      (subst (λ (y : ImageMethod). is_start y.code x.top.place ≡ true) same fine.at.start)
+      (subst (λ (y : ImageMethod). length fine.shape.locals ≡ length y.locals) same fine.at.many)
+      fine.fit_locals fine.fit_stack fine.fitting fine.waits v.i
+      (record { instruction = v.instruction; fine = v.fine; spelled = spelled; cells = cells }))
