@@ -14,3 +14,5 @@ pub mod Strs
 pub mod Straight
 pub mod Arguments
 pub mod Running
+pub mod Finishing
+pub mod Roots
