@@ -74,7 +74,7 @@ module _ (w : Setting) (is : Tables w.image) where
         args = r.args;
         rest = r.rest;
         is = ap (λ (n : ℕ). taken n stack []) (sym (counted class m)) ∙ r.is;
-        fit_args = subst (λ (all : List ImageKind). Fit w all r.args) 
+        fit_args = subst (λ (all : List ImageKind). Fit w all r.args)
             (turned (reverse (kinds_of class m)) [] ∙ append-nil (reverse (reverse (kinds_of class m)))
             ∙ reverse-reverse (kinds_of class m)) r.fit_args;
         fit_rest = r.fit_rest;

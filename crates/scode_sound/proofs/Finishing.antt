@@ -1,14 +1,14 @@
 -- From a fine point a machine is over within its potential.
-use Rattle.std.proofs.Common.{◌≡◌, ◌<◌, ◌≤◌, ℕ, zero, suc, refl, arith}
+use Rattle.std.proofs.Common.{◌≡◌, ◌≤◌, ℕ, zero, suc, arith}
 use Rattle.sed_engine.specs.Expressions.{Called}
 use Rattle.scode_code.proofs.Going.{steps-over}
 use Rattle.scode_code.specs.Fields.{Setting}
-use Rattle.scode_code.specs.Machine.{Machine, Point, At as AtWork, Over}
+use Rattle.scode_code.specs.Machine.{Point, At as AtWork, Over}
 use Rattle.scode_code.specs.Steps.{step, steps}
 use Rattle.scode_code.specs.Verified.{IsVerifiedBy, Shapes}
 use Rattle.scode_sound.specs.Over.{IsNotStuck, IsOverWithin}
 use Rattle.scode_sound.proofs.Rules.{Concrete, Tables}
-use Rattle.scode_sound.proofs.Running.{Better, Fine, FineAt, FineOver, potential, step_better}
+use Rattle.scode_sound.proofs.Running.{Fine, FineOver, potential, step_better}
 
 module _ (w : Setting) (is : Tables w.image) (own : Concrete w.image w.class) (given : ℕ) (shapes : Shapes)
     (verified : IsVerifiedBy w.image shapes) where

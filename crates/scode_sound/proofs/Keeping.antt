@@ -155,7 +155,7 @@ module _ (w : Setting) (is : Tables w.image) (own : Concrete w.image w.class) (g
       → Holds G Value (λ v. keeps f v ≡ true) (load spot)
   load_holds spot f e leaf = record {
     holds = λ s g. let k : KeptAt f spot.base spot.path s.shared =
-    kept_there w is own given spot.base spot.path f s.shared g.fitting e leaf in
+        kept_there w is own given spot.base spot.path f s.shared g.fitting e leaf in
         (g, subst (λ (o : Option Value). Sound (λ v. keeps f v ≡ true) (there o)) (sym k.is) k.keeps_it);
   }
 

@@ -16,3 +16,4 @@ pub mod Arguments
 pub mod Running
 pub mod Finishing
 pub mod Roots
+pub mod Answering

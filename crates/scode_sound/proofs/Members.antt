@@ -85,8 +85,7 @@ fields_grow image is above class (Based base low e more) =
     let up = fields_grow image is above base more in
     let whole : class_fields image class ≡ class_fields image base ++ own.0 =
     fields_at image class g.c g.here ∙ own.1
-    ∙ ap (λ (front : List ImageField). front ++ own.0) (sym (fields_at image base g.b g.above)) in
-    (
+    ∙ ap (λ (front : List ImageField). front ++ own.0) (sym (fields_at image base g.b g.above)) in (
       up.0 ++ own.0,
       whole ∙ ap (λ (front : List ImageField). front ++ own.0) up.1
           ∙ append_assoc (class_fields image above) up.0 own.0,

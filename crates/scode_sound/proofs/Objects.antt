@@ -1,5 +1,5 @@
 -- Fields of objects, and elements of their arrays.
-use Rattle.std.proofs.Common.{◌≡◌, ◌<◌, ◌≤◌, ◌==◌, ◌&&◌, ◌||◌, not, nat_le, nat_lt, ℕ, zero, suc, Bool, true, false, if◌then◌else◌, List, [], ◌∷◌, ◌++◌, length, drop, Option, Some, None, refl, sym, ap, subst, ◌∙◌, arith, inl, inr, ◌⊎◌}
+use Rattle.std.proofs.Common.{◌≡◌, ◌<◌, ◌≤◌, ◌==◌, ◌&&◌, ◌||◌, not, nat_le, nat_lt, ℕ, Bool, true, false, if◌then◌else◌, List, [], ◌∷◌, ◌++◌, length, drop, Option, Some, None, refl, sym, ap, subst, ◌∙◌, arith, inl, inr, ◌⊎◌}
 use Rattle.std.specs.Prelude.{is_some, position, slice_get, slice_index, pos}
 use Rattle.std.specs.Option.{option_map}
 use Rattle.std.proofs.lemmas.Option.{slice_get_within}
@@ -377,9 +377,14 @@ module _ (w : Setting) (is : Tables w.image) (own : Concrete w.image w.class) (g
       (λ object rest s1. then_do (field_at w object 8 offset class s1) (λ spot s2. gives (Onward (At spot ∷ rest)) s2)) t
       (λ v ls rest c fit.
       then_holds (object_field (slice_get ks 0) v 8 offset class c l)
-      (λ spot s. gives_it (Onward (At spot ∷ rest))
-      (on, (Object refl class s.class_is
-      (good w is spot.base spot.path (form.Object (record { 0 = class })) s.form_is) Itself, fit))))
+      (λ spot s. gives_it (Onward (At spot ∷ rest)) (
+        on,
+        (
+          Object refl class s.class_is
+              (good w is spot.base spot.path (form.Object (record { 0 = class })) s.form_is) Itself,
+          fit,
+        ),
+      )))
 
   pub str_it : (offset size : ℕ) (i : Op) (ks : List ImageKind) (stack : List Val) → is_end i ≡ false
       → Takes w (AnyObject ∷ []) ks stack → lacks_field w.image (slice_get ks 0) 6 offset size ≡ false

@@ -1,5 +1,5 @@
 -- What a root call of a verified image runs, and how it begins.
-use Rattle.std.proofs.Common.{◌≡◌, ◌<◌, ◌≤◌, ◌==◌, ◌&&◌, ◌||◌, ◌⊎◌, inl, inr, not, nat_le, nat_lt, ℕ, Bool, true, false, if◌then◌else◌, List, [], ◌∷◌, ◌++◌, length, map, Option, Some, None, Result, Ok, Err, refl, sym, ap, subst, ◌∙◌, arith}
+use Rattle.std.proofs.Common.{◌≡◌, ◌==◌, ◌&&◌, ◌||◌, not, nat_le, ℕ, Bool, true, false, if◌then◌else◌, List, [], ◌∷◌, ◌++◌, length, Option, Some, None, Result, Ok, refl, sym, ap, subst, ◌∙◌}
 use Rattle.std.specs.Prelude.{slice_get}
 use Rattle.std.specs.Option.{option_and_then, option_map, option_map_or}
 use Rattle.std.proofs.lemmas.Bool.{and_parts}
@@ -9,21 +9,22 @@ use Rattle.sed_value.specs.declared.value.Value.{Value}
 use Rattle.sed_value.specs.declared.value.Value.TheVariants as kept
 use Rattle.sed_value.specs.declared.slot_type.SlotType.{SlotType}
 use Rattle.sed_value.specs.declared.slot_type.SlotType.TheVariants as slot
+use Rattle.sed_typed.specs.declared.number.SlotNo.{SlotNo}
 use Rattle.sed_typed.specs.declared.schema.ActionArg.{ActionArg}
 use Rattle.sed_typed.specs.declared.schema.ActionArg.TheVariants as argument
 use Rattle.sed_typed.specs.declared.schema.ClassInfo.{ClassInfo}
-use Rattle.sed_typed.specs.declared.schema.SlotForm.{SlotForm}
 use Rattle.sed_typed.specs.declared.schema.SlotForm.TheVariants.{Prop, Action}
 use Rattle.sed_typed.specs.declared.schema.SlotInfo.{SlotInfo}
+use Rattle.sed_typed.specs.Classes.{slots}
 use Rattle.sed_typed.specs.Schemas.{type_at}
+use Rattle.sed_engine.specs.declared.call.Callback.{Callback as AnyCallback}
 use Rattle.sed_engine.specs.declared.call.Callback.TheVariants as callback
 use Rattle.sed_engine.specs.declared.call.Root.{Root as AnyRoot}
 use Rattle.sed_engine.specs.declared.call.Root.TheVariants as root
-use Rattle.sed_engine.specs.Asked.{MayAsk}
-use Rattle.sed_engine.specs.Code.{Question, action_takes, is_argument}
+use Rattle.sed_engine.specs.Code.{Question, action_takes, is_argument, may_call}
 use Rattle.sed_engine.specs.Root.{argument_of}
 use Rattle.sed_engine.specs.Stops.{Stop, there as is_there, map_ok, and_then}
-use Rattle.sed_engine.specs.Values.{Val, Nothing, Truth, Int, Long}
+use Rattle.sed_engine.specs.Values.{Val, Nothing, Truth, Int, Long, At, Component}
 use Rattle.sed_engine.proofs.Below.{Below, below_of}
 use Rattle.scode_image.specs.declared.image.Image.{Image}
 use Rattle.scode_image.specs.declared.image.ImageClass.{ImageClass}
@@ -42,10 +43,10 @@ use Rattle.scode_code.specs.TableRules as rule
 use Rattle.scode_code.specs.Tables.{class_of, primitive_of, schema_of, slot_form, slot_of}
 use Rattle.scode_whole.proofs.Bases.{slots_at}
 use Rattle.scode_whole.proofs.Rule.{ClassAgrees, class_agrees}
-use Rattle.scode_whole.proofs.Truths.{either, four, no_truth, no_value, of_mapped, passes, same_value, there, through, two, is_not}
+use Rattle.scode_whole.proofs.Truths.{four, no_truth, of_mapped, passes, there, through, is_not}
 use Rattle.scode_sound.specs.Over.{setting_of}
 use Rattle.scode_sound.proofs.Rules.{Concrete, Tables, second}
-use Rattle.scode_sound.proofs.Cells.{Fit, HasKind, Object, classes_of, same_kinds}
+use Rattle.scode_sound.proofs.Cells.{Fit, HasKind, Object, classes_of}
 use Rattle.scode_sound.proofs.Members.{InTable, Received, all_same, has_code, received, table_at, table_below}
 use Rattle.scode_sound.proofs.Arguments.{kinds_of}
 
@@ -275,3 +276,143 @@ slot_is_action s v known h = by_test (nat_le s.form 5) (s.form == 7) refl refl h
         both_false : (a b : Bool) → a ≡ false → b ≡ false → (a || b) ≡ false
         both_false true b x y = x
         both_false false b x y = y
+
+-- ---- what may be asked
+
+-- a root call runs a method with what fits its parameters, or nothing
+pub data Asks (image : Image) (q : Question) : Type 0 where
+  Runs : (number : ℕ) (m : ImageMethod) (value : Val) → root_method image q.class q.which ≡ Ok (Some number)
+      → argument_of q.argument ≡ Ok value → slice_get image.methods number ≡ Some m → is_abstract m ≡ false
+      → Fit (setting_of image q) (kinds_of m.class m) (root_arguments value) → Asks image q
+  Rests : (value : Val) → root_method image q.class q.which ≡ Ok None → argument_of q.argument ≡ Ok value
+      → Asks image q
+
+runs : (image : Image) (q : Question) (place : ℕ) (params : List ImageKind) → Concrete image q.class
+    → RunsAt image q.class place params → root_method image q.class q.which ≡ method_at image q.class place
+    → Given (setting_of image q) params q.argument → Asks image q
+runs image q place params known r which g =
+    let at : method_at image q.class place ≡ Ok (Some r.number) =
+    ap (λ (o : Option ℕ). map_ok (λ (m : ℕ). Some m) (is_there o)) r.found in
+    let fits : Fit (setting_of image q) r.method.params (pushed g.value []) =
+    subst (λ (ks : List ImageKind). Fit (setting_of image q) ks (pushed g.value [])) (sym r.params_are) g.fits in
+    let receiver : HasKind (setting_of image q) (object r.method.class) (At (record { base = Component; path = [] })) =
+    Object refl q.class refl known r.above in
+    Runs r.number r.method g.value (which ∙ at) g.given r.stands r.code
+    (subst (λ (b : Bool). Fit (setting_of image q) ((if b then object r.method.class ∷ [] else []) ++ r.method.params)
+    (root_arguments g.value)) (sym r.instance) (receiver, fits))
+
+module _ (image : Image) (is : Tables image) (q : Question) (own : IsComponentClass image q.class) where
+  asks_execute : q.which ≡ root.Execute → is_argument argument.Void q.argument ≡ true → Asks image q
+  asks_execute e h =
+      let c = the_component image is in
+      let n = execute_at image c.info.table c.table in
+      runs image q 0 [] own.known (below_component image is q.class 0 n.0 [] own c n.1 n.2)
+      (ap (root_method image q.class) e) (argument_fits (setting_of image q) argument.Void q.argument h)
+
+  places_are : (c : TheComponent image) → component_places image ≡ Ok (length c.info.table)
+  places_are c =
+      ap (λ (o : Option ℕ). is_there (option_and_then
+      (λ (class : ℕ). option_and_then (λ (x : ImageClass). Some (length x.table)) (slice_get image.classes class)) o))
+      c.found
+      ∙ ap (λ (o : Option ImageClass). is_there (option_and_then (λ (x : ImageClass). Some (length x.table)) o)) c.stands
+
+  asks_callback : (cb : AnyCallback) (a : ActionArg) → q.which ≡ root.Callback cb → is_argument a q.argument ≡ true
+      → ((c : TheComponent image) → CallbacksAt image c.info.table → RunsAt image q.class (callback_place cb) (kinds_for a))
+      → Asks image q
+  asks_callback cb a e h at =
+      let c = the_component image is in
+      let g = argument_fits (setting_of image q) a q.argument h in
+      let which : root_method image q.class q.which
+      ≡ (if length c.info.table == 4 then method_at image q.class (callback_place cb) else Ok None) =
+      ap (root_method image q.class) e
+      ∙ ap (λ (r : Result ℕ Stop). and_then r
+      (λ (count : ℕ). if count == 4 then method_at image q.class (callback_place cb) else Ok None)) (places_are c) in
+      by_length c g (length c.info.table == 4) refl which
+    where
+      by_length : (c : TheComponent image) → Given (setting_of image q) (kinds_for a) q.argument → (b : Bool)
+          → (length c.info.table == 4) ≡ b
+          → root_method image q.class q.which
+          ≡ (if b then method_at image q.class (callback_place cb) else Ok None)
+          → Asks image q
+      by_length c g true long which =
+          runs image q (callback_place cb) (kinds_for a) own.known
+          (at c (callbacks_at image c.info.table c.table long)) which g
+      by_length c g false short which = Rests g.value which g.given
+
+  asks_start : q.which ≡ root.Callback callback.Start → is_argument argument.Void q.argument ≡ true → Asks image q
+  asks_start e h =
+      asks_callback callback.Start argument.Void e h
+      (λ c x. below_component image is q.class 1 x.start [] own c x.start_at x.start_is)
+
+  asks_stop : q.which ≡ root.Callback callback.Stop → is_argument argument.Void q.argument ≡ true → Asks image q
+  asks_stop e h =
+      asks_callback callback.Stop argument.Void e h
+      (λ c x. below_component image is q.class 2 x.stop [] own c x.stop_at x.stop_is)
+
+  asks_changed : q.which ≡ root.Callback callback.Changed → is_argument argument.Int q.argument ≡ true → Asks image q
+  asks_changed e h =
+      asks_callback callback.Changed argument.Int e h
+      (λ c x. below_component image is q.class 3 x.changed (int ∷ []) own c x.changed_at x.changed_is)
+
+  -- an action of a slot
+  action_runs : (c : ImageClass) (n : ℕ) (s : ImageSlot) → slice_get image.classes q.class ≡ Some c
+      → slice_get c.slots n ≡ Some s → rule.is_action s ≡ true
+      → RunsAt image q.class s.place (rule.action_params s.form)
+  action_runs c n s at e action =
+      let a : ClassAgrees image q.class c = class_agrees image is.whole q.class c at in
+      let p = and_parts (rule.property_has_field c s) (rule.action_has_method image c s)
+      (passes (λ (t : ImageSlot). rule.property_has_field c t && rule.action_has_method image c t) c.slots n s a.slots
+      e) in
+      let t = there (rule.has_signature image (rule.action_params s.form) void) (slice_get c.table s.place)
+      (second (rule.is_action s) (option_map_or (rule.has_signature image (rule.action_params s.form) void)
+      (slice_get c.table s.place) false) action p.1) in
+      let m = signature_of image (rule.action_params s.form) t.0 t.2 in
+      runs_at image is q.class s.place t.0 m.method (rule.action_params s.form) own.known
+      (table_at image q.class s.place c at ∙ t.1) m.stands m.params_are
+
+  asks_action : (number : SlotNo) → q.which ≡ root.Action number
+      → action_takes (option_map (λ (s : SlotInfo). s.form)
+      (slice_get (slots (schema_of image).classes q.class) number.0)) q.argument ≡ true
+      → Asks image q
+  asks_action number e h = by_slot (slice_get own.known.info.slots number.0) refl takes
+    where
+      same : slice_get (slots (schema_of image).classes q.class) number.0
+          ≡ option_map slot_of (slice_get own.known.info.slots number.0)
+      same =
+          ap (λ (all : List SlotInfo). slice_get all number.0) (slots_at image q.class own.known.info own.known.stands)
+          ∙ slice_get-map slot_of own.known.info.slots number.0
+
+      takes : action_takes (option_map (λ (s : SlotInfo). s.form)
+          (option_map slot_of (slice_get own.known.info.slots number.0))) q.argument ≡ true
+      takes =
+          sym (ap (λ (o : Option SlotInfo). action_takes (option_map (λ (s : SlotInfo). s.form) o) q.argument) same) ∙ h
+
+      by_slot : (o : Option ImageSlot) → slice_get own.known.info.slots number.0 ≡ o
+          → action_takes (option_map (λ (s : SlotInfo). s.form) (option_map slot_of o)) q.argument ≡ true
+          → Asks image q
+      by_slot None at h = no_truth h
+      by_slot (Some s) at h =
+          let a : ClassAgrees image q.class own.known.info =
+          class_agrees image is.whole q.class own.known.info own.known.stands in
+          let known = and_parts (is_slot_form s.form) (nat_le s.config 1)
+          (passes (λ (t : ImageSlot). is_slot_form t.form && nat_le t.config 1) own.known.info.slots number.0 s
+          a.slot_forms at) in
+          let place_is : action_place image q.class number.0 ≡ Some s.place =
+          ap (λ (o : Option ImageClass). option_and_then (λ (x : ImageClass).
+          option_and_then (λ (y : ImageSlot). Some y.place) (slice_get x.slots number.0)) o) own.known.stands
+          ∙ ap (λ (o : Option ImageSlot). option_and_then (λ (y : ImageSlot). Some y.place) o) at in
+          let which : root_method image q.class q.which ≡ method_at image q.class s.place =
+          ap (root_method image q.class) e
+          ∙ ap (λ (o : Option ℕ). and_then (is_there o) (λ (place : ℕ). method_at image q.class place)) place_is in
+          runs image q s.place (rule.action_params s.form) own.known
+          (action_runs own.known.info number.0 s own.known.stands at (slot_is_action s q.argument known.0 h)) which
+          (action_argument (setting_of image q) (nat_le s.form 5) (s.form == 7) (s.form == 0x10) (s.form == 0x11)
+          (s.form == 0x12) (slot.Prim (primitive_of s.form)) (slot.Buf s.n) q.argument h)
+
+  pub asks : (which : AnyRoot) → q.which ≡ which → may_call (code_of image) q.class which q.argument ≡ true
+      → Asks image q
+  asks root.Execute e h = asks_execute e h
+  asks (root.Action slot) e h = asks_action slot e h
+  asks (root.Callback callback.Start) e h = asks_start e h
+  asks (root.Callback callback.Stop) e h = asks_stop e h
+  asks (root.Callback callback.Changed) e h = asks_changed e h

@@ -43,8 +43,7 @@ takes w [] ks vs few all h = h
 takes w (n ∷ ns) [] vs few all h = let some : nat_lt 0 (suc (length ns)) ≡ true = grind (arith, nat_tests) in no_truth (sym few ∙ some)
 takes w (n ∷ ns) (k ∷ ks) [] few all h = absurd h
 takes w (n ∷ ns) (k ∷ ks) (v ∷ vs) few all h =
-    let p = and_parts (meets w.image n k) (all_meet w.image ns ks) all in
-    (
+    let p = and_parts (meets w.image n k) (all_meet w.image ns ks) all in (
       record { kind = k; is = refl; meets_it = p.0; has = h.0 },
       takes w ns ks vs (enough (length ks) (length ns) few) p.1 h.1,
     )
