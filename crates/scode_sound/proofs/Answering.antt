@@ -6,6 +6,7 @@ use Rattle.sed_engine.specs.declared.trap.Trap.{Trap}
 use Rattle.sed_engine.specs.declared.trap.Trap.TheVariants.{ZeroDivisor, NullReference, OutOfRange, TurnsSpent, TooDeep}
 use Rattle.sed_engine.specs.Asked.{MayAsk}
 use Rattle.sed_engine.specs.Code.{Question}
+use Rattle.sed_engine.specs.Expressions.{Called}
 use Rattle.sed_engine.specs.Root.{argument_of, end_of}
 use Rattle.sed_engine.specs.State.{Shared}
 use Rattle.sed_engine.specs.Stops.{Stop, Traps, Untyped}
@@ -13,7 +14,6 @@ use Rattle.sed_engine.specs.Values.{Val}
 use Rattle.sed_engine.specs.Whole.{AnswersWell, EndsWell}
 use Rattle.scode_image.specs.declared.image.Image.{Image}
 use Rattle.scode_image.specs.declared.image.ImageMethod.{ImageMethod}
-use Rattle.scode_code.proofs.Walks.{verified_by_walk}
 use Rattle.scode_code.specs.Calls.{locals_of}
 use Rattle.scode_code.specs.CodeRules.{first_shape, is_abstract}
 use Rattle.scode_code.specs.Faults.{IsVerified}
@@ -22,7 +22,7 @@ use Rattle.scode_code.specs.Image.{code_of}
 use Rattle.scode_code.specs.Machine.{Point}
 use Rattle.scode_code.specs.Root.{begins, ended, most_steps, root_arguments, root_method, run_method, start_root}
 use Rattle.scode_code.specs.Steps.{longest_of, steps}
-use Rattle.scode_code.specs.Verified.{IsVerifiedBy, Leads, Shapes, Walked}
+use Rattle.scode_code.specs.Verified.{IsVerifiedBy, Leads, Shapes}
 use Rattle.scode_whole.proofs.Truths.{same_value}
 use Rattle.scode_whole.proofs.Whole.{first_rule}
 use Rattle.scode_sound.specs.Over.{IsOverWithin, IsTyped, setting_of, shared_of}
@@ -31,7 +31,7 @@ use Rattle.scode_sound.proofs.Rules.{Concrete, Tables, method_rule, tables}
 use Rattle.scode_sound.proofs.Cells.{Fit, all_goes}
 use Rattle.scode_sound.proofs.Keeping.{Fitting}
 use Rattle.scode_sound.proofs.Arguments.{kinds_of, locals_fit}
-use Rattle.scode_sound.proofs.Running.{FineOver, code_there, goes_parts, left_most, reached_at}
+use Rattle.scode_sound.proofs.Fine.{FineOver, code_there, goes_parts, left_most, reached_at}
 use Rattle.scode_sound.proofs.Finishing.{Finished, IsFinePoint, finishes, left, over_within}
 use Rattle.scode_sound.proofs.Roots.{Asks, Runs, Rests, IsComponentClass, asks, component_class}
 
@@ -108,92 +108,83 @@ ends_well (Ok v) given now typed few = few
 ends_well (Err (Traps t)) given now typed few = trap_number t
 ends_well (Err Untyped) given now typed few = absurd typed
 
--- what everything here stands on: the tables, and the class of the component
-record Known (image : Image) (q : Question) : Type 0 where
-  is : Tables image
-  component : IsComponentClass image q.class
-  verified : IsVerifiedBy image (Walked image)
-  asked : Asks image q
-
-known_of : (image : Image) (q : Question) → IsVerified image → MayAsk (code_of image) q → Known image q
-known_of image q h may =
-    let is : Tables image = tables image (first_rule image h) in
-    let own : IsComponentClass image q.class = component_class image q.class may.creatable in
-    record {
-      is = is;
-      component = own;
-      verified = verified_by_walk image h;
-      asked = asks image is q own q.which refl may.argument;
-    }
-
-call_fine : (image : Image) (q : Question) (k : Known image q) → MayAsk (code_of image) q
-    → FineOver (setting_of image q) k.is k.component.known q.turns (Walked image) k.verified
-    (start_root (setting_of image q) (root_method image q.class q.which) (argument_of q.argument) (shared_of q))
-call_fine image q k may = by_asked k.asked
-  where
-    by_asked : Asks image q
-        → FineOver (setting_of image q) k.is k.component.known q.turns (Walked image) k.verified
-        (start_root (setting_of image q) (root_method image q.class q.which) (argument_of q.argument) (shared_of q))
-    by_asked (Runs number m value method_is value_is e code fits) =
-        subst (λ (r : Result (Option ℕ) Stop).
-        FineOver (setting_of image q) k.is k.component.known q.turns (Walked image) k.verified
-        (start_root (setting_of image q) r (argument_of q.argument) (shared_of q))) (sym method_is)
-        (subst (λ (r : Result Val Stop).
-        FineOver (setting_of image q) k.is k.component.known q.turns (Walked image) k.verified
-        (start_root (setting_of image q) (Ok (Some number)) r (shared_of q))) (sym value_is)
-        (run_fine (setting_of image q) k.is k.component.known q.turns (Walked image) k.verified number m value
-        (shared_of q) e code fits (fitting_of image q may)))
-    by_asked (Rests value method_is value_is) =
-        subst (λ (r : Result (Option ℕ) Stop).
-        FineOver (setting_of image q) k.is k.component.known q.turns (Walked image) k.verified
-        (start_root (setting_of image q) r (argument_of q.argument) (shared_of q))) (sym method_is)
-        (subst (λ (r : Result Val Stop).
-        FineOver (setting_of image q) k.is k.component.known q.turns (Walked image) k.verified
-        (start_root (setting_of image q) (Ok None) r (shared_of q))) (sym value_is)
-        (record { typed = tt; fitting = fitting_of image q may }))
-
--- ---- the laws
-
-pub answers_well : (image : Image) (q : Question) → IsVerified image → MayAsk (code_of image) q
-    → AnswersWell (code_of image) q
-answers_well image q h may =
-    let k = known_of image q h may in
-    let f = call_fine image q k may in
-    record {
-      contents = f.fitting.contents;
-      statics = f.fitting.statics;
-      end = ends_well
-          (start_root (setting_of image q) (root_method image q.class q.which) (argument_of q.argument) (shared_of q)).result
-          q.turns
-          (start_root (setting_of image q) (root_method image q.class q.which) (argument_of q.argument)
-          (shared_of q)).shared.turns f.typed f.fitting.turns;
-    }
-
 ok_eq : {A : Type 0} (a b : A) → ◌≡◌ {A = Result A Stop} (Ok a) (Ok b) → a ≡ b
 ok_eq a b e = cc
 
 ok_none : {P : Type 0} (n : ℕ) → ◌≡◌ {A = Result (Option ℕ) Stop} (Ok None) (Ok (Some n)) → P
 ok_none n e = let never : ⊥ = cc in absurd never
 
-pub over_in_time : (image : Image) (q : Question) (number : ℕ) (value : Val) → IsVerified image
-    → MayAsk (code_of image) q → root_method image q.class q.which ≡ Ok (Some number)
-    → argument_of q.argument ≡ Ok value
-    → IsOverWithin (setting_of image q) (most_steps image q.turns)
-    (begins (slice_get image.methods number) number value (shared_of q))
-over_in_time image q number value h may method_is value_is = by_asked (known_of image q h may).asked
-  where
-    by_asked : Asks image q
-        → IsOverWithin (setting_of image q) (most_steps image q.turns)
-        (begins (slice_get image.methods number) number value (shared_of q))
-    by_asked (Runs n m v n_is v_is e code fits) =
-        let one = known_of image q h may in
-        let same_number : Some n ≡ Some number = ok_eq (Some n) (Some number) (sym n_is ∙ method_is) in
-        let numbers : n ≡ number = same_value n number same_number in
-        let values : v ≡ value = ok_eq v value (sym v_is ∙ value_is) in
-        subst (λ (x : ℕ). IsOverWithin (setting_of image q) (most_steps image q.turns)
-        (begins (slice_get image.methods x) x value (shared_of q))) numbers
-        (subst (λ (x : Val). IsOverWithin (setting_of image q) (most_steps image q.turns)
-        (begins (slice_get image.methods n) n x (shared_of q))) values
-        (run_over (setting_of image q) one.is one.component.known q.turns (Walked image) one.verified n m v
-        (shared_of q) e code fits (fitting_of image q may)))
-    by_asked (Rests v n_is v_is) = ok_none number (sym n_is ∙ method_is)
+-- the class of the component is one of which components are made, and what is asked can be run
+record Known (image : Image) (is : Tables image) (q : Question) : Type 0 where
+  component : IsComponentClass image q.class
+  asked : Asks image q
+
+known_of : (image : Image) (is : Tables image) (q : Question) → MayAsk (code_of image) q → Known image is q
+known_of image is q may =
+    let own : IsComponentClass image q.class = component_class image q.class may.creatable in
+    record { component = own; asked = asks image is q own q.which refl may.argument }
+
+module _ (image : Image) (clean : IsVerified image) (shapes : Shapes) (verified : IsVerifiedBy image shapes)
+    (q : Question) (may : MayAsk (code_of image) q) where
+  abbrev w : Setting
+  w = setting_of image q
+
+  agreed : Tables image
+  agreed = tables image (first_rule image clean)
+
+  known : Known image agreed q
+  known = known_of image agreed q may
+
+  abbrev IsFineEnd : Called → Type 0
+  IsFineEnd c = FineOver w agreed known.component.known q.turns shapes verified c
+
+  call_fine : IsFineEnd (start_root w (root_method image q.class q.which) (argument_of q.argument) (shared_of q))
+  call_fine = by_asked known.asked
+    where
+      by_asked : Asks image q
+          → FineOver (setting_of image q) agreed known.component.known q.turns shapes verified
+          (start_root (setting_of image q) (root_method image q.class q.which) (argument_of q.argument) (shared_of q))
+      by_asked (Runs number m value method_is value_is e code fits) =
+          subst (λ (r : Result (Option ℕ) Stop).
+          IsFineEnd (start_root w r (argument_of q.argument) (shared_of q))) (sym method_is)
+          (subst (λ (r : Result Val Stop). IsFineEnd (start_root w (Ok (Some number)) r (shared_of q))) (sym value_is)
+          (run_fine w agreed known.component.known q.turns shapes verified number m value (shared_of q) e code fits
+          (fitting_of image q may)))
+      by_asked (Rests value method_is value_is) =
+          subst (λ (r : Result (Option ℕ) Stop).
+          IsFineEnd (start_root w r (argument_of q.argument) (shared_of q))) (sym method_is)
+          (subst (λ (r : Result Val Stop). IsFineEnd (start_root w (Ok None) r (shared_of q))) (sym value_is)
+          (record { typed = tt; fitting = fitting_of image q may }))
+
+  -- ---- the laws
+
+  pub answers_well : AnswersWell (code_of image) q
+  answers_well = record {
+    contents = call_fine.fitting.contents;
+    statics = call_fine.fitting.statics;
+    end = ends_well
+        (start_root w (root_method image q.class q.which) (argument_of q.argument) (shared_of q)).result q.turns
+        (start_root w (root_method image q.class q.which) (argument_of q.argument) (shared_of q)).shared.turns
+        call_fine.typed call_fine.fitting.turns;
+  }
+
+  pub over_in_time : (number : ℕ) (value : Val) → root_method image q.class q.which ≡ Ok (Some number)
+      → argument_of q.argument ≡ Ok value
+      → IsOverWithin w (most_steps image q.turns)
+      (begins (slice_get image.methods number) number value (shared_of q))
+  over_in_time number value method_is value_is = by_asked known.asked
+    where
+      by_asked : Asks image q
+          → IsOverWithin (setting_of image q) (most_steps image q.turns)
+          (begins (slice_get image.methods number) number value (shared_of q))
+      by_asked (Runs n m v n_is v_is e code fits) =
+          let same_number : Some n ≡ Some number = ok_eq (Some n) (Some number) (sym n_is ∙ method_is) in
+          let numbers : n ≡ number = same_value n number same_number in
+          let values : v ≡ value = ok_eq v value (sym v_is ∙ value_is) in
+          subst (λ (x : ℕ). IsOverWithin w (most_steps image q.turns)
+          (begins (slice_get image.methods x) x value (shared_of q))) numbers
+          (subst (λ (x : Val). IsOverWithin w (most_steps image q.turns)
+          (begins (slice_get image.methods n) n x (shared_of q))) values
+          (run_over w agreed known.component.known q.turns shapes verified n m v (shared_of q) e code fits
+          (fitting_of image q may)))
+      by_asked (Rests v n_is v_is) = ok_none number (sym n_is ∙ method_is)

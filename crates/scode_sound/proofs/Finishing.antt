@@ -8,7 +8,8 @@ use Rattle.scode_code.specs.Steps.{step, steps}
 use Rattle.scode_code.specs.Verified.{IsVerifiedBy, Shapes}
 use Rattle.scode_sound.specs.Over.{IsNotStuck, IsOverWithin}
 use Rattle.scode_sound.proofs.Rules.{Concrete, Tables}
-use Rattle.scode_sound.proofs.Running.{Fine, FineOver, potential, step_better}
+use Rattle.scode_sound.proofs.Fine.{Fine, FineOver, potential}
+use Rattle.scode_sound.proofs.Running.{step_better}
 
 module _ (w : Setting) (is : Tables w.image) (own : Concrete w.image w.class) (given : ℕ) (shapes : Shapes)
     (verified : IsVerifiedBy w.image shapes) where

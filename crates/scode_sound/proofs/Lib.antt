@@ -13,6 +13,7 @@ pub mod Objects
 pub mod Strs
 pub mod Straight
 pub mod Arguments
+pub mod Fine
 pub mod Running
 pub mod Finishing
 pub mod Roots

@@ -11,6 +11,7 @@ ghost use Rattle.scode_code.specs.Image.{code_of, meaning_of};
 ghost use Rattle.scode_code.specs.Root.{begins, most_steps, root_method};
 ghost use Rattle.scode_sound.specs.Over.{IsOverWithin, setting_of, shared_of};
 
+use scode_code::images_without_fault_are_verified;
 use scode_whole::verified_images_that_answer_are_whole;
 
 /// A root call of a verified image that may be asked ends well: by a value, with no more turns left than it was given, or
@@ -18,7 +19,9 @@ use scode_whole::verified_images_that_answer_are_whole;
 pub fn verified_calls_end()
     ensures { (image : AnyImage) (q : Question) → IsVerified image → MayAsk (code_of image) q
         → AnswersWell (code_of image) q }
-{}
+{
+    images_without_fault_are_verified();
+}
 
 /// The machine of a root call that may be asked is over within the bound, by a value or a trap, and is stuck at no point
 /// on the way: so many instructions as the longest method has for each turn, and for the time before the first.
@@ -28,11 +31,14 @@ pub fn verified_calls_are_over()
         → argument_of q.argument ≡ Ok value
         → IsOverWithin (setting_of image q) (most_steps image q.turns)
         (begins (slice_get image.methods number) number value (shared_of q)) }
-{}
+{
+    images_without_fault_are_verified();
+}
 
 /// The code that a verified image means is whole: what everything above a code relies on.
 pub fn verified_images_are_whole()
     ensures { (image : AnyImage) → IsVerified image → IsWhole (meaning_of image) }
 {
+    verified_calls_end();
     verified_images_that_answer_are_whole();
 }
