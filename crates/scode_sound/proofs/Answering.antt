@@ -76,7 +76,8 @@ module _ (w : Setting) (is : Tables w.image) (own : Concrete w.image w.class) (g
   run_over : IsOverWithin w (most_steps w.image s.turns) (begins (slice_get w.image.methods number) number value s)
   run_over =
       subst (λ (p : Point). IsOverWithin w (most_steps w.image s.turns) p) (sym begins_is)
-      (over_within w is own given shapes verified (most_steps w.image s.turns) (begins (Some m) number value s) begun_fine
+      (over_within w is own given shapes verified (most_steps w.image s.turns)
+      (begins (Some m) number value s) begun_fine
       begun_left)
 
   run_fine : FineOver w is own given shapes verified (run_method w (Some number) value s)

@@ -43,7 +43,8 @@ turned : (ns done : List ImageKind) → onto ns done ≡ reverse ns ++ done
 turned [] done = refl
 turned (n ∷ ns) done =
     turned ns (n ∷ done)
-    ∙ sym (ap (λ (front : List ImageKind). front ++ done) (reverse_onto ns n []) ∙ append_assoc (reverse ns) (n ∷ []) done)
+    ∙ sym (ap (λ (front : List ImageKind). front ++ done) (reverse_onto ns n []) ∙ append_assoc (reverse ns)
+    (n ∷ []) done)
 
 module _ (w : Setting) (is : Tables w.image) where
   taken_fits : (ns ks : List ImageKind) (stack : List Val) (done : List ImageKind) (args : List Val)
@@ -67,7 +68,8 @@ module _ (w : Setting) (is : Tables w.image) where
 
   pub arguments : (class : ℕ) (m : ImageMethod) (ks : List ImageKind) (stack : List Val)
       → Takes w (map Goes (reverse (kinds_of class m))) ks stack
-      → Taken w (kinds_of class m) (drop (length (map Goes (reverse (kinds_of class m)))) ks) (argument_count m) stack []
+      → Taken w (kinds_of class m) (drop (length (map Goes (reverse (kinds_of class m)))) ks) (argument_count m) stack
+      []
   arguments class m ks stack t =
       let r = taken_fits (reverse (kinds_of class m)) ks stack [] [] t tt in
       record {

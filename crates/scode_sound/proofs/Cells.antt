@@ -144,7 +144,8 @@ module _ (w : Setting) (is : Tables w.image) where
       second (inl s) = subst (λ (x : ImageKind). Has x v) (same_kinds k l s) h
       second (inr s) =
           let p = two (is_null k) (is_str l || (is_object l && not (is_statics l))) s in
-          from_null k l v (eqb-true k.kind 5 p.0) (by_sort (either (is_str l) (is_object l && not (is_statics l)) p.1)) h
+          from_null k l v (eqb-true k.kind 5 p.0) (by_sort (either (is_str l)
+          (is_object l && not (is_statics l)) p.1)) h
 
       first : ((same_kind k l || (is_null k && (is_str l || (is_object l && not (is_statics l))))) ≡ true)
           ⊎ ((is_object k && is_object l && is_at_or_above w.image l.class k.class) ≡ true) → Has l v
@@ -182,7 +183,8 @@ module _ (w : Setting) (is : Tables w.image) where
       → Fit w ks (map zero_of ks)
   zeros_fit statics [] h = tt
   zeros_fit statics (k ∷ ks) h =
-      let p = and_parts (rule.is_kind_of_cell w.image statics k) (list_all (rule.is_kind_of_cell w.image statics) ks) h in
+      let p = and_parts (rule.is_kind_of_cell w.image statics k)
+      (list_all (rule.is_kind_of_cell w.image statics) ks) h in
       (zero_fits statics k p.0, zeros_fit statics ks p.1)
 
 -- ---- rows of cells

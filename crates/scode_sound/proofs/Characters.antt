@@ -20,7 +20,8 @@ byte_at [] i h = refl
 byte_at (b ∷ bs) zero h = (and_parts (nat_lt b 256) (are_bytes bs) h).0
 byte_at (b ∷ bs) (suc i) h = byte_at bs i (and_parts (nat_lt b 256) (are_bytes bs) h).1
 
-bytes_set : (bytes : List ℕ) (i b : ℕ) → are_bytes bytes ≡ true → nat_lt b 256 ≡ true → are_bytes (slice_set bytes i b) ≡ true
+bytes_set : (bytes : List ℕ) (i b : ℕ) → are_bytes bytes ≡ true → nat_lt b 256 ≡ true → are_bytes
+    (slice_set bytes i b) ≡ true
 bytes_set [] i b h k = refl
 bytes_set (x ∷ xs) zero b h k = and_from (nat_lt b 256) (are_bytes xs) k (and_parts (nat_lt x 256) (are_bytes xs) h).1
 bytes_set (x ∷ xs) (suc i) b h k =
@@ -62,17 +63,20 @@ zero_behind (x ∷ xs) n (suc i) h = zero_behind xs n i (omega (arith, h))
 pub str_from : (n : ℕ) (bytes : List ℕ) → StrBytes n bytes → keeps (form.Str n) (kept.Buf bytes) ≡ true
 str_from n bytes s =
     and_from (are_bytes bytes && (length bytes == n)) (last_byte bytes == 0)
-    (and_from (are_bytes bytes) (length bytes == n) s.bytes_are (equal (length bytes) n s.long)) (equal (last_byte bytes) 0 s.last)
+    (and_from (are_bytes bytes) (length bytes == n) s.bytes_are (equal (length bytes) n s.long))
+    (equal (last_byte bytes) 0 s.last)
 
 -- a Str with another character before its last byte
-pub set_str : (n : ℕ) (bytes : List ℕ) (i : ℕ) (c : _) → StrBytes n bytes → i < length bytes - 1 → StrBytes n (with_character bytes i c)
+pub set_str : (n : ℕ) (bytes : List ℕ) (i : ℕ) (c : _) → StrBytes n bytes → i < length bytes - 1 → StrBytes n
+    (with_character bytes i c)
 set_str n bytes i c s h =
     let b : ℕ = low_bits w8 c in
     let same : length (slice_set bytes i b) ≡ length bytes = length-set bytes i b in
     record {
       bytes_are = bytes_set bytes i b s.bytes_are (low_byte c);
       long = same ∙ s.long;
-      last = ap (λ (k : ℕ). slice_index (slice_set bytes i b) (k - 1)) same ∙ other_byte bytes i (length bytes - 1) b h ∙ s.last;
+      last = ap (λ (k : ℕ). slice_index (slice_set bytes i b) (k - 1)) same ∙ other_byte bytes i
+          (length bytes - 1) b h ∙ s.last;
     }
 
 -- a Str that is filled anew
@@ -81,15 +85,18 @@ filled_str n chars h =
     let front : List ℕ = take (n - 1) chars in
     let few : length front ≤ n - 1 = (take_most (n - 1) chars).0 in
     let zeros : length {A = ℕ} (replicate (n - length front) 0) ≡ n - length front = zeros_length (n - length front) in
-    let all : length (filled n chars) ≡ length front + length {A = ℕ} (replicate (n - length front) 0) = length-append front (replicate (n - length front) 0) in
+    let all : length (filled n chars) ≡ length front + length {A = ℕ}
+    (replicate (n - length front) 0) = length-append front (replicate (n - length front) 0) in
     let long : length (filled n chars) ≡ n = omega (arith, few, zeros, all) in
     record {
-      bytes_are = bytes_append front (replicate (n - length front) 0) (bytes_take (n - 1) chars h) (zeros_bytes (n - length front));
+      bytes_are = bytes_append front (replicate (n - length front) 0) (bytes_take (n - 1) chars h)
+          (zeros_bytes (n - length front));
       long = long;
       last = zero_behind front (n - length front) (length (filled n chars) - 1) (omega (arith, few, long));
     }
 
-pub chars_of : (bytes : List ℕ) → TextBytes bytes → (are_bytes (characters bytes) ≡ true) × (length (characters bytes) ≤ 256)
+pub chars_of : (bytes : List ℕ) → TextBytes bytes → (are_bytes (characters bytes) ≡ true) ×
+    (length (characters bytes) ≤ 256)
 chars_of bytes h =
     let few = (take_most (prefix_len (λ b. not (b == 0)) bytes) bytes).1 in
     (bytes_take (prefix_len (λ b. not (b == 0)) bytes) bytes h.0, omega (arith, few, h.1))

@@ -1,4 +1,5 @@
--- What holds of each machine that a verified image reaches: instructions that stay in the method, and those that leave it.
+-- What holds of each machine that a verified image reaches: instructions that stay in the method, and those that
+-- leave it.
 use Rattle.std.proofs.Common.{◌≡◌, ◌<◌, ◌≤◌, ◌+◌, ◌*◌, ◌==◌, ◌&&◌, ◌||◌, not, nat_lt, ℕ, zero, suc, Bool, true, false, if◌then◌else◌, List, [], ◌∷◌, ◌++◌, length, map, Option, Some, Result, Ok, Err, refl, sym, ap, subst, ◌∙◌, arith, inl, inr, ◌⊎◌}
 use Rattle.std.specs.Prelude.{IfSome, slice_get, slice_set}
 use Rattle.std.specs.Option.{option_map_or}
@@ -140,7 +141,8 @@ module _ (w : Setting) (is : Tables w.image) (own : Concrete w.image w.class) (g
       → code_of w.image method ≡ m.code
   code_is method m e = ap (λ (o : Option ImageMethod). option_map_or (λ (x : ImageMethod). x.code) o []) e
 
-  pub result_is : (method : ℕ) (m : ImageMethod) → slice_get w.image.methods method ≡ Some m → result_of method ≡ m.result
+  pub result_is : (method : ℕ) (m : ImageMethod) → slice_get w.image.methods method ≡ Some m
+      → result_of method ≡ m.result
   result_is method m e = ap (λ (o : Option ImageMethod). option_map_or (λ (x : ImageMethod). x.result) o void) e
 
   pub left_most : (method place : ℕ) (m : ImageMethod) → slice_get w.image.methods method ≡ Some m
@@ -396,7 +398,8 @@ module _ (w : Setting) (is : Tables w.image) (own : Concrete w.image w.class) (g
         ltb-true n (length m.locals) (not_not (nat_lt n (length m.locals)) h.fine.numbers) in
         let as_many : length locals ≡ length shape.locals = fit_length w shape.locals locals fit_locals in
         let old = stands_at locals n (omega (arith, low, as_many, many)) in
-        let has : HasKind w k v = subst (λ (x : ImageKind). HasKind w x v) (sym (same_value k t.0.kind t.0.is)) t.0.has in
+        let has : HasKind w k v = subst (λ (x : ImageKind). HasKind w x v)
+        (sym (same_value k t.0.kind t.0.is)) t.0.has in
         let l : Leads w.image shapes method (place + size_of (op.Store n))
         (record { locals = with_kind shape.locals n k; stack = ks }) =
         subst (λ (all : List ImageKind). Leads w.image shapes method (place + size_of (op.Store n))
@@ -438,7 +441,8 @@ module _ (w : Setting) (is : Tables w.image) (own : Concrete w.image w.class) (g
         let l = h.fine.goes_on refl in
         let start_next = next_start_is op.Turn h.instruction (after w.image shape op.Turn) l in
         record {
-          fine = arrive (place + size_of op.Turn) (after w.image shape op.Turn) locals stack (turn_taken sh) l start_next
+          fine = arrive (place + size_of op.Turn) (after w.image shape op.Turn) locals stack
+              (turn_taken sh) l start_next
               many fit_locals fit_stack (turn_fitting w given sh fitting);
           less = turn_less (place + size_of op.Turn) (positive sh.turns e);
         }
@@ -460,7 +464,8 @@ module _ (w : Setting) (is : Tables w.image) (own : Concrete w.image w.class) (g
             shape = ws.0.shape;
             at = ws.0.at;
             fit_locals = ws.0.fit_locals;
-            fit_stack = all_goes w is (result_cells m.result ++ ws.0.kinds) ws.0.shape.stack (pushed v g.stack) ws.0.leads
+            fit_stack = all_goes w is (result_cells m.result ++ ws.0.kinds) ws.0.shape.stack
+                (pushed v g.stack) ws.0.leads
                 (result_fits w m.result ws.0.kinds v g.stack h ws.0.fit_rest);
             fitting = fitting;
             waits = ws.1;
@@ -485,11 +490,13 @@ module _ (w : Setting) (is : Tables w.image) (own : Concrete w.image w.class) (g
         sym (ap (λ (all : List ImageKind). (m.result.kind == 0)
         || not (option_map_or (λ (x : ImageKind). goes_to w.image x m.result) (slice_get all 0) true)) e)
         ∙ h.fine.result in
-        let has : HasKind w k v = subst (λ (x : ImageKind). HasKind w x v) (sym (same_value k t.0.kind t.0.is)) t.0.has in
+        let has : HasKind w k v = subst (λ (x : ImageKind). HasKind w x v)
+        (sym (same_value k t.0.kind t.0.is)) t.0.has in
         leaves v
         (inr (
           first_false (m.result.kind == 0) (not (goes_to w.image k m.result)) differs,
           cell_goes w is k m.result v
-              (not_not (goes_to w.image k m.result) (second_false (m.result.kind == 0) (not (goes_to w.image k m.result))
+              (not_not (goes_to w.image k m.result) (second_false (m.result.kind == 0)
+              (not (goes_to w.image k m.result))
               differs)) has,
         )) below waits_own refl

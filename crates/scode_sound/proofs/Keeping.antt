@@ -144,7 +144,8 @@ pub record Now (w : Setting) (given turns : ℕ) (locals : List Val) (s : State)
   pub turns_are : s.shared.turns ≡ turns
   pub locals_are : s.locals ≡ locals
 
-module _ (w : Setting) (is : Tables w.image) (own : Concrete w.image w.class) (given turns : ℕ) (locals : List Val) where
+module _ (w : Setting) (is : Tables w.image) (own : Concrete w.image w.class) (given turns : ℕ)
+    (locals : List Val) where
   abbrev pub G : State → Type 0
   G s = Now w given turns locals s
 
@@ -191,11 +192,13 @@ module _ (w : Setting) (is : Tables w.image) (own : Concrete w.image w.class) (g
 
   pub read_str_holds : (spot : Spot) (n : ℕ) → Stands spot (form.Str n)
       → Holds G (List ℕ) (λ bytes. keeps (form.Str n) (kept.Buf bytes) ≡ true) (read_bytes spot)
-  read_str_holds spot n e = then_holds (load_holds spot (form.Str n) e tt) (λ v k. answers_it (bytes_of v) (str_bytes n v k))
+  read_str_holds spot n e = then_holds (load_holds spot (form.Str n) e tt)
+      (λ v k. answers_it (bytes_of v) (str_bytes n v k))
 
   pub read_buf_holds : (spot : Spot) (n : ℕ) → Stands spot (form.Buf n)
       → Holds G (List ℕ) (λ bytes. keeps (form.Buf n) (kept.Buf bytes) ≡ true) (read_bytes spot)
-  read_buf_holds spot n e = then_holds (load_holds spot (form.Buf n) e tt) (λ v k. answers_it (bytes_of v) (buf_bytes n v k))
+  read_buf_holds spot n e = then_holds (load_holds spot (form.Buf n) e tt)
+      (λ v k. answers_it (bytes_of v) (buf_bytes n v k))
 
   pub write_str_holds : (spot : Spot) (n : ℕ) (bytes : List ℕ) → Stands spot (form.Str n)
       → keeps (form.Str n) (kept.Buf bytes) ≡ true → Holds G Val (λ v. v ≡ Nothing) (write_bytes spot bytes)

@@ -261,7 +261,8 @@ drop_further (suc a) b [] = drop_nothing b ∙ sym (drop_nothing (suc a + b))
 drop_further (suc a) b (x ∷ xs) =
     drop_further a b xs ∙ ap (λ (k : ℕ). drop k (x ∷ xs)) (let e : suc (a + b) ≡ suc a + b = omega arith in e)
 
-counted : (most place : ℕ) (code : List ℕ) → length (starts_from most place code) ≡ counted_within most (drop place code)
+counted : (most place : ℕ) (code : List ℕ) → length (starts_from most place code) ≡ counted_within most
+    (drop place code)
 counted zero place code = refl
 counted (suc most) place code = by_op (op_at code place) (λ next. counted most next code)
   where

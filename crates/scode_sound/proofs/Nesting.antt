@@ -73,7 +73,8 @@ reaches_leads image (suc n) (suc k) from to h r =
     (list_any (λ (f : ImageField). (f.form == 8) && rule.leads_within k image to f.n) (class_fields image from))
     (option_map_or (λ (c : ImageClass). rule.leads_within k image to c.base) (slice_get image.classes from) false)
     (any_there (λ (f : ImageField). (f.form == 8) && rule.leads_within k image to f.n) (class_fields image from)
-    one.place one.field one.stands (ap (λ (b : Bool). b && rule.leads_within k image to one.field.n) one.object ∙ there))
+    one.place one.field one.stands (ap (λ (b : Bool). b && rule.leads_within k image to one.field.n) one.object ∙
+    there))
 
 -- no class reaches itself
 not_itself : (image : Image) → Tables image → (class n : ℕ) → n ≤ length image.classes

@@ -204,7 +204,8 @@ no_null w k spot e (Object f at c d b) = omega (arith, e, f)
 some_is : {X : Type 0} (F : Option X → Bool) (o : Option X) (x : X) → o ≡ Some x → F o ≡ false → F (Some x) ≡ false
 some_is F o x e h = ap F (sym e) ∙ h
 
-module _ (w : Setting) (is : Tables w.image) (own : Concrete w.image w.class) (given turns : ℕ) (locals : List Val) where
+module _ (w : Setting) (is : Tables w.image) (own : Concrete w.image w.class) (given turns : ℕ)
+    (locals : List Val) where
   abbrev pub G : State → Type 0
   G s = Now w given turns locals s
 
@@ -374,7 +375,8 @@ module _ (w : Setting) (is : Tables w.image) (own : Concrete w.image w.class) (g
       → Holds G Move (Lands w i (object class ∷ drop 1 ks)) (part w 8 offset class stack)
   inner_it offset class i ks stack on t l =
       one_off w G (λ ls. Lands w i (object class ∷ ls)) AnyObject ks stack
-      (λ object rest s1. then_do (field_at w object 8 offset class s1) (λ spot s2. gives (Onward (At spot ∷ rest)) s2)) t
+      (λ object rest s1. then_do (field_at w object 8 offset class s1)
+      (λ spot s2. gives (Onward (At spot ∷ rest)) s2)) t
       (λ v ls rest c fit.
       then_holds (object_field (slice_get ks 0) v 8 offset class c l)
       (λ spot s. gives_it (Onward (At spot ∷ rest)) (

@@ -97,7 +97,8 @@ the_component image is =
 pub component_above : (image : Image) → Tables image → (class : ℕ) → IsComponentClass image class
     → (c : TheComponent image) → Below (classes_of image) c.number class
 component_above image is class own c =
-    let a : ClassAgrees image class own.known.info = class_agrees image is.whole class own.known.info own.known.stands in
+    let a : ClassAgrees image class own.known.info = class_agrees image is.whole class own.known.info own.known.stands
+    in
     let marked : rule.are_equal (rule.is_component own.known.info) (is_at_or_above image c.number class) ≡ true =
     sym (ap (λ (o : Option ℕ). option_map_or
     (λ (component : ℕ). rule.are_equal (rule.is_component own.known.info) (is_at_or_above image component class)) o
@@ -314,10 +315,12 @@ module _ (image : Image) (is : Tables image) (q : Question) (own : IsComponentCl
       ap (λ (o : Option ℕ). is_there (option_and_then
       (λ (class : ℕ). option_and_then (λ (x : ImageClass). Some (length x.table)) (slice_get image.classes class)) o))
       c.found
-      ∙ ap (λ (o : Option ImageClass). is_there (option_and_then (λ (x : ImageClass). Some (length x.table)) o)) c.stands
+      ∙ ap (λ (o : Option ImageClass). is_there (option_and_then
+      (λ (x : ImageClass). Some (length x.table)) o)) c.stands
 
   asks_callback : (cb : AnyCallback) (a : ActionArg) → q.which ≡ root.Callback cb → is_argument a q.argument ≡ true
-      → ((c : TheComponent image) → CallbacksAt image c.info.table → RunsAt image q.class (callback_place cb) (kinds_for a))
+      → ((c : TheComponent image) → CallbacksAt image c.info.table → RunsAt image q.class (callback_place cb)
+      (kinds_for a))
       → Asks image q
   asks_callback cb a e h at =
       let c = the_component image is in

@@ -49,7 +49,8 @@ fields_rule image size fields bytes h =
     record { are_there = p.0; inline = p.1; sized = p.2 }
 
 pub statics_rule : (image : Image) → Tables image → FieldsRule image image.static_fields
-statics_rule image is = fields_rule image (length image.static_bytes) image.static_fields image.static_bytes is.whole.statics
+statics_rule image is = fields_rule image (length image.static_bytes) image.static_fields image.static_bytes
+    is.whole.statics
 
 -- ---- classes
 
@@ -171,7 +172,8 @@ class_good image is class i f e = by_class (slice_get image.classes class) refl
   where
     by_class : (o : Option ImageClass) → slice_get image.classes class ≡ o → IsGood image (form_of f)
     by_class None at =
-        no_value f (sym (ap (λ (p : Option ImageClass). slice_get (option_map_or (λ (d : ImageClass). d.fields) p []) i) at) ∙ e)
+        no_value f (sym (ap (λ (p : Option ImageClass). slice_get
+        (option_map_or (λ (d : ImageClass). d.fields) p []) i) at) ∙ e)
     by_class (Some c) at =
         good_of image c.fields (class_rule image is class c at).fields i f
         (sym (ap (λ (all : List ImageField). slice_get all i) (fields_at image class c at)) ∙ e)

@@ -114,7 +114,8 @@ module _ (w : Setting) (is : Tables w.image) (own : Concrete w.image w.class) (g
   abbrev now : ℕ
   now = machines.now w is own given shapes verified machine now_fine
 
-  trapped : (t : Trap) (s : Shared) → Fitting w given s → Better now (Over (record { result = Err (Traps t); shared = s }))
+  trapped : (t : Trap) (s : Shared) → Fitting w given s → Better now
+      (Over (record { result = Err (Traps t); shared = s }))
   trapped = machines.trapped w is own given shapes verified machine now_fine
 
   -- ---- into a method
@@ -140,7 +141,8 @@ module _ (w : Setting) (is : Tables w.image) (own : Concrete w.image w.class) (g
       back = h.fine.goes_on on
 
       start_next : is_start m.code (place + size_of i) ≡ true
-      start_next = machines.next_start_is w is own given shapes verified machine now_fine i h.instruction (after w.image shape i) (h.fine.goes_on on)
+      start_next = machines.next_start_is w is own given shapes verified machine now_fine i h.instruction
+          (after w.image shape i) (h.fine.goes_on on)
 
       first : Leads w.image shapes number 0 (first_shape c)
       first =
@@ -166,13 +168,15 @@ module _ (w : Setting) (is : Tables w.image) (own : Concrete w.image w.class) (g
           subst (λ (ks : List ImageKind). Fit w ks locals) (sym same) fit_locals in
           let most = machines.left_most w is own given shapes verified number 0 c e in
           let pays = paid sh.turns (machines.longest w is own given shapes verified) (left_of number 0) some most in
-          let on_less = machines.next_less w is own given shapes verified machine now_fine i h.instruction no_turn start_next in
+          let on_less = machines.next_less w is own given shapes verified machine now_fine i h.instruction no_turn
+          start_next in
           let here = machines.left_is w is own given shapes verified machine now_fine place in
           let there = machines.left_is w is own given shapes verified machine now_fine (place + size_of i) in
           record {
             fine = record {
               shape = first.reached;
-              at = machines.reached_at w is own given shapes verified number 0 c (first_shape c) e (first_start c.code j.0 j.1) refl first;
+              at = machines.reached_at w is own given shapes verified number 0 c (first_shape c) e
+                  (first_start c.code j.0 j.1) refl first;
               fit_locals = all_goes w is c.locals first.reached.locals (locals_of c args) p.0
                   (locals_fit w is c args (method_rule w.image is number c e) fit_args);
               fit_stack = all_goes w is [] first.reached.stack [] p.1 tt;
@@ -185,7 +189,8 @@ module _ (w : Setting) (is : Tables w.image) (own : Concrete w.image w.class) (g
               } ∷ below)) (sym (machines.result_is w is own given shapes verified number c e)) (
                 record {
                   shape = back.reached;
-                  at = machines.reached_at w is own given shapes verified method (place + size_of i) m (after w.image shape i) known start_next count back;
+                  at = machines.reached_at w is own given shapes verified method (place + size_of i) m
+                      (after w.image shape i) known start_next count back;
                   fit_locals = all_goes w is (locals_after shape i) back.reached.locals locals q.0 own_locals;
                   kinds = kinds;
                   leads = subst (λ (ks : List ImageKind). all_go w.image ks back.reached.stack ≡ true) leaves_it q.1;
@@ -384,12 +389,14 @@ module _ (w : Setting) (is : Tables w.image) (own : Concrete w.image w.class) (g
   -- ---- any instruction
 
   pub instruction_better : (i : Op) → Here i → LeadsOn (place + size_of i) (effect w i stack s0)
-  instruction_better (op.Store n) h = machines.stored w is own given shapes verified machine now_fine n shape.stack stack h refl h.cells
+  instruction_better (op.Store n) h = machines.stored w is own given shapes verified machine now_fine n shape.stack
+      stack h refl h.cells
   instruction_better op.Turn h = machines.turned w is own given shapes verified machine now_fine h (sh.turns == 0) refl
   instruction_better (op.Call n) h = call_it n h
   instruction_better (op.VirtualCall class slot) h = virtual_it class slot h
   instruction_better op.Return h = machines.leaves_none w is own given shapes verified machine now_fine h
-  instruction_better op.ReturnValue h = machines.leaves_value w is own given shapes verified machine now_fine shape.stack stack h refl h.cells
+  instruction_better op.ReturnValue h = machines.leaves_value w is own given shapes verified machine now_fine
+      shape.stack stack h refl h.cells
   instruction_better other h = machines.straight_better w is own given shapes verified machine now_fine other h refl
 
 -- ---- a step

@@ -40,7 +40,8 @@ enough a b h = grind (arith, nat_tests)
 pub takes : (w : Setting) (ns : List Need) (ks : List ImageKind) (vs : List Val)
     → nat_lt (length ks) (length ns) ≡ false → all_meet w.image ns ks ≡ true → Fit w ks vs → Takes w ns ks vs
 takes w [] ks vs few all h = h
-takes w (n ∷ ns) [] vs few all h = let some : nat_lt 0 (suc (length ns)) ≡ true = grind (arith, nat_tests) in no_truth (sym few ∙ some)
+takes w (n ∷ ns) [] vs few all h = let some : nat_lt 0 (suc (length ns)) ≡ true = grind (arith, nat_tests) in no_truth
+    (sym few ∙ some)
 takes w (n ∷ ns) (k ∷ ks) [] few all h = absurd h
 takes w (n ∷ ns) (k ∷ ks) (v ∷ vs) few all h =
     let p = and_parts (meets w.image n k) (all_meet w.image ns ks) all in (

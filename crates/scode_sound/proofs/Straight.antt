@@ -1,4 +1,5 @@
--- Instructions that stay in their method and change no local: where one stands, it leads on with cells of the kinds that
+-- Instructions that stay in their method and change no local: where one stands, it leads on with cells of the kinds
+-- that
 -- the rules say, or it traps.
 use Rattle.std.proofs.Common.{◌≡◌, ◌<◌, ◌≤◌, ◌||◌, not, nat_lt, ℕ, Bool, true, false, List, [], ◌∷◌, ◌++◌, length, take, drop, Option, Some, Result, refl, sym, ap, subst, ◌∙◌, arith, inl, inr, ◌⊎◌}
 use Rattle.std.specs.Prelude.{slice_get}
@@ -58,7 +59,8 @@ not_not : (b : Bool) → not b ≡ false → b ≡ true
 not_not true h = refl
 not_not false h = no_truth (sym h)
 
-module _ (w : Setting) (is : Tables w.image) (own : Concrete w.image w.class) (given turns : ℕ) (locals : List Val) where
+module _ (w : Setting) (is : Tables w.image) (own : Concrete w.image w.class) (given turns : ℕ)
+    (locals : List Val) where
   abbrev pub G : State → Type 0
   G s = Now w given turns locals s
 
@@ -235,65 +237,83 @@ module _ (w : Setting) (is : Tables w.image) (own : Concrete w.image w.class) (g
       two_it (binary.Arithmetic Add width.Int) kind.Int kind.Int tt tt tt (refl, refl) op.IntAdd shape.stack stack refl
       h.cells
   straight m shape op.IntSub stack st h =
-      two_it (binary.Arithmetic Subtract width.Int) kind.Int kind.Int tt tt tt (refl, refl) op.IntSub shape.stack stack refl
+      two_it (binary.Arithmetic Subtract width.Int) kind.Int kind.Int tt tt tt
+      (refl, refl) op.IntSub shape.stack stack refl
       h.cells
   straight m shape op.IntMul stack st h =
-      two_it (binary.Arithmetic Multiply width.Int) kind.Int kind.Int tt tt tt (refl, refl) op.IntMul shape.stack stack refl
+      two_it (binary.Arithmetic Multiply width.Int) kind.Int kind.Int tt tt tt
+      (refl, refl) op.IntMul shape.stack stack refl
       h.cells
   straight m shape op.IntDiv stack st h =
-      two_it (binary.Arithmetic Divide width.Int) kind.Int kind.Int tt tt tt (refl, refl) op.IntDiv shape.stack stack refl
+      two_it (binary.Arithmetic Divide width.Int) kind.Int kind.Int tt tt tt
+      (refl, refl) op.IntDiv shape.stack stack refl
       h.cells
   straight m shape op.IntRem stack st h =
-      two_it (binary.Arithmetic Remainder width.Int) kind.Int kind.Int tt tt tt (refl, refl) op.IntRem shape.stack stack refl
+      two_it (binary.Arithmetic Remainder width.Int) kind.Int kind.Int tt tt tt
+      (refl, refl) op.IntRem shape.stack stack refl
       h.cells
   straight m shape op.IntAnd stack st h =
-      two_it (binary.Arithmetic BitAnd width.Int) kind.Int kind.Int tt tt tt (refl, refl) op.IntAnd shape.stack stack refl
+      two_it (binary.Arithmetic BitAnd width.Int) kind.Int kind.Int tt tt tt
+      (refl, refl) op.IntAnd shape.stack stack refl
       h.cells
   straight m shape op.IntOr stack st h =
       two_it (binary.Arithmetic BitOr width.Int) kind.Int kind.Int tt tt tt (refl, refl) op.IntOr shape.stack stack refl
       h.cells
   straight m shape op.IntXor stack st h =
-      two_it (binary.Arithmetic BitXor width.Int) kind.Int kind.Int tt tt tt (refl, refl) op.IntXor shape.stack stack refl
+      two_it (binary.Arithmetic BitXor width.Int) kind.Int kind.Int tt tt tt
+      (refl, refl) op.IntXor shape.stack stack refl
       h.cells
   straight m shape op.IntShl stack st h =
-      two_it (binary.Arithmetic ShiftLeft width.Int) kind.Int kind.Int tt tt tt (refl, refl) op.IntShl shape.stack stack refl
+      two_it (binary.Arithmetic ShiftLeft width.Int) kind.Int kind.Int tt tt tt
+      (refl, refl) op.IntShl shape.stack stack refl
       h.cells
   straight m shape op.IntShr stack st h =
-      two_it (binary.Arithmetic ShiftRight width.Int) kind.Int kind.Int tt tt tt (refl, refl) op.IntShr shape.stack stack refl
+      two_it (binary.Arithmetic ShiftRight width.Int) kind.Int kind.Int tt tt tt
+      (refl, refl) op.IntShr shape.stack stack refl
       h.cells
   straight m shape op.IntNeg stack st h =
       one_it (unary.Negate width.Int) tt tt op.IntNeg shape.stack stack refl h.cells
   straight m shape op.IntNot stack st h =
       one_it (unary.Flip width.Int) tt tt op.IntNot shape.stack stack refl h.cells
   straight m shape op.LongAdd stack st h =
-      two_it (binary.Arithmetic Add width.Long) kind.Long kind.Long tt tt tt (refl, refl) op.LongAdd shape.stack stack refl
+      two_it (binary.Arithmetic Add width.Long) kind.Long kind.Long tt tt tt
+      (refl, refl) op.LongAdd shape.stack stack refl
       h.cells
   straight m shape op.LongSub stack st h =
-      two_it (binary.Arithmetic Subtract width.Long) kind.Long kind.Long tt tt tt (refl, refl) op.LongSub shape.stack stack refl
+      two_it (binary.Arithmetic Subtract width.Long) kind.Long kind.Long tt tt tt
+      (refl, refl) op.LongSub shape.stack stack refl
       h.cells
   straight m shape op.LongMul stack st h =
-      two_it (binary.Arithmetic Multiply width.Long) kind.Long kind.Long tt tt tt (refl, refl) op.LongMul shape.stack stack refl
+      two_it (binary.Arithmetic Multiply width.Long) kind.Long kind.Long tt tt tt
+      (refl, refl) op.LongMul shape.stack stack refl
       h.cells
   straight m shape op.LongDiv stack st h =
-      two_it (binary.Arithmetic Divide width.Long) kind.Long kind.Long tt tt tt (refl, refl) op.LongDiv shape.stack stack refl
+      two_it (binary.Arithmetic Divide width.Long) kind.Long kind.Long tt tt tt
+      (refl, refl) op.LongDiv shape.stack stack refl
       h.cells
   straight m shape op.LongRem stack st h =
-      two_it (binary.Arithmetic Remainder width.Long) kind.Long kind.Long tt tt tt (refl, refl) op.LongRem shape.stack stack refl
+      two_it (binary.Arithmetic Remainder width.Long) kind.Long kind.Long tt tt tt
+      (refl, refl) op.LongRem shape.stack stack refl
       h.cells
   straight m shape op.LongAnd stack st h =
-      two_it (binary.Arithmetic BitAnd width.Long) kind.Long kind.Long tt tt tt (refl, refl) op.LongAnd shape.stack stack refl
+      two_it (binary.Arithmetic BitAnd width.Long) kind.Long kind.Long tt tt tt
+      (refl, refl) op.LongAnd shape.stack stack refl
       h.cells
   straight m shape op.LongOr stack st h =
-      two_it (binary.Arithmetic BitOr width.Long) kind.Long kind.Long tt tt tt (refl, refl) op.LongOr shape.stack stack refl
+      two_it (binary.Arithmetic BitOr width.Long) kind.Long kind.Long tt tt tt
+      (refl, refl) op.LongOr shape.stack stack refl
       h.cells
   straight m shape op.LongXor stack st h =
-      two_it (binary.Arithmetic BitXor width.Long) kind.Long kind.Long tt tt tt (refl, refl) op.LongXor shape.stack stack refl
+      two_it (binary.Arithmetic BitXor width.Long) kind.Long kind.Long tt tt tt
+      (refl, refl) op.LongXor shape.stack stack refl
       h.cells
   straight m shape op.LongShl stack st h =
-      two_it (binary.Arithmetic ShiftLeft width.Long) kind.Long kind.Int tt tt tt (refl, refl) op.LongShl shape.stack stack refl
+      two_it (binary.Arithmetic ShiftLeft width.Long) kind.Long kind.Int tt tt tt
+      (refl, refl) op.LongShl shape.stack stack refl
       h.cells
   straight m shape op.LongShr stack st h =
-      two_it (binary.Arithmetic ShiftRight width.Long) kind.Long kind.Int tt tt tt (refl, refl) op.LongShr shape.stack stack refl
+      two_it (binary.Arithmetic ShiftRight width.Long) kind.Long kind.Int tt tt tt
+      (refl, refl) op.LongShr shape.stack stack refl
       h.cells
   straight m shape op.LongNeg stack st h =
       one_it (unary.Negate width.Long) tt tt op.LongNeg shape.stack stack refl h.cells
@@ -309,31 +329,38 @@ module _ (w : Setting) (is : Tables w.image) (own : Concrete w.image w.class) (g
       two_it (binary.Compare Less width.Int) kind.Int kind.Int tt tt tt (refl, refl) op.IntLt shape.stack stack refl
       h.cells
   straight m shape op.IntLe stack st h =
-      two_it (binary.Compare LessOrEqual width.Int) kind.Int kind.Int tt tt tt (refl, refl) op.IntLe shape.stack stack refl
+      two_it (binary.Compare LessOrEqual width.Int) kind.Int kind.Int tt tt tt
+      (refl, refl) op.IntLe shape.stack stack refl
       h.cells
   straight m shape op.IntGt stack st h =
       two_it (binary.Compare Greater width.Int) kind.Int kind.Int tt tt tt (refl, refl) op.IntGt shape.stack stack refl
       h.cells
   straight m shape op.IntGe stack st h =
-      two_it (binary.Compare GreaterOrEqual width.Int) kind.Int kind.Int tt tt tt (refl, refl) op.IntGe shape.stack stack refl
+      two_it (binary.Compare GreaterOrEqual width.Int) kind.Int kind.Int tt tt tt
+      (refl, refl) op.IntGe shape.stack stack refl
       h.cells
   straight m shape op.LongEq stack st h =
-      two_it (binary.Compare Equal width.Long) kind.Long kind.Long tt tt tt (refl, refl) op.LongEq shape.stack stack refl
+      two_it (binary.Compare Equal width.Long) kind.Long kind.Long tt tt tt
+      (refl, refl) op.LongEq shape.stack stack refl
       h.cells
   straight m shape op.LongNe stack st h =
-      two_it (binary.Compare NotEqual width.Long) kind.Long kind.Long tt tt tt (refl, refl) op.LongNe shape.stack stack refl
+      two_it (binary.Compare NotEqual width.Long) kind.Long kind.Long tt tt tt
+      (refl, refl) op.LongNe shape.stack stack refl
       h.cells
   straight m shape op.LongLt stack st h =
       two_it (binary.Compare Less width.Long) kind.Long kind.Long tt tt tt (refl, refl) op.LongLt shape.stack stack refl
       h.cells
   straight m shape op.LongLe stack st h =
-      two_it (binary.Compare LessOrEqual width.Long) kind.Long kind.Long tt tt tt (refl, refl) op.LongLe shape.stack stack refl
+      two_it (binary.Compare LessOrEqual width.Long) kind.Long kind.Long tt tt tt
+      (refl, refl) op.LongLe shape.stack stack refl
       h.cells
   straight m shape op.LongGt stack st h =
-      two_it (binary.Compare Greater width.Long) kind.Long kind.Long tt tt tt (refl, refl) op.LongGt shape.stack stack refl
+      two_it (binary.Compare Greater width.Long) kind.Long kind.Long tt tt tt
+      (refl, refl) op.LongGt shape.stack stack refl
       h.cells
   straight m shape op.LongGe stack st h =
-      two_it (binary.Compare GreaterOrEqual width.Long) kind.Long kind.Long tt tt tt (refl, refl) op.LongGe shape.stack stack refl
+      two_it (binary.Compare GreaterOrEqual width.Long) kind.Long kind.Long tt tt tt
+      (refl, refl) op.LongGe shape.stack stack refl
       h.cells
   straight m shape op.BoolEq stack st h =
       two_it binary.SameTruth kind.Bool kind.Bool tt tt tt (refl, refl) op.BoolEq shape.stack stack refl h.cells
@@ -396,7 +423,8 @@ module _ (w : Setting) (is : Tables w.image) (own : Concrete w.image w.class) (g
       objects.inner_it w is own given turns locals offset class (op.Inner offset class) shape.stack stack refl h.cells
       h.fields
   straight m shape (op.Str offset size) stack st h =
-      objects.str_it w is own given turns locals offset size (op.Str offset size) shape.stack stack refl h.cells h.fields
+      objects.str_it w is own given turns locals offset size
+      (op.Str offset size) shape.stack stack refl h.cells h.fields
   straight m shape (op.BufSize offset) stack st h =
       objects.buf_size_it w is own given turns locals offset (op.BufSize offset) shape.stack stack refl h.cells h.fields
   straight m shape (op.BufGet offset capacity) stack st h =

@@ -37,7 +37,8 @@ use Rattle.scode_sound.proofs.Stacks.{Cell, Lands, Takes, one_off, two_off, thre
 use Rattle.scode_sound.proofs.Objects.{byte_int, index_cell, small_int}
 use Rattle.scode_sound.proofs.Characters.{chars_of, filled_str, literal_text, set_str, str_from}
 
-module _ (w : Setting) (is : Tables w.image) (own : Concrete w.image w.class) (given turns : ℕ) (locals : List Val) where
+module _ (w : Setting) (is : Tables w.image) (own : Concrete w.image w.class) (given turns : ℕ)
+    (locals : List Val) where
   abbrev pub G : State → Type 0
   G s = Now w given turns locals s
 
@@ -146,7 +147,8 @@ module _ (w : Setting) (is : Tables w.image) (own : Concrete w.image w.class) (g
 
   -- ---- the instructions
 
-  pub length_it : (i : Op) (ks : List ImageKind) (stack : List Val) → is_end i ≡ false → Takes w (Goes str ∷ []) ks stack
+  pub length_it : (i : Op) (ks : List ImageKind) (stack : List Val) → is_end i ≡ false → Takes w
+      (Goes str ∷ []) ks stack
       → Holds G Move (Lands w i (int ∷ drop 1 ks)) (str_length w stack)
   length_it i ks stack on t =
       one_off w G (λ ls. Lands w i (int ∷ ls)) (Goes str) ks stack

@@ -14,8 +14,8 @@ ghost use Rattle.scode_sound.specs.Over.{IsOverWithin, setting_of, shared_of};
 use scode_code::images_without_fault_are_verified;
 use scode_whole::verified_images_that_answer_are_whole;
 
-/// A root call of a verified image that may be asked ends well: by a value, with no more turns left than it was given, or
-/// by one of the five traps, so that it is never stuck and over within its bound. What it leaves fits.
+/// A root call of a verified image that may be asked ends well: by a value, with no more turns left than it was given,
+/// or by one of the five traps, so that it is never stuck and over within its bound. What it leaves fits.
 pub fn verified_calls_end()
     ensures { (image : AnyImage) (q : Question) → IsVerified image → MayAsk (code_of image) q
         → AnswersWell (code_of image) q }
@@ -23,8 +23,8 @@ pub fn verified_calls_end()
     images_without_fault_are_verified();
 }
 
-/// The machine of a root call that may be asked is over within the bound, by a value or a trap, and is stuck at no point
-/// on the way: so many instructions as the longest method has for each turn, and for the time before the first.
+/// The machine of a root call that may be asked is over within the bound, by a value or a trap, and is stuck at no
+/// point on the way: so many instructions as the longest method has for each turn, and for the time before the first.
 pub fn verified_calls_are_over()
     ensures { (image : AnyImage) (q : Question) (number : ℕ) (value : Val) → IsVerified image
         → MayAsk (code_of image) q → root_method image q.class q.which ≡ Ok (Some number)
