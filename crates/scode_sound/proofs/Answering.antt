@@ -31,8 +31,8 @@ use Rattle.scode_sound.proofs.Rules.{Concrete, Tables, method_rule, tables}
 use Rattle.scode_sound.proofs.Cells.{Fit, all_goes}
 use Rattle.scode_sound.proofs.Keeping.{Fitting}
 use Rattle.scode_sound.proofs.Arguments.{kinds_of, locals_fit}
-use Rattle.scode_sound.proofs.Fine.{FineOver, code_there, goes_parts, left_most, reached_at}
-use Rattle.scode_sound.proofs.Finishing.{Finished, IsFinePoint, finishes, left, over_within}
+use Rattle.scode_sound.proofs.Points.{Fine, FineOver, code_there, goes_parts, left_most, potential, reached_at}
+use Rattle.scode_sound.proofs.Finishing.{Finished, finishes, over_within}
 use Rattle.scode_sound.proofs.Roots.{Asks, Runs, Rests, IsComponentClass, asks, component_class}
 
 -- ---- a root call begins as a fine machine, with at most so many steps left
@@ -41,17 +41,17 @@ module _ (w : Setting) (is : Tables w.image) (own : Concrete w.image w.class) (g
     (verified : IsVerifiedBy w.image shapes) (number : ℕ) (m : ImageMethod) (value : Val) (s : Shared)
     (e : slice_get w.image.methods number ≡ Some m) (code : is_abstract m ≡ false)
     (fits : Fit w (kinds_of m.class m) (root_arguments value)) (fitting : Fitting w given s) where
-  begun_fine : IsFinePoint w is own given shapes verified (begins (Some m) number value s)
+  begun_fine : Fine w given shapes (begins (Some m) number value s)
   begun_fine =
       let first : Leads w.image shapes number 0 (first_shape m) =
       subst (λ (o : Option ImageMethod).
       IfSome o (λ (x : ImageMethod). is_abstract x ≡ false → Leads w.image shapes number 0 (first_shape x))) e
       (verified.starts number) code in
-      let j = code_there w is own given shapes verified number 0 m (first_shape m) e first in
-      let p = goes_parts w is own given shapes verified (first_shape m) first.reached first.goes in
+      let j = code_there w given shapes verified number 0 m (first_shape m) e first in
+      let p = goes_parts w (first_shape m) first.reached first.goes in
       record {
         shape = first.reached;
-        at = reached_at w is own given shapes verified number 0 m (first_shape m) e (first_start m.code j.0 j.1) refl
+        at = reached_at w given shapes number 0 m (first_shape m) e (first_start m.code j.0 j.1) refl
             first;
         fit_locals = all_goes w is m.locals first.reached.locals (locals_of m (root_arguments value)) p.0
             (locals_fit w is m (root_arguments value) (method_rule w.image is number m e) fits);
@@ -60,9 +60,9 @@ module _ (w : Setting) (is : Tables w.image) (own : Concrete w.image w.class) (g
         waits = tt;
       }
 
-  begun_left : left w is own given shapes verified (begins (Some m) number value s) ≤ most_steps w.image s.turns
+  begun_left : potential w (begins (Some m) number value s) ≤ most_steps w.image s.turns
   begun_left =
-      let most = left_most w is own given shapes verified number 0 m e in
+      let most = left_most w number 0 m e in
       let one : 1 + s.turns ≡ suc s.turns = omega arith in
       let product : (1 + s.turns) * longest_of (map (λ (x : ImageMethod). x.code) w.image.methods)
       ≡ suc s.turns * longest_of (map (λ (x : ImageMethod). x.code) w.image.methods) =
@@ -80,15 +80,15 @@ module _ (w : Setting) (is : Tables w.image) (own : Concrete w.image w.class) (g
       (begins (Some m) number value s) begun_fine
       begun_left)
 
-  run_fine : FineOver w is own given shapes verified (run_method w (Some number) value s)
+  run_fine : FineOver w given shapes (run_method w (Some number) value s)
   run_fine =
       let f : Finished w is own given shapes verified
       (steps w (most_steps w.image s.turns) (begins (Some m) number value s)) =
       finishes w is own given shapes verified (most_steps w.image s.turns) (begins (Some m) number value s) begun_fine
       begun_left in
-      subst (λ (p : Point). FineOver w is own given shapes verified (ended (steps w (most_steps w.image s.turns) p)))
+      subst (λ (p : Point). FineOver w given shapes (ended (steps w (most_steps w.image s.turns) p)))
       (sym begins_is)
-      (subst (λ (p : Point). FineOver w is own given shapes verified (ended p)) (sym f.over) f.fine)
+      (subst (λ (p : Point). FineOver w given shapes (ended p)) (sym f.over) f.fine)
 
 -- ---- what is asked
 
@@ -137,13 +137,13 @@ module _ (image : Image) (clean : IsVerified image) (shapes : Shapes) (verified 
   known = known_of image agreed q may
 
   abbrev IsFineEnd : Called → Type 0
-  IsFineEnd c = FineOver w agreed known.component.known q.turns shapes verified c
+  IsFineEnd c = FineOver w q.turns shapes c
 
   call_fine : IsFineEnd (start_root w (root_method image q.class q.which) (argument_of q.argument) (shared_of q))
   call_fine = by_asked known.asked
     where
       by_asked : Asks image q
-          → FineOver (setting_of image q) agreed known.component.known q.turns shapes verified
+          → FineOver (setting_of image q) q.turns shapes
           (start_root (setting_of image q) (root_method image q.class q.which) (argument_of q.argument) (shared_of q))
       by_asked (Runs number m value method_is value_is e code fits) =
           subst (λ (r : Result (Option ℕ) Stop).

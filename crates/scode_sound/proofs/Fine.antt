@@ -1,12 +1,11 @@
 -- What holds of each machine that a verified image reaches: instructions that stay in the method, and those that
 -- leave it.
-use Rattle.std.proofs.Common.{◌≡◌, ◌<◌, ◌≤◌, ◌+◌, ◌*◌, ◌==◌, ◌&&◌, ◌||◌, not, nat_lt, ℕ, zero, suc, Bool, true, false, if◌then◌else◌, List, [], ◌∷◌, ◌++◌, length, map, Option, Some, Result, Ok, Err, refl, sym, ap, subst, ◌∙◌, arith, inl, inr, ◌⊎◌}
+use Rattle.std.proofs.Common.{◌≡◌, ◌<◌, ◌+◌, ◌*◌, ◌==◌, ◌||◌, not, nat_lt, ℕ, zero, suc, Bool, true, false, if◌then◌else◌, List, [], ◌∷◌, ◌++◌, length, Option, Some, Result, Ok, Err, refl, sym, ap, subst, ◌∙◌, arith, inl, inr, ◌⊎◌}
 use Rattle.std.specs.Prelude.{IfSome, slice_get, slice_set}
 use Rattle.std.specs.Option.{option_map_or}
-use Rattle.std.proofs.lemmas.Bool.{and_parts, cases_lt, ltb-true}
+use Rattle.std.proofs.lemmas.Bool.{cases_lt, ltb-true}
 use Rattle.sed_engine.specs.declared.trap.Trap.{Trap}
 use Rattle.sed_engine.specs.declared.trap.Trap.TheVariants.{TurnsSpent}
-use Rattle.sed_engine.specs.Expressions.{Called}
 use Rattle.sed_engine.specs.State.{Shared, State, gives, answers, after as after_step, then_do}
 use Rattle.sed_engine.specs.Steps.{turn_taken}
 use Rattle.sed_engine.specs.Stops.{Stop, Traps, Untyped, there as is_there, map_ok}
@@ -21,31 +20,20 @@ use Rattle.scode_image.specs.declared.image.ImageMethod.{ImageMethod}
 use Rattle.scode_code.specs.CodeRules.{after, after_stack, is_start, is_turn, jumps_to, locals_after, with_kind}
 use Rattle.scode_code.specs.Effect.{no_push}
 use Rattle.scode_code.specs.Fields.{Setting}
-use Rattle.scode_code.specs.Kinds.{Shape, void, all_go, goes_to}
-use Rattle.scode_code.specs.Machine.{Frame, Machine, Point, At as AtWork, Over, Move, Onward, Goto, Enter, Leave, moves, pushed, returned}
-use Rattle.scode_code.specs.Steps.{code_of, effect, longest_of}
-use Rattle.scode_code.specs.Verified.{IsFine, IsVerifiedBy, Leads, MayJump, Shapes, Stands}
+use Rattle.scode_code.specs.Kinds.{Shape, goes_to}
+use Rattle.scode_code.specs.Machine.{Frame, Machine, At as AtWork, Over, Move, Onward, Goto, Enter, Leave, moves, pushed, returned}
+use Rattle.scode_code.specs.Steps.{effect}
+use Rattle.scode_code.specs.Verified.{IsFine, IsVerifiedBy, Leads, MayJump, Shapes}
 use Rattle.scode_code.specs.Wants.{Anything, result_cells, wants_of}
-use Rattle.scode_whole.proofs.Truths.{no_truth, same_value, two}
-use Rattle.scode_sound.specs.Over.{IsTyped}
-use Rattle.scode_sound.proofs.Left.{at_back, at_later, at_most, at_some, left_at, longest_is_most, next_start, paid, size_some}
+use Rattle.scode_whole.proofs.Truths.{no_truth, same_value}
+use Rattle.scode_sound.proofs.Left.{at_back, at_later, at_some, left_at, next_start, paid, size_some}
 use Rattle.scode_sound.proofs.Rules.{Concrete, Tables, stands_at}
 use Rattle.scode_sound.proofs.Cells.{Fit, HasKind, all_goes, goes as cell_goes, fit_length, fit_set}
 use Rattle.scode_sound.proofs.Keeping.{Fitting, Now, turn_fitting}
 use Rattle.scode_sound.proofs.Stacks.{Lands, Takes, pushed_fits}
 use Rattle.scode_sound.proofs.Straight.{is_straight, straight}
-
-pub not_not : (b : Bool) → not b ≡ false → b ≡ true
-not_not true h = refl
-not_not false h = no_truth (sym h)
-
-pub first_false : (a b : Bool) → (a || b) ≡ false → a ≡ false
-first_false true b h = no_truth (sym h)
-first_false false b h = refl
-
-second_false : (a b : Bool) → (a || b) ≡ false → b ≡ false
-second_false true b h = no_truth (sym h)
-second_false false b h = h
+use Rattle.scode_sound.proofs.Points.{AllWait, Better, FineAt, code_is, code_there, goes_parts, left_most, left_of, longest, positive, reached_at, result_is, result_of, weigh}
+use Rattle.scode_sound.proofs.Booleans.{first_false, not_not, second_false}
 
 straight_keeps : (shape : Shape) (i : Op) → is_straight i ≡ true → locals_after shape i ≡ shape.locals
 straight_keeps shape (op.Store n) h = no_truth h
@@ -75,121 +63,9 @@ result_fits w k ks v stack (inr h) f =
 
 module _ (w : Setting) (is : Tables w.image) (own : Concrete w.image w.class) (given : ℕ) (shapes : Shapes)
     (verified : IsVerifiedBy w.image shapes) where
-  abbrev pub left_of : ℕ → ℕ → ℕ
-  left_of method place = left_at (code_of w.image method) place
-
-  abbrev pub longest : ℕ
-  longest = longest_of (map (λ (x : ImageMethod). x.code) w.image.methods)
-
-  abbrev pub weigh : List Frame → ℕ
-  weigh [] = 0
-  weigh (f ∷ fs) = left_of f.method f.place + weigh fs
-
-  -- how many steps are left at most
-  abbrev pub potential : Point → ℕ
-  potential (Over c) = 0
-  potential (AtWork x) = x.shared.turns * longest + left_of x.top.method x.top.place + weigh x.below
-
-  -- a shape stands at a place of a method, which is a start
-  pub record AtPlace (method place : ℕ) (shape : Shape) : Type 0 where
-    pub m : ImageMethod
-    pub known : slice_get w.image.methods method ≡ Some m
-    pub stands : shapes method place shape
-    pub start : is_start m.code place ≡ true
-    pub many : length shape.locals ≡ length m.locals
-
-  -- a frame waits for a result of this kind
-  pub record Waits (k : ImageKind) (f : Frame) : Type 0 where
-    pub shape : Shape
-    pub at : AtPlace f.method f.place shape
-    pub fit_locals : Fit w shape.locals f.locals
-    pub kinds : List ImageKind
-    pub leads : all_go w.image (result_cells k ++ kinds) shape.stack ≡ true
-    pub fit_rest : Fit w kinds f.stack
-
-  abbrev pub result_of : ℕ → ImageKind
-  result_of method = option_map_or (λ (x : ImageMethod). x.result) (slice_get w.image.methods method) void
-
-  abbrev pub AllWait : ImageKind → List Frame → Type 0
-  AllWait k [] = Unit {0}
-  AllWait k (f ∷ fs) = Waits k f × AllWait (result_of f.method) fs
-
-  -- what holds of each state that is reached
-  pub record FineAt (x : Machine) : Type 0 where
-    pub shape : Shape
-    pub at : AtPlace x.top.method x.top.place shape
-    pub fit_locals : Fit w shape.locals x.top.locals
-    pub fit_stack : Fit w shape.stack x.top.stack
-    pub fitting : Fitting w given x.shared
-    pub waits : AllWait (result_of x.top.method) x.below
-
-  pub record FineOver (c : Called) : Type 0 where
-    pub typed : IsTyped c.result
-    pub fitting : Fitting w given c.shared
-
-  abbrev pub Fine : Point → Type 0
-  Fine (AtWork x) = FineAt x
-  Fine (Over c) = FineOver c
-
-  pub record Better (n : ℕ) (q : Point) : Type 0 where
-    pub fine : Fine q
-    pub less : potential q < n
-
-  -- ---- methods and places
-
-  pub code_is : (method : ℕ) (m : ImageMethod) → slice_get w.image.methods method ≡ Some m
-      → code_of w.image method ≡ m.code
-  code_is method m e = ap (λ (o : Option ImageMethod). option_map_or (λ (x : ImageMethod). x.code) o []) e
-
-  pub result_is : (method : ℕ) (m : ImageMethod) → slice_get w.image.methods method ≡ Some m
-      → result_of method ≡ m.result
-  result_is method m e = ap (λ (o : Option ImageMethod). option_map_or (λ (x : ImageMethod). x.result) o void) e
-
-  pub left_most : (method place : ℕ) (m : ImageMethod) → slice_get w.image.methods method ≡ Some m
-      → left_of method place ≤ longest
-  left_most method place m e =
-      let same : left_of method place ≡ left_at m.code place =
-      ap (λ (code : List ℕ). left_at code place) (code_is method m e) in
-      let most = at_most m.code place in
-      let long = longest_is_most w.image.methods method m e in
-      omega (arith, same, most, long)
-
-  go_length : (ks ls : List ImageKind) → all_go w.image ks ls ≡ true → length ks ≡ length ls
-  go_length [] [] h = refl
-  go_length [] (l ∷ ls) h = no_truth h
-  go_length (k ∷ ks) [] h = no_truth h
-  go_length (k ∷ ks) (l ∷ ls) h = ap suc (go_length ks ls (and_parts (goes_to w.image k l) (all_go w.image ks ls) h).1)
-
-  pub goes_parts : (a b : Shape) → (all_go w.image a.locals b.locals && all_go w.image a.stack b.stack) ≡ true
-      → (all_go w.image a.locals b.locals ≡ true) × (all_go w.image a.stack b.stack ≡ true)
-  goes_parts a b h = two (all_go w.image a.locals b.locals) (all_go w.image a.stack b.stack) h
-
-  pub reached_at : (method place : ℕ) (m : ImageMethod) (s : Shape) → slice_get w.image.methods method ≡ Some m
-      → is_start m.code place ≡ true → length s.locals ≡ length m.locals
-      → (l : Leads w.image shapes method place s) → AtPlace method place l.reached
-  reached_at method place m s e start many l = record {
-    m = m;
-    known = e;
-    stands = l.stands;
-    start = start;
-    many = sym (go_length s.locals l.reached.locals (goes_parts s l.reached l.goes).0) ∙ many;
-  }
-
-  -- the code at a place to which a shape leads
-  pub code_there : (method place : ℕ) (m : ImageMethod) (s : Shape) → slice_get w.image.methods method ≡ Some m
-      → Leads w.image shapes method place s → (j : Op) × (op_at m.code place ≡ Some j)
-  code_there method place m s e l =
-      let st : Stands w.image shapes method place l.reached = verified.each method place l.reached l.stands in
-      let same : st.m ≡ m = same_value st.m m (sym st.there ∙ e) in
-      (st.i, subst (λ (x : ImageMethod). op_at x.code place ≡ Some st.i) same st.instruction)
-
-  pub positive : (n : ℕ) → (n == 0) ≡ false → 0 < n
-  positive zero h = no_truth (sym h)
-  positive (suc n) h = omega arith
-
   -- ---- one step of a fine machine
 
-  module _ (machine : Machine) (now_fine : FineAt machine) where
+  module _ (machine : Machine) (now_fine : FineAt w given shapes machine) where
     abbrev pub method : ℕ
     method = machine.top.method
 
@@ -232,7 +108,7 @@ module _ (w : Setting) (is : Tables w.image) (own : Concrete w.image w.class) (g
     abbrev pub fitting : Fitting w given sh
     fitting = now_fine.fitting
 
-    abbrev pub waits : AllWait (result_of method) below
+    abbrev pub waits : AllWait w given shapes (result_of w method) below
     waits = now_fine.waits
 
     abbrev pub frame : Frame
@@ -242,7 +118,7 @@ module _ (w : Setting) (is : Tables w.image) (own : Concrete w.image w.class) (g
     s0 = record { shared = sh; locals = locals }
 
     abbrev pub now : ℕ
-    now = sh.turns * longest + left_of method place + weigh below
+    now = sh.turns * longest w + left_of w method place + weigh w below
 
     -- what is known of the instruction
     pub record Here (i : Op) : Type 0 where
@@ -251,8 +127,8 @@ module _ (w : Setting) (is : Tables w.image) (own : Concrete w.image w.class) (g
       pub spelled : IsOp i
       pub cells : Takes w (wants_of w.image shape i).takes shape.stack stack
 
-    pub left_is : (p : ℕ) → left_of method p ≡ left_at m.code p
-    left_is p = ap (λ (code : List ℕ). left_at code p) (code_is method m known)
+    pub left_is : (p : ℕ) → left_of w method p ≡ left_at m.code p
+    left_is p = ap (λ (code : List ℕ). left_at code p) (code_is w method m known)
 
     some_left : 0 < now
     some_left =
@@ -261,22 +137,22 @@ module _ (w : Setting) (is : Tables w.image) (own : Concrete w.image w.class) (g
         omega (arith, one, e)
 
     pub trapped : (t : Trap) (s : Shared) → Fitting w given s
-        → Better now (Over (record { result = Err (Traps t); shared = s }))
+        → Better w given shapes now (Over (record { result = Err (Traps t); shared = s }))
     trapped t s g = record { fine = record { typed = tt; fitting = g }; less = some_left }
 
     arrive : (to : ℕ) (s : Shape) (ls st : List Val) (t : Shared) → Leads w.image shapes method to s
         → is_start m.code to ≡ true → length s.locals ≡ length m.locals → Fit w s.locals ls → Fit w s.stack st
         → Fitting w given t
-        → FineAt (record {
+        → FineAt w given shapes (record {
           top = record { method = method; place = to; locals = ls; stack = st };
           below = below;
           shared = t;
         })
     arrive to s ls st t l start_to count fl fs g =
-        let p = goes_parts s l.reached l.goes in
+        let p = goes_parts w s l.reached l.goes in
         record {
           shape = l.reached;
-          at = reached_at method to m s known start_to count l;
+          at = reached_at w given shapes method to m s known start_to count l;
           fit_locals = all_goes w is s.locals l.reached.locals ls p.0 fl;
           fit_stack = all_goes w is s.stack l.reached.stack st p.1 fs;
           fitting = g;
@@ -287,7 +163,7 @@ module _ (w : Setting) (is : Tables w.image) (own : Concrete w.image w.class) (g
     arrives : (to : ℕ) (s : Shape) (ls st : List Val) (t : Shared) → Leads w.image shapes method to s
         → is_start m.code to ≡ true → length s.locals ≡ length m.locals → Fit w s.locals ls → Fit w s.stack st
         → Fitting w given t → t.turns ≡ sh.turns → left_at m.code to < left_at m.code place
-        → Better now (AtWork (record {
+        → Better w given shapes now (AtWork (record {
           top = record { method = method; place = to; locals = ls; stack = st };
           below = below;
           shared = t;
@@ -296,14 +172,14 @@ module _ (w : Setting) (is : Tables w.image) (own : Concrete w.image w.class) (g
       fine = arrive to s ls st t l start_to count fl fs g;
       less = let a = left_is to in
           let b = left_is place in
-          let product : t.turns * longest ≡ sh.turns * longest = ap (λ (n : ℕ). n * longest) same in
+          let product : t.turns * longest w ≡ sh.turns * longest w = ap (λ (n : ℕ). n * longest w) same in
           omega (arith, a, b, product, less);
     }
 
     pub next_start_is : (i : Op) → op_at m.code place ≡ Some i → (s : Shape)
         → Leads w.image shapes method (place + size_of i) s → is_start m.code (place + size_of i) ≡ true
     next_start_is i ip s l =
-        let j = code_there method (place + size_of i) m s known l in
+        let j = code_there w given shapes verified method (place + size_of i) m s known l in
         next_start m.code place i j.0 start ip j.1
 
     pub next_less : (i : Op) → op_at m.code place ≡ Some i → is_turn (Some i) ≡ false
@@ -352,7 +228,7 @@ module _ (w : Setting) (is : Tables w.image) (own : Concrete w.image w.class) (g
 
       landed : (r : Result Move Stop) (s : State) → Now w given sh.turns locals s
           → Sound (Lands w i (after_stack (wants_of w.image shape i) shape.stack)) r
-          → Better now (moves frame below (place + size_of i) r s)
+          → Better w given shapes now (moves frame below (place + size_of i) r s)
       landed (Ok (Onward st)) s g p =
           let l = h.fine.goes_on p.0 in
           let start_next = next_start_is i h.instruction (after w.image shape i) l in
@@ -368,7 +244,7 @@ module _ (w : Setting) (is : Tables w.image) (own : Concrete w.image w.class) (g
       landed (Err (Traps t)) s g p = trapped t s.shared g.fitting
       landed (Err Untyped) s g p = absurd p
 
-      pub straight_better : Better now
+      pub straight_better : Better w given shapes now
           (moves frame below (place + size_of i) (effect w i stack s0).result (effect w i stack s0).state)
       straight_better =
           let all = straight w is own given sh.turns locals m shape i stack str (record {
@@ -389,7 +265,8 @@ module _ (w : Setting) (is : Tables w.image) (own : Concrete w.image w.class) (g
 
     pub stored : (n : ℕ) (ks : List ImageKind) (stack : List Val) → Here (op.Store n)
         → (e : shape.stack ≡ ks) → Takes w (Anything ∷ []) ks stack
-        → Better now (moves frame below (place + size_of (op.Store n)) (effect w (op.Store n) stack s0).result
+        → Better w given shapes now (moves frame below (place + size_of (op.Store n))
+        (effect w (op.Store n) stack s0).result
         (effect w (op.Store n) stack s0).state)
     stored n [] stack h e t = absurd t
     stored n (k ∷ ks) [] h e t = absurd t
@@ -407,7 +284,7 @@ module _ (w : Setting) (is : Tables w.image) (own : Concrete w.image w.class) (g
         let start_next = next_start_is (op.Store n) h.instruction
         (record { locals = with_kind shape.locals n k; stack = ks }) l in
         subst (λ (o : Option Val).
-        Better now (moves frame below (place + size_of (op.Store n))
+        Better w given shapes now (moves frame below (place + size_of (op.Store n))
         (no_push rest (then_do (answers (map_ok (λ _. slice_set locals n v) (is_there o)) s0)
         (λ (all : List Val) (s1 : State). gives v (record { shared = s1.shared; locals = all })))).result
         (no_push rest (then_do (answers (map_ok (λ _. slice_set locals n v) (is_there o)) s0)
@@ -419,16 +296,17 @@ module _ (w : Setting) (is : Tables w.image) (own : Concrete w.image w.class) (g
 
     -- ---- turns
 
-    turn_less : (next : ℕ) → 0 < sh.turns → (turn_taken sh).turns * longest + left_of method next + weigh below < now
+    turn_less : (next : ℕ) → 0 < sh.turns → (turn_taken sh).turns * longest w + left_of w method next + weigh w below <
+        now
     turn_less next some =
-        let most = left_most method next m known in
-        let pays = paid sh.turns longest (left_of method next) some most in
+        let most = left_most w method next m known in
+        let pays = paid sh.turns (longest w) (left_of w method next) some most in
         let one = at_some m.code place start in
         let e = left_is place in
         omega (arith, pays, one, e)
 
     pub turned : Here op.Turn → (b : Bool) → (sh.turns == 0) ≡ b
-        → Better now (moves frame below (place + size_of op.Turn)
+        → Better w given shapes now (moves frame below (place + size_of op.Turn)
         (after_step (if b then Err (Traps TurnsSpent) else Ok (tt {0}))
         (record { shared = turn_taken sh; locals = locals })
         (λ (u : Unit {0}) (s1 : State). gives (Onward stack) s1)).result
@@ -449,16 +327,16 @@ module _ (w : Setting) (is : Tables w.image) (own : Concrete w.image w.class) (g
 
     -- ---- out of the method
 
-    waits_own : AllWait m.result below
-    waits_own = subst (λ (k : ImageKind). AllWait k below) (result_is method m known) waits
+    waits_own : AllWait w given shapes m.result below
+    waits_own = subst (λ (k : ImageKind). AllWait w given shapes k below) (result_is w method m known) waits
 
-    leaves : (v : Val) → HasResult w m.result v → (fs : List Frame) → AllWait m.result fs → fs ≡ below
-        → Better now (returned v fs sh)
+    leaves : (v : Val) → HasResult w m.result v → (fs : List Frame) → AllWait w given shapes m.result fs → fs ≡ below
+        → Better w given shapes now (returned v fs sh)
     leaves v h [] ws same = record { fine = record { typed = tt; fitting = fitting }; less = some_left }
     leaves v h (g ∷ fs) ws same =
         let one = at_some m.code place start in
         let e = left_is place in
-        let weight : weigh (g ∷ fs) ≡ weigh below = ap weigh same in
+        let weight : weigh w (g ∷ fs) ≡ weigh w below = ap (weigh w) same in
         record {
           fine = record {
             shape = ws.0.shape;
@@ -474,14 +352,15 @@ module _ (w : Setting) (is : Tables w.image) (own : Concrete w.image w.class) (g
         }
 
     pub leaves_none : Here op.Return
-        → Better now (moves frame below (place + size_of op.Return) (effect w op.Return stack s0).result
+        → Better w given shapes now (moves frame below (place + size_of op.Return) (effect w op.Return stack s0).result
         (effect w op.Return stack s0).state)
     leaves_none h =
         leaves Nothing (inl (not_not (m.result.kind == 0) h.fine.result, refl)) below waits_own refl
 
     pub leaves_value : (ks : List ImageKind) (stack : List Val) → Here op.ReturnValue → (e : shape.stack ≡ ks)
         → Takes w (Anything ∷ []) ks stack
-        → Better now (moves frame below (place + size_of op.ReturnValue) (effect w op.ReturnValue stack s0).result
+        → Better w given shapes now (moves frame below (place + size_of op.ReturnValue)
+        (effect w op.ReturnValue stack s0).result
         (effect w op.ReturnValue stack s0).state)
     leaves_value [] stack h e t = absurd t
     leaves_value (k ∷ ks) [] h e t = absurd t

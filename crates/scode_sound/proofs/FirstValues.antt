@@ -24,9 +24,10 @@ use Rattle.scode_code.specs.Tables.{class_fields, form_of, primitive_of, shape_o
 use Rattle.scode_whole.proofs.FirstFits.{shapes_of}
 use Rattle.scode_whole.proofs.SlotFields.{form_prim, form_str, form_buf}
 use Rattle.scode_whole.proofs.Truths.{no_truth, no_value, passes, same_value}
-use Rattle.scode_sound.proofs.Rules.{Concrete, Tables, form_object, form_array, second, statics_rule}
+use Rattle.scode_sound.proofs.Rules.{Concrete, Tables, form_object, form_array, statics_rule}
 use Rattle.scode_sound.proofs.Cells.{form_from}
 use Rattle.scode_sound.proofs.Nesting.{Nested, all_nested}
+use Rattle.scode_sound.proofs.Booleans.{second}
 
 has_front : (a b : Contents) (path : Path) → has a path ≡ true → has (a ++ b) path ≡ true
 has_front [] b path h = no_truth h

@@ -28,6 +28,7 @@ use Rattle.scode_whole.proofs.Truths.{no_truth}
 use Rattle.scode_sound.proofs.Rules.{Concrete, Tables}
 use Rattle.scode_sound.proofs.Cells.{form_from}
 use Rattle.scode_sound.proofs.FirstValues.{initial_has, statics_have}
+use Rattle.scode_sound.proofs.Booleans.{or_right}
 
 -- contents and statics fit, the moment is a long, and no more turns are left than were given
 pub record Fitting (w : Setting) (given : ℕ) (s : Shared) : Type 0 where
@@ -71,10 +72,6 @@ kept_there w is own given base path f s fitting e leaf =
         value_there s.statics path
         (has_same s.statics (initial_statics w.image) path fitting.statics.paths (statics_have w is path f leaf e))
 
-either_true : (a b : Bool) → b ≡ true → (a || b) ≡ true
-either_true true b h = refl
-either_true false b h = h
-
 lengths : (a b n : ℕ) → (a == n) ≡ true → (b == n) ≡ true → (b == a) ≡ true
 lengths a b n h k = grind (arith, nat_tests)
 
@@ -87,7 +84,7 @@ str_alike n old new h k =
     let d = and_parts (are_bytes new) (length new == n) b.0 in
     and_from (are_bytes new && (length new == length old)) (not (last_byte old == 0) || (last_byte new == 0))
     (and_from (are_bytes new) (length new == length old) d.0 (lengths (length old) (length new) n c.1 d.1))
-    (either_true (not (last_byte old == 0)) (last_byte new == 0) b.1)
+    (or_right (not (last_byte old == 0)) (last_byte new == 0) b.1)
 
 -- it is of the type of what stood there
 alike : (f : FieldForm) → IsStored f → (old new : Value) → keeps f old ≡ true → keeps f new ≡ true

@@ -10,6 +10,8 @@ use Rattle.scode_image.specs.declared.image.ImageMethod.{ImageMethod}
 use Rattle.scode_code.specs.CodeRules.{is_turn, is_start, starts, starts_from, starts_on}
 use Rattle.scode_code.specs.Steps.{counted_on, counted_within, instruction_count, longest_of}
 use Rattle.scode_whole.proofs.Truths.{no_truth, no_value, same_value}
+use Rattle.sed_engine.proofs.FirstFits.{equal}
+use Rattle.scode_sound.proofs.Booleans.{or_right}
 
 -- ---- in a list of places that ascends, of which some have a `turn`
 
@@ -193,19 +195,12 @@ starts_ascend (suc most) place code = by_op (op_at code place) (λ next. starts_
           (let some = size_some i in omega (arith, some)) (again (place + size_of i)),
     )
 
-same_test : (n : ℕ) → (n == n) ≡ true
-same_test n = grind arith
-
-or_right : (a b : Bool) → b ≡ true → (a || b) ≡ true
-or_right true b h = refl
-or_right false b h = h
-
 first_from : (most place : ℕ) (code : List ℕ) (i : Op) → op_at code place ≡ Some i → 0 < most
     → stands (starts_from most place code) place ≡ true
 first_from zero place code i e some = absurd (omega (arith, some))
 first_from (suc most) place code i e some =
     ap (λ (o : Option Op). stands (starts_on (λ next. starts_from most next code) place o) place) e
-    ∙ ap (λ (b : Bool). b || stands (starts_from most (place + size_of i) code) place) (same_test place)
+    ∙ ap (λ (b : Bool). b || stands (starts_from most (place + size_of i) code) place) (equal place place refl)
 
 next_from : (most place : ℕ) (code : List ℕ) (p : ℕ) (i j : Op) → length code ≤ most + place
     → stands (starts_from most place code) p ≡ true → op_at code p ≡ Some i → op_at code (p + size_of i) ≡ Some j

@@ -1,3 +1,4 @@
+pub mod Booleans
 pub mod Left
 pub mod Rules
 pub mod Cells
@@ -13,6 +14,7 @@ pub mod Objects
 pub mod Strs
 pub mod Straight
 pub mod Arguments
+pub mod Points
 pub mod Fine
 pub mod Running
 pub mod Finishing

@@ -12,7 +12,9 @@ use Rattle.scode_code.specs.TableRules as rule
 use Rattle.scode_code.specs.Tables.{class_fields}
 use Rattle.scode_whole.proofs.Bases.{fields_at}
 use Rattle.scode_whole.proofs.Truths.{no_truth, no_value, same_value, passes}
-use Rattle.scode_sound.proofs.Rules.{Tables, class_rule, second}
+use Rattle.scode_sound.proofs.Rules.{Tables, class_rule}
+use Rattle.sed_engine.proofs.FirstFits.{equal}
+use Rattle.scode_sound.proofs.Booleans.{or_right, second}
 
 -- an object of the one class holds one of the other in a field
 pub record Holds (image : Image) (class held : ℕ) : Type 0 where
@@ -38,13 +40,6 @@ any_there test [] i f e h = no_value f e
 any_there test (g ∷ gs) zero f e h =
     ap (λ (b : Bool). b || list_any test gs) (ap test (same_value g f e) ∙ h)
 any_there test (g ∷ gs) (suc i) f e h = or_right (test g) (list_any test gs) (any_there test gs i f e h)
-  where
-    or_right : (a b : Bool) → b ≡ true → (a || b) ≡ true
-    or_right true b h = refl
-    or_right false b h = h
-
-same_test : (a b : ℕ) → a ≡ b → (a == b) ≡ true
-same_test a b e = grind (arith, e)
 
 or_first : (a b c : Bool) → a ≡ true → ((a || b) || c) ≡ true
 or_first true b c h = refl
@@ -57,12 +52,12 @@ or_second false false c h = no_truth h
 
 reaches_leads : (image : Image) (n k from to : ℕ) → n ≤ k → Reaches image n from to
     → rule.leads_within k image to from ≡ true
-reaches_leads image zero zero from to h r = same_test from to r
+reaches_leads image zero zero from to h r = equal from to r
 reaches_leads image zero (suc k) from to h r =
     or_first (from == to)
     (list_any (λ (f : ImageField). (f.form == 8) && rule.leads_within k image to f.n) (class_fields image from))
     (option_map_or (λ (c : ImageClass). rule.leads_within k image to c.base) (slice_get image.classes from) false)
-    (same_test from to r)
+    (equal from to r)
 reaches_leads image (suc n) zero from to h r = absurd (omega (arith, h))
 reaches_leads image (suc n) (suc k) from to h r =
     let rest : rule.leads_within k image to r.0 ≡ true = reaches_leads image n k r.0 to (omega (arith, h)) r.2 in

@@ -46,6 +46,7 @@ use Rattle.scode_sound.proofs.Members.{fields_grow}
 use Rattle.scode_sound.proofs.Keeping.{Now, load_holds, store_holds, read_buf_holds}
 use Rattle.scode_sound.proofs.Plain.{IsOf, cell_is, image_kind, nothing, plain_read, sound_from, to_plain}
 use Rattle.scode_sound.proofs.Stacks.{Cell, Lands, Takes, one_off, two_off, three_off, push_it, no_push_it}
+use Rattle.scode_sound.proofs.Booleans.{not_none}
 
 -- what stands at a place: a form, and an object's class
 pub record StandsAt (w : Setting) (spot : Spot) (f : FieldForm) : Type 0 where
@@ -72,10 +73,6 @@ fields_are w Component path at e =
 fields_are w Statics [] at e = no_value at e
 fields_are w Statics (j ∷ path) at e =
     ap (λ (o : Option ℕ). fields_from w Statics (j ∷ path) o) (class_is w Statics (j ∷ path) ∙ e)
-
-not_none : (o : Option ℕ) → is_some o ≡ true → (i : ℕ) × (o ≡ Some i)
-not_none None h = no_truth h
-not_none (Some i) h = (i, refl)
 
 same_forms : (form offset n : ℕ) (f : ImageField) → is_field form offset n f ≡ true
     → form_of f ≡ form_of (record { offset = offset; form = form; n = n })

@@ -45,10 +45,11 @@ use Rattle.scode_whole.proofs.Bases.{slots_at}
 use Rattle.scode_whole.proofs.Rule.{ClassAgrees, class_agrees}
 use Rattle.scode_whole.proofs.Truths.{four, no_truth, of_mapped, passes, there, through, is_not}
 use Rattle.scode_sound.specs.Over.{setting_of}
-use Rattle.scode_sound.proofs.Rules.{Concrete, Tables, second}
+use Rattle.scode_sound.proofs.Rules.{Concrete, Tables}
 use Rattle.scode_sound.proofs.Cells.{Fit, HasKind, Object, classes_of}
 use Rattle.scode_sound.proofs.Members.{InTable, Received, all_same, has_code, received, table_at, table_below}
 use Rattle.scode_sound.proofs.Arguments.{kinds_of}
+use Rattle.scode_sound.proofs.Booleans.{not_first, second}
 
 -- ---- a class of which components are made
 
@@ -245,10 +246,6 @@ action_argument w false false true d e p q v h = argument_fits w argument.Void v
 action_argument w false false false true e p q v h = argument_fits w argument.Bool v h
 action_argument w false false false false true p q v h = argument_fits w argument.Int v h
 action_argument w false false false false false p q v h = argument_fits w argument.Long v h
-
-not_first : (a b : Bool) → a ≡ false → (a || b) ≡ true → b ≡ true
-not_first true b e h = no_truth (sym e)
-not_first false b e h = h
 
 no_between : (f : ℕ) → nat_le f 5 ≡ false → is_between 1 5 f ≡ false
 no_between f e = by_test (is_between 1 5 f) refl

@@ -18,7 +18,8 @@ use Rattle.scode_code.specs.Tables.{class_fields, form_of, primitive_of}
 use Rattle.scode_whole.proofs.Bases.{fields_at}
 use Rattle.scode_whole.proofs.Rule.{Agrees, agrees}
 use Rattle.scode_whole.proofs.SlotFields.{form_prim, form_str, form_buf}
-use Rattle.scode_whole.proofs.Truths.{no_truth, no_value, two, three, four, five, nine, is_not, passes, at_number}
+use Rattle.scode_whole.proofs.Truths.{no_value, two, three, four, five, nine, is_not, passes, at_number}
+use Rattle.scode_sound.proofs.Booleans.{second}
 
 pub record Tables (image : Image) : Type 0 where
   pub whole : Agrees image
@@ -115,10 +116,6 @@ pub stands_at : {X : Type 0} (xs : List X) (k : ℕ) → k < length xs → (x : 
 stands_at [] k h = absurd (omega (arith, h))
 stands_at (x ∷ xs) zero h = (x, refl)
 stands_at (x ∷ xs) (suc k) h = stands_at xs k (omega (arith, h))
-
-pub second : (a b : Bool) → a ≡ true → (not a || b) ≡ true → b ≡ true
-second true b e h = h
-second false b e h = no_truth e
 
 inline_concrete : (image : Image) (class : ℕ) (c : ImageClass) → slice_get image.classes class ≡ Some c
     → rule.none_or (option_and_then (λ d. Some (rule.may_be_inline d)) (slice_get image.classes class)) ≡ true

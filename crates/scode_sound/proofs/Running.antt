@@ -40,22 +40,23 @@ use Rattle.scode_sound.proofs.Members.{InTable, Received, has_code, received, me
 use Rattle.scode_sound.proofs.Characters.{byte_at}
 use Rattle.scode_sound.proofs.Keeping.{Fitting, turn_fitting}
 use Rattle.scode_sound.proofs.Fine as machines
-use Rattle.scode_sound.proofs.Fine.{first_false, not_not}
+use Rattle.scode_sound.proofs.Points as points
+use Rattle.scode_sound.proofs.Booleans.{not_none, not_not}
 use Rattle.scode_sound.proofs.Stacks.{Takes, takes}
 use Rattle.scode_sound.proofs.Objects.{class_is}
 use Rattle.scode_sound.proofs.Arguments.{arguments, kinds_of, locals_fit, receiver_is}
 
 module _ (w : Setting) (is : Tables w.image) (own : Concrete w.image w.class) (given : ℕ) (shapes : Shapes)
     (verified : IsVerifiedBy w.image shapes) (machine : Machine)
-    (now_fine : machines.FineAt w is own given shapes verified machine) where
+    (now_fine : points.FineAt w given shapes machine) where
   abbrev Better : ℕ → Point → Type 0
-  Better n q = machines.Better w is own given shapes verified n q
+  Better n q = points.Better w given shapes n q
 
   abbrev left_of : ℕ → ℕ → ℕ
-  left_of method place = machines.left_of w is own given shapes verified method place
+  left_of method place = points.left_of w method place
 
   abbrev AllWait : ImageKind → List Frame → Type 0
-  AllWait k fs = machines.AllWait w is own given shapes verified k fs
+  AllWait k fs = points.AllWait w given shapes k fs
 
   abbrev Here : Op → Type 0
   Here i = machines.Here w is own given shapes verified machine now_fine i
@@ -102,7 +103,7 @@ module _ (w : Setting) (is : Tables w.image) (own : Concrete w.image w.class) (g
   abbrev fitting : Fitting w given sh
   fitting = now_fine.fitting
 
-  abbrev waits : AllWait (machines.result_of w is own given shapes verified method) below
+  abbrev waits : AllWait (points.result_of w method) below
   waits = now_fine.waits
 
   abbrev frame : Frame
@@ -158,16 +159,16 @@ module _ (w : Setting) (is : Tables w.image) (own : Concrete w.image w.class) (g
           }) else Over (record { result = Err (Traps TooDeep); shared = turn_taken sh }))
       enter false = trapped TooDeep (turn_taken sh) (turn_fitting w given sh fitting)
       enter true =
-          let some : 0 < sh.turns = machines.positive w is own given shapes verified sh.turns z in
-          let j = machines.code_there w is own given shapes verified number 0 c (first_shape c) e first in
-          let p = machines.goes_parts w is own given shapes verified (first_shape c) first.reached first.goes in
-          let q = machines.goes_parts w is own given shapes verified (after w.image shape i) back.reached back.goes in
+          let some : 0 < sh.turns = points.positive sh.turns z in
+          let j = points.code_there w given shapes verified number 0 c (first_shape c) e first in
+          let p = points.goes_parts w (first_shape c) first.reached first.goes in
+          let q = points.goes_parts w (after w.image shape i) back.reached back.goes in
           let count : length (locals_after shape i) ≡ length m.locals =
           ap (λ (ks : List ImageKind). length ks) same ∙ many in
           let own_locals : Fit w (locals_after shape i) locals =
           subst (λ (ks : List ImageKind). Fit w ks locals) (sym same) fit_locals in
-          let most = machines.left_most w is own given shapes verified number 0 c e in
-          let pays = paid sh.turns (machines.longest w is own given shapes verified) (left_of number 0) some most in
+          let most = points.left_most w number 0 c e in
+          let pays = paid sh.turns (points.longest w) (left_of number 0) some most in
           let on_less = machines.next_less w is own given shapes verified machine now_fine i h.instruction no_turn
           start_next in
           let here = machines.left_is w is own given shapes verified machine now_fine place in
@@ -175,7 +176,7 @@ module _ (w : Setting) (is : Tables w.image) (own : Concrete w.image w.class) (g
           record {
             fine = record {
               shape = first.reached;
-              at = machines.reached_at w is own given shapes verified number 0 c (first_shape c) e
+              at = points.reached_at w given shapes number 0 c (first_shape c) e
                   (first_start c.code j.0 j.1) refl first;
               fit_locals = all_goes w is c.locals first.reached.locals (locals_of c args) p.0
                   (locals_fit w is c args (method_rule w.image is number c e) fit_args);
@@ -186,10 +187,10 @@ module _ (w : Setting) (is : Tables w.image) (own : Concrete w.image w.class) (g
                 place = place + size_of i;
                 locals = locals;
                 stack = rest;
-              } ∷ below)) (sym (machines.result_is w is own given shapes verified number c e)) (
+              } ∷ below)) (sym (points.result_is w number c e)) (
                 record {
                   shape = back.reached;
-                  at = machines.reached_at w is own given shapes verified method (place + size_of i) m
+                  at = points.reached_at w given shapes method (place + size_of i) m
                       (after w.image shape i) known start_next count back;
                   fit_locals = all_goes w is (locals_after shape i) back.reached.locals locals q.0 own_locals;
                   kinds = kinds;
@@ -341,14 +342,10 @@ module _ (w : Setting) (is : Tables w.image) (own : Concrete w.image w.class) (g
     on_args [] f = absurd f
     on_args (v ∷ vs) f = on_receiver v vs f.0 f.1
 
-  some_number : (o : Option ℕ) → is_some o ≡ true → (n : ℕ) × (o ≡ Some n)
-  some_number None h = no_truth h
-  some_number (Some n) h = (n, refl)
-
   virtual_it : (class slot : ℕ) → Here (op.VirtualCall class slot)
       → LeadsOn (place + size_of (op.VirtualCall class slot)) (effect w (op.VirtualCall class slot) stack s0)
   virtual_it class slot h =
-      let n = some_number (table_method w.image class slot)
+      let n = not_none (table_method w.image class slot)
       (not_not (is_some (table_method w.image class slot)) h.fine.numbers) in
       let c = through (λ (y : ImageClass). slice_get y.table slot) (slice_get w.image.classes class) n.0 n.1 in
       let x = table_there w.image is class slot n.0 c.0 c.1 c.2 in
@@ -407,8 +404,8 @@ enough_cells image m shape i h = grind (arith, h)
 
 module _ (w : Setting) (is : Tables w.image) (own : Concrete w.image w.class) (given : ℕ) (shapes : Shapes)
     (verified : IsVerifiedBy w.image shapes) where
-  pub step_better : (x : Machine) → machines.FineAt w is own given shapes verified x
-      → machines.Better w is own given shapes verified (machines.potential w is own given shapes verified (AtWork x))
+  pub step_better : (x : Machine) → points.FineAt w given shapes x
+      → points.Better w given shapes (points.potential w (AtWork x))
       (step w (AtWork x))
   step_better x fine =
       let v : Stands w.image shapes x.top.method x.top.place fine.shape =
@@ -423,9 +420,9 @@ module _ (w : Setting) (is : Tables w.image) (own : Concrete w.image w.class) (g
       not_not (all_meet w.image (wants_of w.image fine.shape v.i).takes fine.shape.stack) v.fine.kinds in
       let here : op_at (code_of w.image x.top.method) x.top.place ≡ Some v.i =
       ap (λ (code : List ℕ). op_at code x.top.place)
-      (machines.code_is w is own given shapes verified x.top.method v.m v.there) ∙ v.instruction in
+      (points.code_is w x.top.method v.m v.there) ∙ v.instruction in
       subst (λ (o : Option Op).
-      machines.Better w is own given shapes verified (machines.potential w is own given shapes verified (AtWork x))
+      points.Better w given shapes (points.potential w (AtWork x))
       (act w o x.top x.below x.shared)) (sym here)
       (instruction_better w is own given shapes verified x fine v.i (record {
         instruction = subst (λ (y : ImageMethod). op_at y.code x.top.place ≡ Some v.i) same v.instruction;

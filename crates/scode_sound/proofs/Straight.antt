@@ -45,6 +45,7 @@ use Rattle.scode_sound.proofs.Plain.{IsPlain, compared_is, image_kind, nothing, 
 use Rattle.scode_sound.proofs.Stacks.{Cell, Lands, Takes, chooses, one_off, two_off, push_it}
 use Rattle.scode_sound.proofs.Objects as objects
 use Rattle.scode_sound.proofs.Strs as strs
+use Rattle.scode_sound.proofs.Booleans.{not_not}
 
 abbrev pub is_straight : Op → Bool
 is_straight (op.Store i) = false
@@ -54,10 +55,6 @@ is_straight (op.VirtualCall class place) = false
 is_straight op.Return = false
 is_straight op.ReturnValue = false
 is_straight other = true
-
-not_not : (b : Bool) → not b ≡ false → b ≡ true
-not_not true h = refl
-not_not false h = no_truth (sym h)
 
 module _ (w : Setting) (is : Tables w.image) (own : Concrete w.image w.class) (given turns : ℕ)
     (locals : List Val) where
