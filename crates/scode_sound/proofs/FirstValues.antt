@@ -21,11 +21,10 @@ use Rattle.scode_code.specs.Contents.{buf_at, bytes_at, class_bytes, field_begun
 use Rattle.scode_code.specs.Fields.{Setting}
 use Rattle.scode_code.specs.TableRules as rule
 use Rattle.scode_code.specs.Tables.{class_fields, form_of, primitive_of, shape_of}
-use Rattle.scode_whole.proofs.FirstFits.{shapes_of}
 use Rattle.scode_whole.proofs.SlotFields.{form_prim, form_str, form_buf}
 use Rattle.scode_whole.proofs.Truths.{no_truth, no_value, passes, same_value}
-use Rattle.scode_sound.proofs.Rules.{Concrete, Tables, form_object, form_array, statics_rule}
-use Rattle.scode_sound.proofs.Cells.{form_from}
+use Rattle.scode_sound.specs.Cells.{Concrete, form_from, shapes_of}
+use Rattle.scode_sound.proofs.Rules.{Tables, form_object, form_array, statics_rule}
 use Rattle.scode_sound.proofs.Nesting.{Nested, all_nested}
 use Rattle.scode_sound.proofs.Booleans.{second}
 
