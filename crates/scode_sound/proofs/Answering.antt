@@ -25,13 +25,15 @@ use Rattle.scode_code.specs.Steps.{longest_of, steps}
 use Rattle.scode_code.specs.Verified.{IsVerifiedBy, Leads, Shapes}
 use Rattle.scode_whole.proofs.Truths.{same_value}
 use Rattle.scode_whole.proofs.Whole.{first_rule}
+use Rattle.scode_sound.specs.Cells.{Concrete, Fit}
+use Rattle.scode_sound.specs.Fine.{Fine, FineOver, Fitting}
+use Rattle.scode_sound.specs.Potential.{potential}
 use Rattle.scode_sound.specs.Over.{IsOverWithin, IsTyped, setting_of, shared_of}
 use Rattle.scode_sound.proofs.Left.{first_start}
-use Rattle.scode_sound.proofs.Rules.{Concrete, Tables, method_rule, tables}
-use Rattle.scode_sound.proofs.Cells.{Fit, all_goes}
-use Rattle.scode_sound.proofs.Keeping.{Fitting}
+use Rattle.scode_sound.proofs.Rules.{Tables, method_rule, tables}
+use Rattle.scode_sound.proofs.Cells.{all_goes}
 use Rattle.scode_sound.proofs.Arguments.{kinds_of, locals_fit}
-use Rattle.scode_sound.proofs.Points.{Fine, FineOver, code_there, goes_parts, left_most, potential, reached_at}
+use Rattle.scode_sound.proofs.Points.{code_there, goes_parts, left_most, reached_at}
 use Rattle.scode_sound.proofs.Finishing.{Finished, finishes, over_within}
 use Rattle.scode_sound.proofs.Roots.{Asks, Runs, Rests, IsComponentClass, asks, component_class}
 
@@ -80,15 +82,15 @@ module _ (w : Setting) (is : Tables w.image) (own : Concrete w.image w.class) (g
       (begins (Some m) number value s) begun_fine
       begun_left)
 
-  run_fine : FineOver w given shapes (run_method w (Some number) value s)
+  run_fine : FineOver w given (run_method w (Some number) value s)
   run_fine =
       let f : Finished w is own given shapes verified
       (steps w (most_steps w.image s.turns) (begins (Some m) number value s)) =
       finishes w is own given shapes verified (most_steps w.image s.turns) (begins (Some m) number value s) begun_fine
       begun_left in
-      subst (λ (p : Point). FineOver w given shapes (ended (steps w (most_steps w.image s.turns) p)))
+      subst (λ (p : Point). FineOver w given (ended (steps w (most_steps w.image s.turns) p)))
       (sym begins_is)
-      (subst (λ (p : Point). FineOver w given shapes (ended p)) (sym f.over) f.fine)
+      (subst (λ (p : Point). FineOver w given (ended p)) (sym f.over) f.fine)
 
 -- ---- what is asked
 
@@ -137,13 +139,13 @@ module _ (image : Image) (clean : IsVerified image) (shapes : Shapes) (verified 
   known = known_of image agreed q may
 
   abbrev IsFineEnd : Called → Type 0
-  IsFineEnd c = FineOver w q.turns shapes c
+  IsFineEnd c = FineOver w q.turns c
 
   call_fine : IsFineEnd (start_root w (root_method image q.class q.which) (argument_of q.argument) (shared_of q))
   call_fine = by_asked known.asked
     where
       by_asked : Asks image q
-          → FineOver (setting_of image q) q.turns shapes
+          → FineOver (setting_of image q) q.turns
           (start_root (setting_of image q) (root_method image q.class q.which) (argument_of q.argument) (shared_of q))
       by_asked (Runs number m value method_is value_is e code fits) =
           subst (λ (r : Result (Option ℕ) Stop).
@@ -188,4 +190,35 @@ module _ (image : Image) (clean : IsVerified image) (shapes : Shapes) (verified 
           (begins (slice_get image.methods n) n x (shared_of q))) values
           (run_over w agreed known.component.known q.turns shapes verified n m v (shared_of q) e code fits
           (fitting_of image q may)))
+      by_asked (Rests v n_is v_is) = ok_none number (sym n_is ∙ method_is)
+
+  -- a fine point with no more steps left than the bound
+  abbrev IsBegun : Point → Type 0
+  IsBegun p = Fine w q.turns shapes p × (potential w p ≤ most_steps image q.turns)
+
+  pub begins_fine : (number : ℕ) (value : Val) → root_method image q.class q.which ≡ Ok (Some number)
+      → argument_of q.argument ≡ Ok value
+      → Fine w q.turns shapes (begins (slice_get image.methods number) number value (shared_of q))
+      × (potential w (begins (slice_get image.methods number) number value (shared_of q)) ≤ most_steps image q.turns)
+  begins_fine number value method_is value_is = by_asked known.asked
+    where
+      by_asked : Asks image q
+          → Fine (setting_of image q) q.turns shapes
+          (begins (slice_get image.methods number) number value (shared_of q))
+          × (potential (setting_of image q) (begins (slice_get image.methods number) number value (shared_of q))
+          ≤ most_steps image q.turns)
+      by_asked (Runs n m v n_is v_is e code fits) =
+          let same_number : Some n ≡ Some number = ok_eq (Some n) (Some number) (sym n_is ∙ method_is) in
+          let numbers : n ≡ number = same_value n number same_number in
+          let values : v ≡ value = ok_eq v value (sym v_is ∙ value_is) in
+          subst (λ (x : ℕ). IsBegun (begins (slice_get image.methods x) x value (shared_of q))) numbers
+          (subst (λ (x : Val). IsBegun (begins (slice_get image.methods n) n x (shared_of q))) values
+          (subst (λ (p : Point). IsBegun p)
+          (sym (begins_is w agreed known.component.known q.turns shapes verified n m v (shared_of q) e code fits
+          (fitting_of image q may))) (
+            begun_fine w agreed known.component.known q.turns shapes verified n m v (shared_of q) e code fits
+                (fitting_of image q may),
+            begun_left w agreed known.component.known q.turns shapes verified n m v (shared_of q) e code fits
+                (fitting_of image q may),
+          )))
       by_asked (Rests v n_is v_is) = ok_none number (sym n_is ∙ method_is)

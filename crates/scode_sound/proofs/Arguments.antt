@@ -19,8 +19,9 @@ use Rattle.scode_code.specs.Kinds.{object, same_kind}
 use Rattle.scode_code.specs.TableRules as rule
 use Rattle.scode_code.specs.Wants.{Goes}
 use Rattle.scode_whole.proofs.Rows.{begins_with}
+use Rattle.scode_sound.specs.Cells.{Fit, HasKind}
 use Rattle.scode_sound.proofs.Rules.{MethodRule, Tables}
-use Rattle.scode_sound.proofs.Cells.{Fit, HasKind, fit_append, fit_length, goes, same_kinds, zeros_fit}
+use Rattle.scode_sound.proofs.Cells.{fit_append, fit_length, goes, same_kinds, zeros_fit}
 use Rattle.scode_sound.proofs.Stacks.{Takes}
 
 -- the kinds of a method's receiver, of this class, and of its parameters

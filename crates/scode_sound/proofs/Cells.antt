@@ -1,22 +1,17 @@
 -- Cells of a kind: what fits a kind goes on to fit the kinds to which it goes.
 use Rattle.std.proofs.Common.{◌≡◌, ◌<◌, ◌≤◌, ◌==◌, ◌&&◌, ◌||◌, ◌⊎◌, inl, inr, not, nat_le, ℕ, zero, suc, Bool, true, false, if◌then◌else◌, List, [], ◌∷◌, ◌++◌, length, map, Option, Some, refl, sym, ap, subst, ◌∙◌, arith}
 use Rattle.std.specs.Prelude.{slice_get, slice_set, pos}
-use Rattle.std.specs.Int.{w32, w64}
-use Rattle.std.specs.List.{list_all}
+use Rattle.std.specs.List.{list_all, list_any}
 use Rattle.std.specs.Option.{option_map}
 use Rattle.std.proofs.lemmas.Bool.{and_parts, eqb-true, leb-true}
 use Rattle.std.proofs.lemmas.Bool.Decides.{nat_tests}
+use Rattle.std.proofs.lemmas.List.{length-map}
 use Rattle.std.proofs.lemmas.Option.{slice_get_within}
-use Rattle.sed_value.specs.Value.{is_signed}
 use Rattle.sed_typed.specs.declared.number.TypeNo.{TypeNo}
-use Rattle.sed_typed.specs.declared.program.FieldForm.{FieldForm}
-use Rattle.sed_typed.specs.declared.program.FieldForm.TheVariants as form
 use Rattle.sed_typed.specs.declared.schema.ClassInfo.{ClassInfo}
-use Rattle.sed_typed.specs.Classes.{base_of}
-use Rattle.sed_typed.specs.Contents.{Path}
-use Rattle.sed_typed.specs.Objects.{object_in, static_object_in}
-use Rattle.sed_engine.specs.Fits.{form_of as form_in}
-use Rattle.sed_engine.specs.Values.{Val, Nothing, Truth, Int, Long, Null, At, Literal, Base, Component, Statics, Spot}
+use Rattle.sed_typed.specs.Classes.{base_of, reached}
+use Rattle.sed_engine.specs.Values.{Val, Nothing, Truth, Int, Long, Null, At, Literal, Spot}
+use Rattle.sed_engine.proofs.FirstFits.{equal}
 use Rattle.sed_engine.proofs.Below.{Below, Itself, Based, below_of, below_then}
 use Rattle.scode_image.specs.declared.image.Image.{Image}
 use Rattle.scode_image.specs.declared.image.ImageKind.{ImageKind}
@@ -25,52 +20,16 @@ use Rattle.scode_code.specs.CodeRules.{with_kind}
 use Rattle.scode_code.specs.Fields.{Setting}
 use Rattle.scode_code.specs.Kinds.{all_go, goes_to, is_at_or_above, is_null, is_object, is_statics, is_str, same_kind}
 use Rattle.scode_code.specs.TableRules as rule
-use Rattle.scode_code.specs.Tables.{class_fields, class_of as info_of, form_of, schema_of, shape_of}
+use Rattle.scode_code.specs.Tables.{class_of as info_of, schema_of}
+use Rattle.scode_whole.proofs.Bases.{follows}
 use Rattle.scode_whole.proofs.Kits.{classes_most}
-use Rattle.scode_whole.proofs.FirstFits.{shapes_of}
 use Rattle.scode_whole.proofs.Truths.{no_truth, no_value, same_value, two, three, either, of_mapped, through}
-use Rattle.scode_sound.proofs.Rules.{Concrete, Tables}
-
--- ---- what stands at a place
-
--- the form at a place, in a root call on a component of this class
-abbrev pub form_from : Setting → Base → Path → Option FieldForm
-form_from w Component path = form_in (shapes_of w.image) (shapes_of w.image w.class) path
-form_from w Statics path = form_in (shapes_of w.image) (map shape_of w.image.static_fields) path
-
--- the class of the object at a place
-abbrev pub class_from : Setting → Base → Path → Option ℕ
-class_from w Component path = object_in form_of (class_fields w.image) path (Some w.class)
-class_from w Statics path = static_object_in form_of (class_fields w.image) w.image.static_fields path
+use Rattle.scode_sound.specs.Cells.{Block, Concrete, Fit, HasKind, LeadsTo, Object, Text, class_from}
+use Rattle.scode_sound.proofs.Booleans.{or_right}
+use Rattle.scode_sound.proofs.Rules.{Tables}
 
 abbrev pub classes_of : Image → List ClassInfo
 classes_of image = (schema_of image).classes
-
--- ---- cells
-
--- what a reference of a kind leads to: a Str, the static block, or an object of the kind's class or of one below it
-pub data LeadsTo (w : Setting) (k : ImageKind) (spot : Spot) : Type 0 where
-  Text : k.kind ≡ 4 → (n : ℕ) → form_from w spot.base spot.path ≡ Some (form.Str n) → LeadsTo w k spot
-  Block : k.kind ≡ 6 → k.class ≡ 0xffff → spot ≡ record { base = Statics; path = [] } → LeadsTo w k spot
-  Object : k.kind ≡ 6 → (at : ℕ) → class_from w spot.base spot.path ≡ Some at → Concrete w.image at
-      → Below (classes_of w.image) k.class at → LeadsTo w k spot
-
--- null is of all kinds of references
-abbrev pub HasKind : Setting → ImageKind → Val → Type 0
-HasKind w k Nothing = ⊥
-HasKind w k (Truth t) = (k.kind ≡ 1) × (nat_le t 2 ≡ true)
-HasKind w k (Int n) = (k.kind ≡ 2) × (is_signed w32 n ≡ true)
-HasKind w k (Long n) = (k.kind ≡ 3) × (is_signed w64 n ≡ true)
-HasKind w k Null = (4 ≤ k.kind) × (k.kind ≤ 6)
-HasKind w k (At spot) = LeadsTo w k spot
-HasKind w k (Literal n) = (k.kind ≡ 4) × (n < length w.image.texts)
-
--- cells one by one
-abbrev pub Fit : Setting → List ImageKind → List Val → Type 0
-Fit w [] [] = Unit {0}
-Fit w [] (v ∷ vs) = ⊥
-Fit w (k ∷ ks) [] = ⊥
-Fit w (k ∷ ks) (v ∷ vs) = HasKind w k v × Fit w ks vs
 
 -- ---- the class 0xffff is none
 
@@ -88,6 +47,35 @@ alone : (image : Image) → Tables image → (above class : ℕ) → class ≡ 0
 alone image is above class e Itself = e
 alone image is above class e (Based base low b rest) =
     absurd (no_base image is base (ap (base_of (classes_of image)) (sym e) ∙ b))
+
+-- ---- a class at or above another, by the test
+
+in_reached : (classes : List ClassInfo) → ((at base : ℕ) → base_of classes at ≡ Some base → base < at)
+    → (n above class : ℕ) → class < n → Below classes above class
+    → list_any (λ c. c == above) (reached (base_of classes) n (Some class)) ≡ true
+in_reached classes falls zero above class low b = absurd (omega (arith, low))
+in_reached classes falls (suc n) above class low Itself =
+    ap (λ (b : Bool). b || list_any (λ c. c == class) (reached (base_of classes) n (base_of classes class)))
+    (equal class class refl)
+in_reached classes falls (suc n) above class low (Based base low_class e rest) =
+    let before : base < class = falls class base e in
+    or_right (class == above) (list_any (λ c. c == above) (reached (base_of classes) n (base_of classes class)))
+    (subst (λ (o : Option ℕ). list_any (λ c. c == above) (reached (base_of classes) n o) ≡ true) (sym e)
+    (in_reached classes falls n above base (omega (arith, low, before)) rest))
+
+pub by_test : (image : Image) → Tables image → (above class : ℕ) → Concrete image class
+    → Below (classes_of image) above class → is_at_or_above image above class ≡ true
+by_test image is above class known b =
+    let inside = slice_get_within image.classes class known.info known.stands in
+    let all : length (classes_of image) ≡ length image.classes = length-map image.classes info_of in
+    in_reached (classes_of image) (λ at base e. (follows image is.whole at base e).before) (length (classes_of image))
+    above class (omega (arith, inside, all)) b
+
+-- an object of a class, or of one below it
+pub an_object : (w : Setting) → Tables w.image → (k : ImageKind) (spot : Spot) → k.kind ≡ 6 → (at : ℕ)
+    → class_from w spot.base spot.path ≡ Some at → Concrete w.image at → Below (classes_of w.image) k.class at
+    → LeadsTo w k spot
+an_object w is k spot e at x c b = Object e at x c (by_test w.image is k.class at c b)
 
 -- ---- kinds that go to others
 
@@ -125,7 +113,8 @@ module _ (w : Setting) (is : Tables w.image) where
   from_object k l Null e f b h = (omega (arith, f), omega (arith, f))
   from_object k l (At spot) e f b (Text g n x) = absurd (omega (arith, e, g))
   from_object k l (At spot) e f b (Block g c s) = Block f (alone w.image is l.class k.class c b) s
-  from_object k l (At spot) e f b (Object g at c d low) = Object f at c d (below_then b low)
+  from_object k l (At spot) e f b (Object g at c d low) =
+      an_object w is l spot f at c d (below_then b (below_of (classes_of w.image) k.class at low))
   from_object k l (Literal n) e f b h = absurd (omega (arith, e, h.0))
 
   pub goes : (k l : ImageKind) (v : Val) → goes_to w.image k l ≡ true → Has k v → Has l v

@@ -26,13 +26,16 @@ use Rattle.scode_code.specs.Steps.{effect}
 use Rattle.scode_code.specs.Verified.{IsFine, IsVerifiedBy, Leads, MayJump, Shapes}
 use Rattle.scode_code.specs.Wants.{Anything, result_cells, wants_of}
 use Rattle.scode_whole.proofs.Truths.{no_truth, same_value}
-use Rattle.scode_sound.proofs.Left.{at_back, at_later, at_some, left_at, next_start, paid, size_some}
-use Rattle.scode_sound.proofs.Rules.{Concrete, Tables, stands_at}
-use Rattle.scode_sound.proofs.Cells.{Fit, HasKind, all_goes, goes as cell_goes, fit_length, fit_set}
-use Rattle.scode_sound.proofs.Keeping.{Fitting, Now, turn_fitting}
+use Rattle.scode_sound.specs.Potential.{left_at, left_of, longest, weigh}
+use Rattle.scode_sound.specs.Cells.{Concrete, Fit, HasKind}
+use Rattle.scode_sound.specs.Fine.{AllWait, FineAt, Fitting, result_of}
+use Rattle.scode_sound.proofs.Left.{at_back, at_later, at_some, next_start, paid, size_some}
+use Rattle.scode_sound.proofs.Rules.{Tables, stands_at}
+use Rattle.scode_sound.proofs.Cells.{all_goes, goes as cell_goes, fit_length, fit_set}
+use Rattle.scode_sound.proofs.Keeping.{Now, turn_fitting}
 use Rattle.scode_sound.proofs.Stacks.{Lands, Takes, pushed_fits}
 use Rattle.scode_sound.proofs.Straight.{is_straight, straight}
-use Rattle.scode_sound.proofs.Points.{AllWait, Better, FineAt, code_is, code_there, goes_parts, left_most, left_of, longest, positive, reached_at, result_is, result_of, weigh}
+use Rattle.scode_sound.proofs.Points.{Better, code_is, code_there, goes_parts, left_most, positive, reached_at, result_is}
 use Rattle.scode_sound.proofs.Booleans.{first_false, not_not, second_false}
 
 straight_keeps : (shape : Shape) (i : Op) → is_straight i ≡ true → locals_after shape i ≡ shape.locals
@@ -108,7 +111,7 @@ module _ (w : Setting) (is : Tables w.image) (own : Concrete w.image w.class) (g
     abbrev pub fitting : Fitting w given sh
     fitting = now_fine.fitting
 
-    abbrev pub waits : AllWait w given shapes (result_of w method) below
+    abbrev pub waits : AllWait w shapes (result_of w method) below
     waits = now_fine.waits
 
     abbrev pub frame : Frame
@@ -327,10 +330,10 @@ module _ (w : Setting) (is : Tables w.image) (own : Concrete w.image w.class) (g
 
     -- ---- out of the method
 
-    waits_own : AllWait w given shapes m.result below
-    waits_own = subst (λ (k : ImageKind). AllWait w given shapes k below) (result_is w method m known) waits
+    waits_own : AllWait w shapes m.result below
+    waits_own = subst (λ (k : ImageKind). AllWait w shapes k below) (result_is w method m known) waits
 
-    leaves : (v : Val) → HasResult w m.result v → (fs : List Frame) → AllWait w given shapes m.result fs → fs ≡ below
+    leaves : (v : Val) → HasResult w m.result v → (fs : List Frame) → AllWait w shapes m.result fs → fs ≡ below
         → Better w given shapes now (returned v fs sh)
     leaves v h [] ws same = record { fine = record { typed = tt; fitting = fitting }; less = some_left }
     leaves v h (g ∷ fs) ws same =

@@ -6,9 +6,11 @@ use Rattle.scode_code.specs.Fields.{Setting}
 use Rattle.scode_code.specs.Machine.{Point, At as AtWork, Over}
 use Rattle.scode_code.specs.Steps.{step, steps}
 use Rattle.scode_code.specs.Verified.{IsVerifiedBy, Shapes}
+use Rattle.scode_sound.specs.Cells.{Concrete}
+use Rattle.scode_sound.specs.Fine.{Fine, FineOver}
+use Rattle.scode_sound.specs.Potential.{potential}
 use Rattle.scode_sound.specs.Over.{IsNotStuck, IsOverWithin}
-use Rattle.scode_sound.proofs.Rules.{Concrete, Tables}
-use Rattle.scode_sound.proofs.Points.{Fine, FineOver, potential}
+use Rattle.scode_sound.proofs.Rules.{Tables}
 use Rattle.scode_sound.proofs.Running.{step_better}
 
 module _ (w : Setting) (is : Tables w.image) (own : Concrete w.image w.class) (given : ℕ) (shapes : Shapes)
@@ -17,7 +19,7 @@ module _ (w : Setting) (is : Tables w.image) (own : Concrete w.image w.class) (g
   pub record Finished (p : Point) : Type 0 where
     pub called : Called
     pub over : p ≡ Over called
-    pub fine : FineOver w given shapes called
+    pub fine : FineOver w given called
 
   pub finishes : (n : ℕ) (p : Point) → Fine w given shapes p → potential w p ≤ n → Finished (steps w n p)
   unfolding steps

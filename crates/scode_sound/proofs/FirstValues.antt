@@ -17,15 +17,14 @@ use Rattle.sed_engine.specs.Values.{Component, Statics}
 use Rattle.sed_engine.proofs.FirstPaths.{IsLeaf, has}
 use Rattle.scode_image.specs.declared.image.Image.{Image}
 use Rattle.scode_image.specs.declared.image.ImageField.{ImageField}
-use Rattle.scode_code.specs.Contents.{buf_at, bytes_at, class_bytes, field_begun, initial, initial_statics, object_begun, primitive_at}
+use Rattle.scode_code.specs.Contents.{buf_at, bytes_at, class_bytes, field_held, initial, initial_statics, object_held, primitive_at}
 use Rattle.scode_code.specs.Fields.{Setting}
 use Rattle.scode_code.specs.TableRules as rule
 use Rattle.scode_code.specs.Tables.{class_fields, form_of, primitive_of, shape_of}
-use Rattle.scode_whole.proofs.FirstFits.{shapes_of}
 use Rattle.scode_whole.proofs.SlotFields.{form_prim, form_str, form_buf}
 use Rattle.scode_whole.proofs.Truths.{no_truth, no_value, passes, same_value}
-use Rattle.scode_sound.proofs.Rules.{Concrete, Tables, form_object, form_array, statics_rule}
-use Rattle.scode_sound.proofs.Cells.{form_from}
+use Rattle.scode_sound.specs.Cells.{Concrete, form_from, shapes_of}
+use Rattle.scode_sound.proofs.Rules.{Tables, form_object, form_array, statics_rule}
 use Rattle.scode_sound.proofs.Nesting.{Nested, all_nested}
 use Rattle.scode_sound.proofs.Booleans.{second}
 
@@ -107,7 +106,7 @@ module _ (image : Image) where
 
   begun_has : (n : ℕ) (object : ℕ → Path → List ℕ → Contents) → ObjectsHave n object → (path : Path) (f : FieldForm)
       (bytes : List ℕ) (offset : ℕ) → Inner image n f → (rest : Path) (g : FieldForm) → IsLeaf g
-      → form_below shapes rest (Some f) ≡ Some g → has (field_begun object path f bytes offset) (path ++ rest) ≡ true
+      → form_below shapes rest (Some f) ≡ Some g → has (field_held object path f bytes offset) (path ++ rest) ≡ true
   begun_has n object objects path (form.Prim p) bytes offset w [] g leaf e =
       one_has path (path ++ []) (primitive_at p bytes offset) (sym (append-nil path))
   begun_has n object objects path (form.Prim p) bytes offset w (j ∷ rest) g leaf e = no_value g e
@@ -139,7 +138,7 @@ module _ (image : Image) where
 
   abbrev begun_all : (ℕ → Path → List ℕ → Contents) → Path → List ℕ → ℕ → List ImageField → Contents
   begun_all object path bytes k all =
-      flat_map (λ (at : ℕ × ImageField). field_begun object (path ++ at.0 ∷ []) (form_of at.1) bytes at.1.offset)
+      flat_map (λ (at : ℕ × ImageField). field_held object (path ++ at.0 ∷ []) (form_of at.1) bytes at.1.offset)
       (enumerate_from k all)
 
   abbrev AllInner : ℕ → List ImageField → Type 0
@@ -152,14 +151,14 @@ module _ (image : Image) where
       → has (begun_all object path bytes k all) (path ++ (k + j) ∷ rest) ≡ true
   fields_have n object objects path bytes k [] w j rest g leaf e = no_value g e
   fields_have n object objects path bytes k (f ∷ fs) w zero rest g leaf e =
-      has_front (field_begun object (path ++ k ∷ []) (form_of f) bytes f.offset)
+      has_front (field_held object (path ++ k ∷ []) (form_of f) bytes f.offset)
       (begun_all object path bytes (k + 1) fs) (path ++ (k + 0) ∷ rest)
-      (subst (λ (p : Path). has (field_begun object (path ++ k ∷ []) (form_of f) bytes f.offset) p ≡ true)
+      (subst (λ (p : Path). has (field_held object (path ++ k ∷ []) (form_of f) bytes f.offset) p ≡ true)
       (append_assoc path (k ∷ []) rest
       ∙ ap (λ (m : ℕ). path ++ m ∷ rest) (let same : k ≡ k + 0 = omega arith in same))
       (begun_has n object objects (path ++ k ∷ []) (form_of f) bytes f.offset w.0 rest g leaf e))
   fields_have n object objects path bytes k (f ∷ fs) w (suc j) rest g leaf e =
-      has_back (field_begun object (path ++ k ∷ []) (form_of f) bytes f.offset)
+      has_back (field_held object (path ++ k ∷ []) (form_of f) bytes f.offset)
       (begun_all object path bytes (k + 1) fs) (path ++ (k + suc j) ∷ rest)
       (subst (λ (m : ℕ). has (begun_all object path bytes (k + 1) fs) (path ++ m ∷ rest) ≡ true)
       (let same : k + 1 + j ≡ k + suc j = omega arith in same)
@@ -170,13 +169,13 @@ module _ (image : Image) where
   all_inner n [] each = tt
   all_inner n (f ∷ fs) each = (each 0 f refl, all_inner n fs (λ i g e. each (suc i) g e))
 
-  objects_have : (n : ℕ) → ObjectsHave n (object_begun image n)
+  objects_have : (n : ℕ) → ObjectsHave n (object_held image n)
   objects_have zero t deep path rest bytes g leaf e = absurd deep
   objects_have (suc n) t deep path [] bytes g leaf e = no_value g e
   objects_have (suc n) t deep path (j ∷ rest) bytes g leaf e =
-      subst (λ (m : ℕ). has (object_begun image (suc n) t path bytes) (path ++ m ∷ rest) ≡ true)
+      subst (λ (m : ℕ). has (object_held image (suc n) t path bytes) (path ++ m ∷ rest) ≡ true)
       (let same : 0 + j ≡ j = omega arith in same)
-      (fields_have n (object_begun image n) (objects_have n) path bytes 0 (class_fields image t)
+      (fields_have n (object_held image n) (objects_have n) path bytes 0 (class_fields image t)
       (all_inner n (class_fields image t)
       (λ i f at. inner_of image n f
       (λ object. deep f.n (record { place = i; field = f; stands = at; object = object; is = refl }))))
@@ -195,7 +194,7 @@ statics_have w is [] g leaf e = no_value g e
 statics_have w is (j ∷ rest) g leaf e =
     subst (λ (m : ℕ). has (initial_statics w.image) (m ∷ rest) ≡ true)
     (let same : 0 + j ≡ j = omega arith in same)
-    (fields_have w.image (length w.image.classes) (object_begun w.image (length w.image.classes))
+    (fields_have w.image (length w.image.classes) (object_held w.image (length w.image.classes))
     (objects_have w.image (length w.image.classes)) [] w.image.static_bytes 0 w.image.static_fields
     (all_inner w.image (length w.image.classes) w.image.static_fields
     (λ i f at. inner_of w.image (length w.image.classes) f (static_nested w is i f at))) j rest g leaf e)

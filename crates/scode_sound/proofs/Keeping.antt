@@ -1,5 +1,5 @@
 -- What every step of the machine leaves: contents and statics that fit.
-use Rattle.std.proofs.Common.{◌≡◌, ◌≤◌, ◌==◌, ◌&&◌, ◌||◌, not, ℕ, Bool, true, false, if◌then◌else◌, List, length, map, Option, Some, Err, refl, sym, subst, ◌∙◌, arith}
+use Rattle.std.proofs.Common.{◌≡◌, ◌≤◌, ◌==◌, ◌&&◌, ◌||◌, not, ℕ, Bool, true, false, if◌then◌else◌, List, length, Option, Some, Err, refl, sym, subst, ◌∙◌, arith}
 use Rattle.std.specs.Int.{w64}
 use Rattle.std.proofs.lemmas.Bool.{and_parts, and_from}
 use Rattle.std.proofs.lemmas.Bool.Decides.{nat_tests}
@@ -10,7 +10,7 @@ use Rattle.sed_value.specs.declared.slot_type.Primitive.TheVariants as prim
 use Rattle.sed_typed.specs.declared.program.FieldForm.{FieldForm}
 use Rattle.sed_typed.specs.declared.program.FieldForm.TheVariants as form
 use Rattle.sed_typed.specs.Contents.{Path, value_at}
-use Rattle.sed_engine.specs.Fits.{Fits, is_kept, keeps}
+use Rattle.sed_engine.specs.Fits.{is_kept, keeps}
 use Rattle.sed_engine.specs.State.{Shared, State, answers}
 use Rattle.sed_engine.specs.Steps.{contents_of, load, read_bytes, replace, store, write_bytes, written_at, turn_taken}
 use Rattle.sed_engine.specs.Stops.{Untyped, there}
@@ -22,20 +22,12 @@ use Rattle.sed_engine.proofs.Ready.{Holds, KeptAt, IsStored, then_holds, gives_i
 use Rattle.sed_engine.proofs.Within.{Within, written_within}
 use Rattle.scode_code.specs.Contents.{initial, initial_statics}
 use Rattle.scode_code.specs.Fields.{Setting}
-use Rattle.scode_code.specs.Tables.{shape_of}
-use Rattle.scode_whole.proofs.FirstFits.{shapes_of}
 use Rattle.scode_whole.proofs.Truths.{no_truth}
-use Rattle.scode_sound.proofs.Rules.{Concrete, Tables}
-use Rattle.scode_sound.proofs.Cells.{form_from}
+use Rattle.scode_sound.specs.Cells.{Concrete, form_from}
+use Rattle.scode_sound.specs.Fine.{Fitting}
+use Rattle.scode_sound.proofs.Rules.{Tables}
 use Rattle.scode_sound.proofs.FirstValues.{initial_has, statics_have}
 use Rattle.scode_sound.proofs.Booleans.{or_right}
-
--- contents and statics fit, the moment is a long, and no more turns are left than were given
-pub record Fitting (w : Setting) (given : ℕ) (s : Shared) : Type 0 where
-  pub contents : Fits (shapes_of w.image) (shapes_of w.image w.class) (initial w.image w.class) s.contents
-  pub statics : Fits (shapes_of w.image) (map shape_of w.image.static_fields) (initial_statics w.image) s.statics
-  pub moment : is_signed w64 s.moment ≡ true
-  pub turns : s.turns ≤ given
 
 abbrev pub forms_of : Setting → Forms
 forms_of w = record { contents = form_from w Component; statics = form_from w Statics }

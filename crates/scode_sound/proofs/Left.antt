@@ -11,22 +11,10 @@ use Rattle.scode_code.specs.CodeRules.{is_turn, is_start, starts, starts_from, s
 use Rattle.scode_code.specs.Steps.{counted_on, counted_within, instruction_count, longest_of}
 use Rattle.scode_whole.proofs.Truths.{no_truth, no_value, same_value}
 use Rattle.sed_engine.proofs.FirstFits.{equal}
+use Rattle.scode_sound.specs.Potential.{extra, here_left, left, left_at, turn_at}
 use Rattle.scode_sound.proofs.Booleans.{or_right}
 
 -- ---- in a list of places that ascends, of which some have a `turn`
-
-abbrev pub extra : Bool → ℕ
-extra true = 1
-extra false = 0
-
--- at a `turn` one; else the instructions from here on, and one more where a `turn` stands before
-abbrev pub here_left : Bool → ℕ → Bool → ℕ
-here_left seen n turn = if turn then 1 else n + extra seen
-
-abbrev pub left : (ℕ → Bool) → Bool → List ℕ → ℕ → ℕ
-left turn seen [] p = 0
-left turn seen (q ∷ qs) p =
-    if q == p then here_left seen (suc (length qs)) (turn q) else left turn (seen || turn q) qs p
 
 abbrev pub stands : List ℕ → ℕ → Bool
 stands all p = list_any (λ q. q == p) all
@@ -300,12 +288,6 @@ longest_is_most (x ∷ xs) (suc n) m e =
     cases false is h = h
 
 -- ---- the instructions that are left at a place of code
-
-abbrev pub turn_at : List ℕ → ℕ → Bool
-turn_at code p = is_turn (op_at code p)
-
-abbrev pub left_at : List ℕ → ℕ → ℕ
-left_at code p = left (turn_at code) false (starts code) p
 
 pub at_most : (code : List ℕ) (p : ℕ) → left_at code p ≤ instruction_count code
 at_most code p =

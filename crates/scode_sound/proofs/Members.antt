@@ -23,7 +23,8 @@ use Rattle.scode_code.specs.Tables.{base_of as own_base, class_fields, class_of 
 use Rattle.scode_whole.proofs.Bases.{fields_at, follows}
 use Rattle.scode_whole.proofs.Rows.{begins_with, one_field}
 use Rattle.scode_whole.proofs.Truths.{no_truth, no_value, same_value, three, four, of_mapped, passes, through}
-use Rattle.scode_sound.proofs.Rules.{ClassRule, Concrete, Tables, class_rule, stands_at}
+use Rattle.scode_sound.specs.Cells.{Concrete}
+use Rattle.scode_sound.proofs.Rules.{ClassRule, Tables, class_rule, stands_at}
 use Rattle.scode_sound.proofs.Cells.{classes_of, same_kinds}
 
 -- ---- a class and its base

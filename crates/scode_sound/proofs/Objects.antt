@@ -19,7 +19,7 @@ use Rattle.sed_engine.specs.Steps.{inside, read_bytes, read_spot, write_spot}
 use Rattle.sed_engine.specs.Stops.{there}
 use Rattle.sed_engine.specs.Texts.{index_of}
 use Rattle.sed_engine.specs.Values.{Val, Nothing, Truth, Int, Long, Null, At, Literal, Base, Component, Statics, Spot, read_as, spot_of, stored_as}
-use Rattle.sed_engine.proofs.Below.{Below, Itself, Based, IsPassed, position_passes}
+use Rattle.sed_engine.proofs.Below.{Below, Itself, Based, IsPassed, below_of, position_passes}
 use Rattle.sed_engine.proofs.CallSteps.{weaker}
 use Rattle.sed_engine.proofs.Kinded as language
 use Rattle.sed_engine.proofs.Positions.{found_before}
@@ -38,8 +38,9 @@ use Rattle.scode_code.specs.Wants.{AnyObject, Goes}
 use Rattle.scode_whole.proofs.Bases.{follows}
 use Rattle.scode_whole.proofs.Kits.{classes_most}
 use Rattle.scode_whole.proofs.Truths.{either, no_truth, no_value, three}
-use Rattle.scode_sound.proofs.Rules.{Concrete, Tables}
-use Rattle.scode_sound.proofs.Cells.{HasKind, LeadsTo, Text, Block, Object, class_from, classes_of, form_from, goes}
+use Rattle.scode_sound.specs.Cells.{Block, Concrete, HasKind, LeadsTo, Object, Text, class_from, form_from}
+use Rattle.scode_sound.proofs.Rules.{Tables}
+use Rattle.scode_sound.proofs.Cells.{an_object, classes_of, goes}
 use Rattle.scode_sound.proofs.Spots.{form_at_is, form_further, class_further, form_in_object, static_form, static_class, good}
 use Rattle.scode_sound.proofs.Characters.{byte_at}
 use Rattle.scode_sound.proofs.Members.{fields_grow}
@@ -164,12 +165,13 @@ module _ (w : Setting) (is : Tables w.image) where
           subst (λ (x : Spot). FieldThere w x test) (sym same) (in_statics test i found)
       by_statics false s (Block f c same) found = no_truth (sym s ∙ block_is k f c)
       by_statics true s (Object f at x c b) found =
-          let low = low_class k.class at c b in
+          let low = low_class k.class at c (below_of (classes_of w.image) k.class at b) in
           let class_is : k.class ≡ 0xffff =
           eqb-true k.class 0xffff (and_parts (is_object k) (k.class == 0xffff) s).1 in
           absurd (omega (arith, low, class_is))
       by_statics false s (Object f at x c b) found =
-          in_object test k spot.base spot.path at i (fields_grow w.image is k.class at b) x found
+          in_object test k spot.base spot.path at i
+          (fields_grow w.image is k.class at (below_of (classes_of w.image) k.class at b)) x found
 
 lacks_nothing : (a b : Bool) → a ≡ false → (not a && not b) ≡ false → b ≡ true
 lacks_nothing true b e h = no_truth (sym e)
@@ -379,7 +381,7 @@ module _ (w : Setting) (is : Tables w.image) (own : Concrete w.image w.class) (g
       (λ spot s. gives_it (Onward (At spot ∷ rest)) (
         on,
         (
-          Object refl class s.class_is
+          an_object w is (object class) spot refl class s.class_is
               (good w is spot.base spot.path (form.Object (record { 0 = class })) s.form_is) Itself,
           fit,
         ),

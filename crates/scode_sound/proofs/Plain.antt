@@ -14,8 +14,8 @@ use Rattle.scode_image.specs.declared.image.ImageKind.{ImageKind}
 use Rattle.scode_code.specs.Effect.{cell_for}
 use Rattle.scode_code.specs.Fields.{Setting}
 use Rattle.scode_code.specs.Kinds.{void, bool, int, long}
+use Rattle.scode_sound.specs.Cells.{Block, HasKind, LeadsTo, Object, Text}
 use Rattle.scode_whole.proofs.Truths.{no_truth}
-use Rattle.scode_sound.proofs.Cells.{HasKind, LeadsTo, Text, Block, Object}
 
 -- what is said of numbers and truth values is said of each program alike, also of this one
 abbrev pub nothing : Program

@@ -44,9 +44,10 @@ use Rattle.scode_code.specs.Tables.{class_of, primitive_of, schema_of, slot_form
 use Rattle.scode_whole.proofs.Bases.{slots_at}
 use Rattle.scode_whole.proofs.Rule.{ClassAgrees, class_agrees}
 use Rattle.scode_whole.proofs.Truths.{four, no_truth, of_mapped, passes, there, through, is_not}
+use Rattle.scode_sound.specs.Cells.{Concrete, Fit, HasKind}
 use Rattle.scode_sound.specs.Over.{setting_of}
-use Rattle.scode_sound.proofs.Rules.{Concrete, Tables}
-use Rattle.scode_sound.proofs.Cells.{Fit, HasKind, Object, classes_of}
+use Rattle.scode_sound.proofs.Rules.{Tables}
+use Rattle.scode_sound.proofs.Cells.{an_object, classes_of}
 use Rattle.scode_sound.proofs.Members.{InTable, Received, all_same, has_code, received, table_at, table_below}
 use Rattle.scode_sound.proofs.Arguments.{kinds_of}
 use Rattle.scode_sound.proofs.Booleans.{not_first, second}
@@ -285,16 +286,17 @@ pub data Asks (image : Image) (q : Question) : Type 0 where
   Rests : (value : Val) → root_method image q.class q.which ≡ Ok None → argument_of q.argument ≡ Ok value
       → Asks image q
 
-runs : (image : Image) (q : Question) (place : ℕ) (params : List ImageKind) → Concrete image q.class
+runs : (image : Image) → Tables image → (q : Question) (place : ℕ) (params : List ImageKind) → Concrete image q.class
     → RunsAt image q.class place params → root_method image q.class q.which ≡ method_at image q.class place
     → Given (setting_of image q) params q.argument → Asks image q
-runs image q place params known r which g =
+runs image is q place params known r which g =
     let at : method_at image q.class place ≡ Ok (Some r.number) =
     ap (λ (o : Option ℕ). map_ok (λ (m : ℕ). Some m) (is_there o)) r.found in
     let fits : Fit (setting_of image q) r.method.params (pushed g.value []) =
     subst (λ (ks : List ImageKind). Fit (setting_of image q) ks (pushed g.value [])) (sym r.params_are) g.fits in
     let receiver : HasKind (setting_of image q) (object r.method.class) (At (record { base = Component; path = [] })) =
-    Object refl q.class refl known r.above in
+    an_object (setting_of image q) is (object r.method.class) (record { base = Component; path = [] }) refl q.class refl
+    known r.above in
     Runs r.number r.method g.value (which ∙ at) g.given r.stands r.code
     (subst (λ (b : Bool). Fit (setting_of image q) ((if b then object r.method.class ∷ [] else []) ++ r.method.params)
     (root_arguments g.value)) (sym r.instance) (receiver, fits))
@@ -304,7 +306,7 @@ module _ (image : Image) (is : Tables image) (q : Question) (own : IsComponentCl
   asks_execute e h =
       let c = the_component image is in
       let n = execute_at image c.info.table c.table in
-      runs image q 0 [] own.known (below_component image is q.class 0 n.0 [] own c n.1 n.2)
+      runs image is q 0 [] own.known (below_component image is q.class 0 n.0 [] own c n.1 n.2)
       (ap (root_method image q.class) e) (argument_fits (setting_of image q) argument.Void q.argument h)
 
   places_are : (c : TheComponent image) → component_places image ≡ Ok (length c.info.table)
@@ -335,7 +337,7 @@ module _ (image : Image) (is : Tables image) (q : Question) (own : IsComponentCl
           ≡ (if b then method_at image q.class (callback_place cb) else Ok None)
           → Asks image q
       by_length c g true long which =
-          runs image q (callback_place cb) (kinds_for a) own.known
+          runs image is q (callback_place cb) (kinds_for a) own.known
           (at c (callbacks_at image c.info.table c.table long)) which g
       by_length c g false short which = Rests g.value which g.given
 
@@ -404,7 +406,7 @@ module _ (image : Image) (is : Tables image) (q : Question) (own : IsComponentCl
           let which : root_method image q.class q.which ≡ method_at image q.class s.place =
           ap (root_method image q.class) e
           ∙ ap (λ (o : Option ℕ). and_then (is_there o) (λ (place : ℕ). method_at image q.class place)) place_is in
-          runs image q s.place (rule.action_params s.form) own.known
+          runs image is q s.place (rule.action_params s.form) own.known
           (action_runs own.known.info number.0 s own.known.stands at (slot_is_action s q.argument known.0 h)) which
           (action_argument (setting_of image q) (nat_le s.form 5) (s.form == 7) (s.form == 0x10) (s.form == 0x11)
           (s.form == 0x12) (slot.Prim (primitive_of s.form)) (slot.Buf s.n) q.argument h)

@@ -19,6 +19,7 @@ use Rattle.scode_whole.proofs.Bases.{fields_at}
 use Rattle.scode_whole.proofs.Rule.{Agrees, agrees}
 use Rattle.scode_whole.proofs.SlotFields.{form_prim, form_str, form_buf}
 use Rattle.scode_whole.proofs.Truths.{no_value, two, three, four, five, nine, is_not, passes, at_number}
+use Rattle.scode_sound.specs.Cells.{Concrete}
 use Rattle.scode_sound.proofs.Booleans.{second}
 
 pub record Tables (image : Image) : Type 0 where
@@ -81,12 +82,6 @@ class_rule image is class c e =
       slots = p.7;
       table = p.8;
     }
-
--- a class of which objects may be
-pub record Concrete (image : Image) (class : ℕ) : Type 0 where
-  pub info : ImageClass
-  pub stands : slice_get image.classes class ≡ Some info
-  pub concrete : rule.is_abstract_class info ≡ false
 
 -- what the rule says of each form: Strs and Bufs are short, and objects are of classes of which objects may be
 abbrev pub IsGood : Image → FieldForm → Type 0

@@ -11,7 +11,7 @@ use Rattle.sed_engine.specs.State.{Shared, State, End, gives, answers, after as 
 use Rattle.sed_engine.specs.Steps.{turn_taken}
 use Rattle.sed_engine.specs.Stops.{Stop, Traps, Untyped, there as is_there}
 use Rattle.sed_engine.specs.Values.{Val, Nothing, Truth, Int, Long, Null, At, Literal, Spot, spot_of}
-use Rattle.sed_engine.proofs.Below.{Below}
+use Rattle.sed_engine.proofs.Below.{Below, below_of}
 use Rattle.sed_engine.proofs.Ranges.{Sound}
 use Rattle.scode_ops.specs.declared.op.Op.{Op}
 use Rattle.scode_ops.specs.declared.op.Op.TheVariants as op
@@ -33,30 +33,28 @@ use Rattle.scode_code.specs.Verified.{IsFine, IsVerifiedBy, Leads, Shapes, Stand
 use Rattle.scode_code.specs.Wants.{Goes, call_wants_of, result_cells, static_wants, wants_of}
 use Rattle.scode_whole.proofs.Kits.{classes_most}
 use Rattle.scode_whole.proofs.Truths.{no_truth, same_value, through}
+use Rattle.scode_sound.specs.Cells.{Block, Concrete, Fit, HasKind, Object, Text, class_from}
+use Rattle.scode_sound.specs.Fine.{Fitting}
 use Rattle.scode_sound.proofs.Left.{first_start, paid}
-use Rattle.scode_sound.proofs.Rules.{Concrete, MethodRule, Tables, method_rule}
-use Rattle.scode_sound.proofs.Cells.{Fit, HasKind, Text, Block, Object, all_goes, class_from, classes_of}
+use Rattle.scode_sound.proofs.Rules.{MethodRule, Tables, method_rule}
+use Rattle.scode_sound.proofs.Cells.{an_object, all_goes, classes_of}
 use Rattle.scode_sound.proofs.Members.{InTable, Received, has_code, received, method_there as table_there, table_below}
 use Rattle.scode_sound.proofs.Characters.{byte_at}
-use Rattle.scode_sound.proofs.Keeping.{Fitting, turn_fitting}
+use Rattle.scode_sound.proofs.Keeping.{turn_fitting}
 use Rattle.scode_sound.proofs.Fine as machines
 use Rattle.scode_sound.proofs.Points as points
 use Rattle.scode_sound.proofs.Booleans.{not_none, not_not}
 use Rattle.scode_sound.proofs.Stacks.{Takes, takes}
 use Rattle.scode_sound.proofs.Objects.{class_is}
 use Rattle.scode_sound.proofs.Arguments.{arguments, kinds_of, locals_fit, receiver_is}
+use Rattle.scode_sound.specs.Fine.{AllWait, FineAt, result_of}
+use Rattle.scode_sound.specs.Potential.{left_of, longest, potential}
 
 module _ (w : Setting) (is : Tables w.image) (own : Concrete w.image w.class) (given : ℕ) (shapes : Shapes)
     (verified : IsVerifiedBy w.image shapes) (machine : Machine)
-    (now_fine : points.FineAt w given shapes machine) where
+    (now_fine : FineAt w given shapes machine) where
   abbrev Better : ℕ → Point → Type 0
   Better n q = points.Better w given shapes n q
-
-  abbrev left_of : ℕ → ℕ → ℕ
-  left_of method place = points.left_of w method place
-
-  abbrev AllWait : ImageKind → List Frame → Type 0
-  AllWait k fs = points.AllWait w given shapes k fs
 
   abbrev Here : Op → Type 0
   Here i = machines.Here w is own given shapes verified machine now_fine i
@@ -103,7 +101,7 @@ module _ (w : Setting) (is : Tables w.image) (own : Concrete w.image w.class) (g
   abbrev fitting : Fitting w given sh
   fitting = now_fine.fitting
 
-  abbrev waits : AllWait (points.result_of w method) below
+  abbrev waits : AllWait w shapes (result_of w method) below
   waits = now_fine.waits
 
   abbrev frame : Frame
@@ -168,7 +166,7 @@ module _ (w : Setting) (is : Tables w.image) (own : Concrete w.image w.class) (g
           let own_locals : Fit w (locals_after shape i) locals =
           subst (λ (ks : List ImageKind). Fit w ks locals) (sym same) fit_locals in
           let most = points.left_most w number 0 c e in
-          let pays = paid sh.turns (points.longest w) (left_of number 0) some most in
+          let pays = paid sh.turns (longest w) (left_of w number 0) some most in
           let on_less = machines.next_less w is own given shapes verified machine now_fine i h.instruction no_turn
           start_next in
           let here = machines.left_is w is own given shapes verified machine now_fine place in
@@ -182,7 +180,7 @@ module _ (w : Setting) (is : Tables w.image) (own : Concrete w.image w.class) (g
                   (locals_fit w is c args (method_rule w.image is number c e) fit_args);
               fit_stack = all_goes w is [] first.reached.stack [] p.1 tt;
               fitting = turn_fitting w given sh fitting;
-              waits = subst (λ (k : ImageKind). AllWait k (record {
+              waits = subst (λ (k : ImageKind). AllWait w shapes k (record {
                 method = method;
                 place = place + size_of i;
                 locals = locals;
@@ -282,7 +280,8 @@ module _ (w : Setting) (is : Tables w.image) (own : Concrete w.image w.class) (g
         let r : Received w.image at f.method = received w.image is at slot f.number f.method f.found f.stands in
         let code : is_abstract f.method ≡ false =
         has_code w.image is at slot f.number f.method concrete f.found f.stands in
-        let receiver : HasKind w (object f.method.class) (At spot) = Object refl at here concrete r.above in
+        let receiver : HasKind w (object f.method.class) (At spot) =
+        an_object w is (object f.method.class) spot refl at here concrete r.above in
         let params : Fit w f.method.params vs =
         subst (λ (ks : List ImageKind). Fit w ks vs) (sym f.same.params) fit in
         let args : Fit w (kinds_of f.method.class f.method) (At spot ∷ vs) =
@@ -331,7 +330,7 @@ module _ (w : Setting) (is : Tables w.image) (own : Concrete w.image w.class) (g
         let few = classes_most w.image is.whole in
         absurd (omega (arith, c, inside, few))
     on_receiver (At spot) vs (Object e at y c b) g =
-        on_object spot vs at y c b g
+        on_object spot vs at y c (below_of (classes_of w.image) class at b) g
 
     on_args : (args : List Val) → Fit w (object class ∷ x.params) args
         → LeadsOn (place + size_of (op.VirtualCall class slot))
@@ -404,8 +403,8 @@ enough_cells image m shape i h = grind (arith, h)
 
 module _ (w : Setting) (is : Tables w.image) (own : Concrete w.image w.class) (given : ℕ) (shapes : Shapes)
     (verified : IsVerifiedBy w.image shapes) where
-  pub step_better : (x : Machine) → points.FineAt w given shapes x
-      → points.Better w given shapes (points.potential w (AtWork x))
+  pub step_better : (x : Machine) → FineAt w given shapes x
+      → points.Better w given shapes (potential w (AtWork x))
       (step w (AtWork x))
   step_better x fine =
       let v : Stands w.image shapes x.top.method x.top.place fine.shape =
@@ -422,7 +421,7 @@ module _ (w : Setting) (is : Tables w.image) (own : Concrete w.image w.class) (g
       ap (λ (code : List ℕ). op_at code x.top.place)
       (points.code_is w x.top.method v.m v.there) ∙ v.instruction in
       subst (λ (o : Option Op).
-      points.Better w given shapes (points.potential w (AtWork x))
+      points.Better w given shapes (potential w (AtWork x))
       (act w o x.top x.below x.shared)) (sym here)
       (instruction_better w is own given shapes verified x fine v.i (record {
         instruction = subst (λ (y : ImageMethod). op_at y.code x.top.place ≡ Some v.i) same v.instruction;

@@ -13,10 +13,9 @@ use Rattle.scode_image.specs.declared.image.Image.{Image}
 use Rattle.scode_image.specs.declared.image.ImageField.{ImageField}
 use Rattle.scode_code.specs.Fields.{Setting}
 use Rattle.scode_code.specs.Tables.{class_fields, form_of, shape_of}
-use Rattle.scode_whole.proofs.FirstFits.{shapes_of}
 use Rattle.scode_whole.proofs.Truths.{no_value, same_value}
+use Rattle.scode_sound.specs.Cells.{class_from, form_from, shapes_of}
 use Rattle.scode_sound.proofs.Rules.{IsGood, Tables, class_good, static_good}
-use Rattle.scode_sound.proofs.Cells.{class_from, form_from}
 
 -- the form of a field by its number
 pub form_at_is : (all : List ImageField) (i : ℕ) → form_at (map shape_of all) i ≡ option_map form_of (slice_get all i)

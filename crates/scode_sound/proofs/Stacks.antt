@@ -17,7 +17,7 @@ use Rattle.scode_code.specs.Kinds.{bool}
 use Rattle.scode_code.specs.Machine.{Move, Onward, Goto, Enter, Leave, pushed}
 use Rattle.scode_code.specs.Wants.{Need, meets}
 use Rattle.scode_whole.proofs.Truths.{no_truth}
-use Rattle.scode_sound.proofs.Cells.{Fit, HasKind}
+use Rattle.scode_sound.specs.Cells.{Fit, HasKind}
 use Rattle.scode_sound.proofs.Plain.{nothing, to_bool}
 
 -- a cell that meets what is needed, with its kind

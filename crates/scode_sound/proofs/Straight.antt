@@ -38,8 +38,9 @@ use Rattle.scode_code.specs.Machine.{Move, Onward, Goto}
 use Rattle.scode_code.specs.Steps.{effect}
 use Rattle.scode_code.specs.Wants.{Goes, Reference, Anything, wants_of}
 use Rattle.scode_whole.proofs.Truths.{either, no_truth, same_value}
-use Rattle.scode_sound.proofs.Rules.{Concrete, Tables, stands_at}
-use Rattle.scode_sound.proofs.Cells.{Fit, HasKind, Block, fit_get, goes}
+use Rattle.scode_sound.specs.Cells.{Block, Concrete, Fit, HasKind}
+use Rattle.scode_sound.proofs.Rules.{Tables, stands_at}
+use Rattle.scode_sound.proofs.Cells.{fit_get, goes}
 use Rattle.scode_sound.proofs.Keeping.{Now}
 use Rattle.scode_sound.proofs.Plain.{IsPlain, compared_is, image_kind, nothing, reference_is, sound_from, to_plain, truth_is}
 use Rattle.scode_sound.proofs.Stacks.{Cell, Lands, Takes, chooses, one_off, two_off, push_it}

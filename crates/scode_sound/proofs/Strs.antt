@@ -28,8 +28,9 @@ use Rattle.scode_code.specs.Fields.{Setting}
 use Rattle.scode_code.specs.Kinds.{bool, int, str}
 use Rattle.scode_code.specs.Machine.{Move}
 use Rattle.scode_code.specs.Wants.{Goes}
-use Rattle.scode_sound.proofs.Rules.{Concrete, Tables, stands_at, text_rule}
-use Rattle.scode_sound.proofs.Cells.{HasKind, Text, Block, Object, form_from, goes}
+use Rattle.scode_sound.specs.Cells.{Block, Concrete, HasKind, Object, Text, form_from}
+use Rattle.scode_sound.proofs.Rules.{Tables, stands_at, text_rule}
+use Rattle.scode_sound.proofs.Cells.{goes}
 use Rattle.scode_sound.proofs.Spots.{good}
 use Rattle.scode_sound.proofs.Keeping.{Now, read_str_holds, write_str_holds}
 use Rattle.scode_sound.proofs.Plain.{IsOf, nothing, reference_is, truth_is}

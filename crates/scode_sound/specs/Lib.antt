@@ -1,1 +1,4 @@
 pub mod Over
+pub mod Cells
+pub mod Potential
+pub mod Fine

@@ -7,4 +7,6 @@
 
 mod laws;
 
-pub use laws::{verified_calls_are_over, verified_calls_end, verified_images_are_whole};
+pub use laws::{
+    fine_machines_go_on, verified_calls_are_over, verified_calls_end, verified_images_are_whole,
+};
