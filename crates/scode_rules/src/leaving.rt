@@ -6,8 +6,8 @@ ghost use Rattle.scode_rules.specs.Words as words;
 
 use crate::cells::cell_at;
 use crate::effects::effect_of;
-use scode_code::{Effect, Puts};
 use crate::stack::takes_count;
+use scode_code::{Effect, Puts};
 use scode_image::{Image, ImageKind};
 use scode_ops::Op;
 use scode_tables::method_at;
