@@ -37,7 +37,8 @@ arrived image m place s none (from_before before shape i kinds starts on) = left
 
 pub kinds_are : (image : Image) (m : ImageMethod) (place : ℕ) (carried : Option Shape) (s : Shape)
     → Comes image m place carried → KindsAt image m place s → shape_at (entry_at m place) carried ≡ Some s
-kinds_are image m place carried s w (entered here e start there) = ap (λ (o : Option ImageEntry). shape_at o carried) there
+kinds_are image m place carried s w (entered here e start there) =
+    ap (λ (o : Option ImageEntry). shape_at o carried) there
 kinds_are image m place carried s w (begun none) =
     ap (λ (o : Option ImageEntry). shape_at o carried) none ∙ w.all (first_shape m) at_first
 kinds_are image m place carried s w (left before shape i kinds starts on none) =

@@ -105,7 +105,8 @@ methods_first image number [] agree are =
     beyond : (method place rule : ℕ) → number ≤ method → BreaksIn image method place rule → ⊥
     beyond method place rule high b = none_some b.m
         (are (method - number)
-        ∙ ap (λ (n : ℕ). slice_get image.methods n) (let there : number + (method - number) ≡ method = omega (arith, high) in there)
+        ∙ ap (λ (n : ℕ). slice_get image.methods n)
+        (let there : number + (method - number) ≡ method = omega (arith, high) in there)
         ∙ b.there)
 methods_first image number (x ∷ xs) agree are =
     method_first image number x (code_fault image x) (methods_broken image (suc number) xs) agree there

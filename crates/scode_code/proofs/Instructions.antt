@@ -11,10 +11,10 @@ use Rattle.scode_image.specs.declared.image.Image.{Image}
 use Rattle.scode_image.specs.declared.image.ImageEntry.{ImageEntry}
 use Rattle.scode_image.specs.declared.image.ImageMethod.{ImageMethod}
 use Rattle.scode_code.specs.Kinds.{Shape, shape_goes}
-use Rattle.scode_code.specs.Wants.{wants_of}
+use Rattle.scode_code.specs.Wants.{needs}
 use Rattle.scode_code.specs.CodeRules.{after, arrives, arrives_wrong, broken_at, broken_by, broken_with, broken_without, carried_wrong, entry_at, entry_shape, field_missing, first_of, goes_back, is_end, is_start, is_turn, jumps_to, kind_differs, kind_rules, misses_start, number_missing, plain_rules, result_differs, rules_with, rules_without, runs_past, shape_at, stack_breaks}
 use Rattle.scode_code.specs.Breaks as breaks
-use Rattle.scode_code.specs.Breaks.{IsReached, StartsAt, IsStart, KindsAt, Arrives, Runs, CodeBreaks}
+use Rattle.scode_code.specs.Breaks.{StartsAt, IsStart, KindsAt, Runs, CodeBreaks}
 use Rattle.scode_code.proofs.Places.{none_some, one_stands, some_eq, start_is, start_or_not, start_told, within_code}
 use Rattle.scode_code.proofs.Tells.{Tells, AtMost, ascend, first_tells, first_is_least}
 use Rattle.scode_code.proofs.Arrivals.{Comes, EndsAt, kinds_are, kinds_stand, ends_none}
@@ -114,16 +114,16 @@ module _ (image : Image) (m : ImageMethod) (place : ℕ) (i : Op) (starts : Star
   stack_breaks_there e = by_part (or_true _ _ e)
     where
       by_cells : (nat_lt m.stack (length s.stack) ≡ true)
-          ⊎ (nat_lt (length s.stack) (length (wants_of image s i).takes) ≡ true) → CodeBreaks image m place 6
+          ⊎ (nat_lt (length s.stack) (length (needs image s i)) ≡ true) → CodeBreaks image m place 6
       by_cells (inl t) = above_breaks (ltb-true m.stack (length s.stack) t)
       by_cells (inr t) =
-          breaks.lacks_cell place s i runs (ltb-true (length s.stack) (length (wants_of image s i).takes) t)
+          breaks.lacks_cell place s i runs (ltb-true (length s.stack) (length (needs image s i)) t)
 
-      by_part : (nat_lt m.stack (length s.stack) || nat_lt (length s.stack) (length (wants_of image s i).takes) ≡ true)
+      by_part : (nat_lt m.stack (length s.stack) || nat_lt (length s.stack) (length (needs image s i)) ≡ true)
           ⊎ (nat_lt m.stack (length (after image s i).stack) ≡ true) → CodeBreaks image m place 6
       by_part (inl t) =
           by_cells (or_true (nat_lt m.stack (length s.stack))
-          (nat_lt (length s.stack) (length (wants_of image s i).takes)) t)
+          (nat_lt (length s.stack) (length (needs image s i))) t)
       by_part (inr t) = breaks.goes_above place s i runs (ltb-true m.stack (length (after image s i).stack) t)
 
   wrong_breaks : carried_wrong image (entry_at m place) carried ≡ true → CodeBreaks image m place 9
@@ -141,7 +141,8 @@ module _ (image : Image) (m : ImageMethod) (place : ℕ) (i : Op) (starts : Star
       → option_map_or (λ to. not (arrives image (after image s i) (entry_at m to))) o false ≡ true
       → CodeBreaks image m place 9
   brings_breaks None to e = absurd cc
-  brings_breaks (Some to) is e = by_entry (entry_at m to) refl (not_true (arrives image (after image s i) (entry_at m to)) e)
+  brings_breaks (Some to) is e =
+      by_entry (entry_at m to) refl (not_true (arrives image (after image s i) (entry_at m to)) e)
     where
       by_entry : (o : Option ImageEntry) → entry_at m to ≡ o → arrives image (after image s i) o ≡ false
           → CodeBreaks image m place 9
@@ -216,8 +217,8 @@ first_is_broken image m place i carried r starts w e = by_shape (shape_at (entry
         with_kinds s here (plain_breaks image m place i starts
         (kind_rules image m (carried_wrong image (entry_at m place) carried) s i) r
         (least (rules_with image m place (carried_wrong image (entry_at m place) carried) s i) e
-        (λ k tells. first_is_least (rules_with image m place (carried_wrong image (entry_at m place) carried) s i) 2 k refl
-        tells))
+        (λ k tells.
+        first_is_least (rules_with image m place (carried_wrong image (entry_at m place) carried) s i) 2 k refl tells))
         (first_tells (rules_with image m place (carried_wrong image (entry_at m place) carried) s i) r e))
 
 -- ---- what is broken is told
@@ -253,8 +254,8 @@ same_op : (m : ImageMethod) (place : ℕ) (i j : Op) → op_at m.code place ≡ 
 same_op m place i j stands s = one_stands m place place j i refl s.stands stands
 
 -- where kinds stand
-pub broken_with_kinds : (image : Image) (m : ImageMethod) (place : ℕ) (i : Op) (carried : Option Shape) (s : Shape) (r : ℕ)
-    → op_at m.code place ≡ Some i → Comes image m place carried → shape_at (entry_at m place) carried ≡ Some s
+pub broken_with_kinds : (image : Image) (m : ImageMethod) (place : ℕ) (i : Op) (carried : Option Shape) (s : Shape)
+    (r : ℕ) → op_at m.code place ≡ Some i → Comes image m place carried → shape_at (entry_at m place) carried ≡ Some s
     → CodeBreaks image m place r
     → Tells (rules_with image m place (carried_wrong image (entry_at m place) carried) s i) r
 broken_with_kinds image m place i carried s r stands w here (breaks.no_code none) =
@@ -271,12 +272,12 @@ broken_with_kinds image m place i carried s r stands w here (breaks.runs_past at
 broken_with_kinds image m place i carried s r stands w here (breaks.misses_start at to j starts is none) =
     let same = same_op m place i j stands starts in
     inr (inl (refl, missed_told image m i to (subst (λ (k : Op). jumps_to k ≡ Some to) same is) none))
-broken_with_kinds image m place i carried s r stands w here (breaks.goes_back at to j k starts is back other_starts other) =
+broken_with_kinds image m place i carried s r stands w here (breaks.goes_back at to j k starts is back target other) =
     let same = same_op m place i j stands starts in
     inr (inr (inl (
       refl,
       back_told image m i place to k (subst (λ (o : Op). jumps_to o ≡ Some to) same is) back
-          other_starts.stands other,
+          target.stands other,
     )))
 broken_with_kinds image m place i carried s r stands w here (breaks.lacks_number at j starts lacks) =
     let same = same_op m place i j stands starts in
@@ -291,11 +292,11 @@ broken_with_kinds image m place i carried s r stands w here (breaks.enters_above
 broken_with_kinds image m place i carried s r stands w here (breaks.lacks_cell at t j runs few) =
     let same = same_op m place i j stands runs.starts in
     let shape = some_eq s t (sym here ∙ kinds_are image m place carried t w runs.kinds) in
-    let less : length s.stack < length (wants_of image s i).takes =
-    subst (λ (u : Shape). length u.stack < length (wants_of image u i).takes) (sym shape)
-    (subst (λ (k : Op). length t.stack < length (wants_of image t k).takes) same few) in
-    let told : nat_lt (length s.stack) (length (wants_of image s i).takes) ≡ true =
-    lt-ltb (length s.stack) (length (wants_of image s i).takes) less in
+    let less : length s.stack < length (needs image s i) =
+    subst (λ (u : Shape). length u.stack < length (needs image u i)) (sym shape)
+    (subst (λ (k : Op). length t.stack < length (needs image t k)) same few) in
+    let told : nat_lt (length s.stack) (length (needs image s i)) ≡ true =
+    lt-ltb (length s.stack) (length (needs image s i)) less in
     inr (inr (inr (inr (inl (refl, or_left _ _ (or_right (nat_lt m.stack (length s.stack)) _ told))))))
 broken_with_kinds image m place i carried s r stands w here (breaks.goes_above at t j runs high) =
     let same = same_op m place i j stands runs.starts in
@@ -303,11 +304,12 @@ broken_with_kinds image m place i carried s r stands w here (breaks.goes_above a
     let more : m.stack < length (after image s i).stack =
     subst (λ (u : Shape). m.stack < length (after image u i).stack) (sym shape)
     (subst (λ (k : Op). m.stack < length (after image t k).stack) same high) in
-    let told : nat_lt m.stack (length (after image s i).stack) ≡ true = lt-ltb m.stack (length (after image s i).stack) more in
+    let told : nat_lt m.stack (length (after image s i).stack) ≡ true =
+    lt-ltb m.stack (length (after image s i).stack) more in
     inr (inr (inr (inr (inl (
       refl,
       or_right (nat_lt m.stack (length s.stack)
-          || nat_lt (length s.stack) (length (wants_of image s i).takes)) _ told,
+          || nat_lt (length s.stack) (length (needs image s i))) _ told,
     )))))
 broken_with_kinds image m place i carried s r stands w here (breaks.differs at t j runs other) =
     let same = same_op m place i j stands runs.starts in
@@ -454,12 +456,13 @@ pub not_above : (image : Image) (m : ImageMethod) (place : ℕ) (i : Op) (wrong 
     → broken_with image m place wrong s i ≡ None → length (after image s i).stack ≤ m.stack
 not_above image m place i wrong s none = by_test (nat_lt m.stack (length (after image s i).stack)) refl
   where
-    by_test : (b : Bool) → nat_lt m.stack (length (after image s i).stack) ≡ b → length (after image s i).stack ≤ m.stack
+    by_test : (b : Bool) → nat_lt m.stack (length (after image s i).stack) ≡ b
+        → length (after image s i).stack ≤ m.stack
     by_test false is = ltb-false m.stack (length (after image s i).stack) is
     by_test true is =
         absurd (none_told (rules_with image m place wrong s i) 2 6 refl none
         (inr (inr (inr (inr (inl (
           refl,
           or_right (nat_lt m.stack (length s.stack)
-              || nat_lt (length s.stack) (length (wants_of image s i).takes)) _ is,
+              || nat_lt (length s.stack) (length (needs image s i))) _ is,
         )))))))

@@ -12,4 +12,5 @@ pub mod Walks
 pub mod Agreeing
 pub mod Firsts
 pub mod Verifies
+pub mod Converse
 pub mod Parts

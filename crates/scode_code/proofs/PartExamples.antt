@@ -1,5 +1,5 @@
--- Parts of a small object and of the static block, computed from the definitions: from paths to places and back, and what
--- bytes of now hold.
+-- Parts of a small object and of the static block, computed from the definitions: from paths to places and back, and
+-- what bytes of now hold.
 use Rattle.std.proofs.Common.{◌≡◌, ℕ, pos, List, [], ◌∷◌, ◌++◌, Option, Some, None, refl}
 use Rattle.sed_value.specs.declared.slot_type.Primitive.TheVariants as prim
 use Rattle.sed_value.specs.declared.value.Value.TheVariants as kept

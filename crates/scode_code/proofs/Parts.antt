@@ -21,10 +21,12 @@ same_field : (to f : ImageField) → is_field to.form to.offset to.n f ≡ true 
 same_field to f is =
     let p = and_parts ((f.form == to.form) && (f.offset == to.offset)) (f.n == to.n) is in
     let q = and_parts (f.form == to.form) (f.offset == to.offset) p.0 in
-    ap (λ (n : ℕ). let x : ImageField = record { offset = n; form = f.form; n = f.n } in x) (eqb-true f.offset to.offset q.1)
+    ap (λ (n : ℕ). let x : ImageField = record { offset = n; form = f.form; n = f.n } in x)
+    (eqb-true f.offset to.offset q.1)
     ∙ ap (λ (n : ℕ). let x : ImageField = record { offset = to.offset; form = n; n = f.n } in x)
     (eqb-true f.form to.form q.0)
-    ∙ ap (λ (n : ℕ). let x : ImageField = record { offset = to.offset; form = to.form; n = n } in x) (eqb-true f.n to.n p.1)
+    ∙ ap (λ (n : ℕ). let x : ImageField = record { offset = to.offset; form = to.form; n = n } in x)
+    (eqb-true f.n to.n p.1)
 
 object_form : (f : ImageField) → (f.form == 8) ≡ true → form_of f ≡ object f.n
 object_form f is =
@@ -96,7 +98,8 @@ among_leads image inside leads to number offset (f ∷ fs) all path are found =
 
     by_field : (b : Bool) → is_field to.form to.offset to.n f ≡ b
         → cond b (Some (number ∷ [])) (or_next number
-        (cond ((f.form == 8) && nat_le f.offset to.offset) (inside f.n (record to { offset = to.offset - f.offset })) None)
+        (cond ((f.form == 8) && nat_le f.offset to.offset) (inside f.n (record to { offset = to.offset - f.offset }))
+        None)
         (path_among inside to (suc number) fs)) ≡ Some path
         → (path_among inside to (suc number) fs ≡ Some path
         → field_from image offset all path ≡ Some (offset + to.offset, form_of to))
@@ -114,7 +117,8 @@ inside_leads image (suc depth) class offset to path found =
     (class_fields image class) (class_fields image class) path
     (λ k. ap (slice_get (class_fields image class)) (let same : k ≡ 0 + k = omega arith in same)) found)
   where
-    object_path : (p : Path) → field_from image offset (class_fields image class) p ≡ Some (offset + to.offset, form_of to)
+    object_path : (p : Path)
+        → field_from image offset (class_fields image class) p ≡ Some (offset + to.offset, form_of to)
         → part_from image p (offset, object class) ≡ Some (offset + to.offset, form_of to)
     object_path [] e = absurd (none_some _ e)
     object_path (i ∷ rest) e = e

@@ -65,7 +65,8 @@ beyond m p i is apart q (behind o j reached stands) less =
     by_order : (p < o) ⊎ (p ≡ o) → (p < o → p + size_of i ≤ o) → p + size_of i ≤ o + size_of j
     by_order (inl lower) further = let h = further lower in omega (arith, h)
     by_order (inr same) further =
-        let equal : size_of i ≡ size_of j = ap size_of (one_stands m p o i j same is stands) in omega (arith, same, equal)
+        let equal : size_of i ≡ size_of j = ap size_of (one_stands m p o i j same is stands) in
+        omega (arith, same, equal)
 
     by_case : IsApart p o j → (p < o → p + size_of i ≤ o) → p + size_of i ≤ o + size_of j
     by_case (inl low) further = by_order (less_or_same p o low) further
@@ -103,7 +104,8 @@ same_before m p q i j s t same = both (by_case (apart m p s.reached q j t) (apar
 last_reached : (m : ImageMethod) (p : ℕ) → IsReached m p → op_at m.code p ≡ None → (q : ℕ) → IsReached m q → q ≤ p
 last_reached m p reached none q first = omega arith
 last_reached m p reached none q (behind o j before stands) =
-    by_case (apart m p reached o j (record { reached = before; stands = stands })) (last_reached m p reached none o before)
+    by_case (apart m p reached o j (record { reached = before; stands = stands }))
+    (last_reached m p reached none o before)
   where
     by_case : IsApart p o j → o ≤ p → o + size_of j ≤ p
     by_case (inl low) high =
@@ -154,7 +156,8 @@ told_on most m place to (Some i) is reached start low further = by_order (less_o
         or_right : (a b : Bool) → b ≡ true → a || b ≡ true
         or_right true b e = refl
         or_right false b e = e
-    by_order (inr same) = let here : (place == to) ≡ true = subst (λ (t : ℕ). (place == t) ≡ true) same (same_eq place) in rw here refl
+    by_order (inr same) =
+        let here : (place == to) ≡ true = subst (λ (t : ℕ). (place == t) ≡ true) same (same_eq place) in rw here refl
 
 starts_have : (most : ℕ) (m : ImageMethod) (place to : ℕ) → IsReached m place → IsStart m to → place ≤ to
     → length m.code ≤ most + place → list_any (λ p. p == to) (starts_from most place m.code) ≡ true

@@ -69,7 +69,8 @@ reaches image m place rule some (breaks.no_entry at to i s is none) = started m 
 reaches image m place rule some (breaks.brings_other at to t i e r is there other) = started m place rule i r.starts
 reaches image m place rule some (breaks.arrives_other at t e start arrives there other) =
     started m place rule start.0 start.1
-reaches image m place rule some (breaks.nothing_arrives before i s end start none) = started m place rule start.0 start.1
+reaches image m place rule some (breaks.nothing_arrives before i s end start none) =
+    started m place rule start.0 start.1
 reaches image m place rule some (breaks.enters_no_start n e there none) =
     inr (record { n = n; e = e; there = there; at = refl; nine = refl })
 reaches image m place rule some (breaks.returns_other at t i r other) = started m place rule i r.starts
@@ -165,7 +166,8 @@ strays_first image m p from here there later up either only none lower behind =
         let is = stray.1 in absurd cc
 
     from_here : find p m.entries ≡ None → (o : Option Fault) → FirstOf image m there o → FirstFrom image m from o
-    from_here found None none = λ at rule high broken. none at rule (beyond found at rule broken (either at high)) broken
+    from_here found None none =
+        λ at rule high broken. none at rule (beyond found at rule broken (either at high)) broken
     from_here found (Some f) first = record {
       broken = first.broken;
       first = λ at rule high broken. first.first at rule (beyond found at rule broken (either at high)) broken;
@@ -188,7 +190,8 @@ between_first : (image : Image) (m : ImageMethod) (place : ℕ) (i : Op) (later 
     → FirstFrom image m (suc place) (stray_or (entry_between m.entries place (place + size_of i)) later)
 between_first image m place i later up some starts behind =
     strays_first image m (is_between place (place + size_of i)) (suc place)
-    (λ at. (place < at) × (at < place + size_of i)) (λ at. place + size_of i ≤ at) later up either only none lower behind
+    (λ at. (place < at) × (at < place + size_of i)) (λ at. place + size_of i ≤ at) later up either only none lower
+    behind
   where
     by_test : (at : ℕ) → place < at → (b : Bool) → nat_lt at (place + size_of i) ≡ b
         → ((place < at) × (at < place + size_of i)) ⊎ (place + size_of i ≤ at)
@@ -306,8 +309,9 @@ walk_first (suc most) image m place carried up some fuel enough w =
     by_test : (b : Bool) → nat_lt place (length m.code) ≡ b
         → ((next : ℕ) (left : Option Shape) → place < next → place < length m.code → Comes image m next left
         → FirstFrom image m next (fault_from most image m next left))
-        → FirstFrom image m place (cond b (fault_on (λ next left. fault_from most image m next left) image m place carried
-        (op_at m.code place)) (stray_or (entry_from m.entries place) None))
+        → FirstFrom image m place (cond b
+        (fault_on (λ next left. fault_from most image m next left) image m place carried (op_at m.code place))
+        (stray_or (entry_from m.entries place) None))
     by_test true is further =
         let within = ltb-true place (length m.code) is in
         walk_on most image m place carried (op_at m.code place) up w within refl

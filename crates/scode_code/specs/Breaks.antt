@@ -8,7 +8,7 @@ use Rattle.scode_image.specs.declared.image.ImageEntry.{ImageEntry}
 use Rattle.scode_image.specs.declared.image.ImageMethod.{ImageMethod}
 use Rattle.scode_code.specs.Kinds.{Shape, shape_goes}
 use Rattle.scode_code.specs.TableRules.{tables_agree}
-use Rattle.scode_code.specs.Wants.{wants_of}
+use Rattle.scode_code.specs.Wants.{needs}
 use Rattle.scode_code.specs.CodeRules.{after, entry_at, entry_shape, field_missing, first_shape, is_abstract, is_end, jumps_to, kind_differs, number_missing, result_differs}
 use Rattle.scode_code.specs.Faults.{Broken}
 
@@ -71,7 +71,7 @@ pub data CodeBreaks (image : Image) (m : ImageMethod) : ℕ → ℕ → Type 0 w
   enters_above : (place : ℕ) (e : ImageEntry) → IsStart m place → entry_at m place ≡ Some e
       → m.stack < length e.stack → CodeBreaks image m place 6
   lacks_cell : (place : ℕ) (shape : Shape) (i : Op) → Runs image m place shape i
-      → length shape.stack < length (wants_of image shape i).takes → CodeBreaks image m place 6
+      → length shape.stack < length (needs image shape i) → CodeBreaks image m place 6
   goes_above : (place : ℕ) (shape : Shape) (i : Op) → Runs image m place shape i
       → m.stack < length (after image shape i).stack → CodeBreaks image m place 6
   -- 7: a cell has a kind that does not go to the one needed

@@ -14,7 +14,9 @@ use Rattle.scode_code.specs.Tables.{class_fields, field_number}
 use Rattle.scode_code.specs.Fields.{buf_number}
 use Rattle.scode_code.specs.Calls.{table_method}
 use Rattle.scode_code.specs.Kinds.{Shape, shape_goes, goes_to, is_null, is_statics}
-use Rattle.scode_code.specs.Wants.{Need, Wants, meets, wants_of}
+use Rattle.scode_code.specs.Wants.{cells_of, meets, needs, needs_of, wants_of}
+use Rattle.scode_code.specs.declared.needs.Effect.{Effect}
+use Rattle.scode_code.specs.declared.needs.Need.{Need}
 
 -- flag 2 says that a method is abstract
 abbrev pub is_abstract : ImageMethod → Bool
@@ -87,14 +89,15 @@ number_missing image m (op.VirtualCall class place) = not (is_some (table_method
 number_missing image m other = false
 
 -- 6: the stack is above its maximum, lacks a cell, or would pass its maximum
-abbrev pub after_stack : Wants → List ImageKind → List ImageKind
-after_stack w stack = w.puts (take (length w.takes) stack) ++ drop (length w.takes) stack
+abbrev pub after_stack : Image → Effect → List ImageKind → List ImageKind
+after_stack image e stack =
+    cells_of image e.puts (take (length (needs_of image e.takes)) stack) ++ drop (length (needs_of image e.takes)) stack
 
 abbrev pub stack_breaks : Image → ImageMethod → Shape → Op → Bool
 stack_breaks image m shape i =
     nat_lt m.stack (length shape.stack)
-    || nat_lt (length shape.stack) (length (wants_of image shape i).takes)
-    || nat_lt m.stack (length (after_stack (wants_of image shape i) shape.stack))
+    || nat_lt (length shape.stack) (length (needs image shape i))
+    || nat_lt m.stack (length (after_stack image (wants_of image shape.locals i) shape.stack))
 
 -- 7: a cell has a kind that does not go to the one needed
 abbrev pub all_meet : Image → List Need → List ImageKind → Bool
@@ -103,7 +106,7 @@ all_meet image (n ∷ ns) [] = true
 all_meet image (n ∷ ns) (k ∷ ks) = meets image n k && all_meet image ns ks
 
 abbrev pub kind_differs : Image → Shape → Op → Bool
-kind_differs image shape i = not (all_meet image (wants_of image shape i).takes shape.stack)
+kind_differs image shape i = not (all_meet image (needs image shape i) shape.stack)
 
 -- 8: no field of that form, offset and n in the class. Of null nothing is said: the instruction traps.
 abbrev pub fields_of_kind : Image → ImageKind → List ImageField
@@ -158,7 +161,10 @@ locals_after shape (op.Store i) = option_map_or (λ k. with_kind shape.locals i 
 locals_after shape other = shape.locals
 
 abbrev pub after : Image → Shape → Op → Shape
-after image shape i = record { locals = locals_after shape i; stack = after_stack (wants_of image shape i) shape.stack }
+after image shape i = record {
+  locals = locals_after shape i;
+  stack = after_stack image (wants_of image shape.locals i) shape.stack;
+}
 
 -- 9: the target of a jump has no entry, or the kinds arriving do not go to the entry's
 abbrev pub arrives : Image → Shape → Option ImageEntry → Bool

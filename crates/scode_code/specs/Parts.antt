@@ -46,7 +46,8 @@ part_of image class Statics path = static_part_at image path
 
 -- ---- from places to paths
 
--- what a reference in memory is: the block, and the offset, form and n of the field, or of the whole object, that it is to
+-- what a reference in memory is: the block, and the offset, form and n of the field, or of the whole object, that it
+-- is to
 pub record Reference : Type 0 where
   pub base : Base
   pub to : ImageField
@@ -61,7 +62,8 @@ path_among inside to number [] = None
 path_among inside to number (f ∷ fs) =
     if is_field to.form to.offset to.n f then Some (number ∷ [])
     else or_next number
-    (if (f.form == 8) && nat_le f.offset to.offset then inside f.n (record to { offset = to.offset - f.offset }) else None)
+    (if (f.form == 8) && nat_le f.offset to.offset then inside f.n (record to { offset = to.offset - f.offset })
+    else None)
     (path_among inside to (suc number) fs)
 
 -- the path to a field inside an object of a class, objects being inside one another at most so deep

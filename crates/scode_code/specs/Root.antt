@@ -63,8 +63,8 @@ abbrev pub begins : Option ImageMethod → ℕ → Val → Shared → Point
 begins None number argument shared = Over (record { result = Err Untyped; shared = shared })
 begins (Some m) number argument shared = enters number (locals_of m (root_arguments argument)) [] shared
 
--- How it ended. What is not over after so many steps is as if it were stuck: both are part of what a root call is defined
--- to be. That verified code is over by then is a law of its own, which comes with the machine.
+-- How it ended. What is not over after so many steps is as if it were stuck: both are part of what a root call is
+-- defined to be. That verified code is over by then is a law of its own, which comes with the machine.
 abbrev pub ended : Point → Called
 ended (Over c) = c
 ended (AtWork m) = record { result = Err Untyped; shared = m.shared }

@@ -65,7 +65,7 @@ pub record KindsIn (image : Image) (method place : ℕ) (shape : Shape) : Type 0
   pub concrete : is_abstract m ≡ false
   pub kinds : KindsAt image m place shape
 
--- What the rules ask beyond that the kinds of a method are fine: also of code that is never reached, and of entries that
+-- What the rules ask beyond that the kinds of a method are fine: also of code that is never run, and of entries that
 -- nothing leads to.
 pub record IsCovered (image : Image) (m : ImageMethod) : Type 0 where
   -- instructions stand one behind the other to the end of the code

@@ -1,6 +1,6 @@
--- Which kinds each instruction takes off the stack, and which it puts on.
+-- What each instruction takes off the stack, and what it puts on: data, and what the data says of kinds.
 use Rattle.std.specs.Prelude.{ℕ, ◌==◌, ◌||◌, Bool, true, if◌then◌else◌, List, [], ◌∷◌, ◌++◌, map, reverse, slice_get, Option, Some, None}
-use Rattle.std.specs.Option.{option_map_or, option_and_then}
+use Rattle.std.specs.Option.{option_map_or}
 use Rattle.scode_ops.specs.declared.op.Op.{Op}
 use Rattle.scode_ops.specs.declared.op.Op.TheVariants as op
 use Rattle.scode_image.specs.declared.image.Image.{Image}
@@ -8,175 +8,209 @@ use Rattle.scode_image.specs.declared.image.ImageKind.{ImageKind}
 use Rattle.scode_image.specs.declared.image.ImageMethod.{ImageMethod}
 use Rattle.scode_code.specs.Calls.{is_instance, table_method}
 use Rattle.scode_code.specs.Kinds.{bool, int, long, str, null, object, statics, is_null, is_str, is_object, goes_to, Shape}
+use Rattle.scode_code.specs.declared.needs.Effect.{Effect}
+use Rattle.scode_code.specs.declared.needs.Need.{Need}
+use Rattle.scode_code.specs.declared.needs.Need.TheVariants.{Goes, AnyObject, Reference, Anything}
+use Rattle.scode_code.specs.declared.needs.Puts.{Puts}
+use Rattle.scode_code.specs.declared.needs.Puts.TheVariants as puts
+use Rattle.scode_code.specs.declared.needs.Takes.{Takes}
+use Rattle.scode_code.specs.declared.needs.Takes.TheVariants as takes
+
+-- ---- what the data says
 
 -- what a cell has to be: of a kind that goes to this one, an object or null, a Str or an object or null, or anything
-pub data Need : Type 0 where
-  Goes : ImageKind → Need
-  AnyObject : Need
-  Reference : Need
-  Anything : Need
-
 abbrev pub meets : Image → Need → ImageKind → Bool
 meets image (Goes l) k = goes_to image k l
 meets image AnyObject k = is_object k || is_null k
 meets image Reference k = is_object k || is_null k || is_str k
 meets image Anything k = true
 
--- what is taken off, the top first, and what is put on for it, the top first
-pub record Wants : Type 0 where
-  pub takes : List Need
-  pub puts : List ImageKind → List ImageKind
-
-abbrev pub wants : List Need → List ImageKind → Wants
-wants takes puts = record { takes = takes; puts = λ taken. puts }
-
-abbrev pub of_ints : ImageKind → Wants
-of_ints gives = wants (Goes int ∷ Goes int ∷ []) (gives ∷ [])
-
-abbrev pub of_longs : ImageKind → Wants
-of_longs gives = wants (Goes long ∷ Goes long ∷ []) (gives ∷ [])
-
--- a shift count is an int
-abbrev pub long_shift : Wants
-long_shift = wants (Goes int ∷ Goes long ∷ []) (long ∷ [])
-
-abbrev pub of_bools : Wants
-of_bools = wants (Goes bool ∷ Goes bool ∷ []) (bool ∷ [])
-
-abbrev pub of_references : Wants
-of_references = wants (Reference ∷ Reference ∷ []) (bool ∷ [])
-
-abbrev pub converts : ImageKind → ImageKind → Wants
-converts k l = wants (Goes k ∷ []) (l ∷ [])
-
--- from an object, into one, and the same at an index
-abbrev pub gets : ImageKind → Wants
-gets k = wants (AnyObject ∷ []) (k ∷ [])
-
-abbrev pub stores : ImageKind → Wants
-stores k = wants (Goes k ∷ AnyObject ∷ []) []
-
-abbrev pub gets_at : ImageKind → Wants
-gets_at k = wants (Goes int ∷ AnyObject ∷ []) (k ∷ [])
-
-abbrev pub stores_at : ImageKind → Wants
-stores_at k = wants (Goes k ∷ Goes int ∷ AnyObject ∷ []) []
-
 -- no cell for a method without result
 abbrev pub result_cells : ImageKind → List ImageKind
 result_cells k = if k.kind == 0 then [] else k ∷ []
 
 -- a receiver of this class, if there is one, and the arguments
-abbrev pub call_wants : ℕ → ImageMethod → Wants
-call_wants class m =
-    wants (map Goes (reverse ((if is_instance m then object class ∷ [] else []) ++ m.params))) (result_cells m.result)
+abbrev pub argument_needs : ℕ → ImageMethod → List Need
+argument_needs class m = map Goes (reverse ((if is_instance m then object class ∷ [] else []) ++ m.params))
 
-abbrev pub nothing : Wants
-nothing = wants [] []
+-- the cells that are taken off, the top first
+abbrev pub needs_of : Image → Takes → List Need
+needs_of image takes.Nothing = []
+needs_of image (takes.One a) = a ∷ []
+needs_of image (takes.Two a b) = a ∷ b ∷ []
+needs_of image (takes.Three a b c) = a ∷ b ∷ c ∷ []
+needs_of image (takes.Arguments method class) =
+    option_map_or (argument_needs class) (slice_get image.methods method) []
 
-abbrev pub call_wants_of : ℕ → Option ImageMethod → Wants
-call_wants_of class None = nothing
-call_wants_of class (Some m) = call_wants class m
+-- the cells that are put on for those that are taken, the top first
+abbrev pub cells_of : Image → Puts → List ImageKind → List ImageKind
+cells_of image puts.Nothing taken = []
+cells_of image (puts.One k) taken = k ∷ []
+cells_of image puts.Twice taken = taken ++ taken
+cells_of image (puts.Answer method) taken =
+    option_map_or (λ m. result_cells m.result) (slice_get image.methods method) []
 
--- a static method has no receiver, and else it is of the method's class
-abbrev pub static_wants : Option ImageMethod → Wants
-static_wants None = nothing
-static_wants (Some m) = call_wants m.class m
+-- ---- the table
 
-abbrev pub declared_method : Image → ℕ → ℕ → Option ImageMethod
-declared_method image class place = option_and_then (λ n. slice_get image.methods n) (table_method image class place)
+abbrev pub effect : Takes → Puts → Effect
+effect t p = record { takes = t; puts = p }
 
-abbrev pub wants_of : Image → Shape → Op → Wants
-wants_of image shape (op.Int n) = wants [] (int ∷ [])
-wants_of image shape (op.Long n) = wants [] (long ∷ [])
-wants_of image shape (op.Bool t) = wants [] (bool ∷ [])
-wants_of image shape op.Null = wants [] (null ∷ [])
-wants_of image shape (op.Text n) = wants [] (str ∷ [])
-wants_of image shape op.Statics = wants [] (statics ∷ [])
-wants_of image shape (op.Load i) = wants [] (option_map_or (λ k. k ∷ []) (slice_get shape.locals i) [])
-wants_of image shape (op.Store i) = wants (Anything ∷ []) []
-wants_of image shape op.Dup = record { takes = Anything ∷ []; puts = λ taken. taken ++ taken }
-wants_of image shape op.Pop = wants (Anything ∷ []) []
-wants_of image shape op.IntAdd = of_ints int
-wants_of image shape op.IntSub = of_ints int
-wants_of image shape op.IntMul = of_ints int
-wants_of image shape op.IntDiv = of_ints int
-wants_of image shape op.IntRem = of_ints int
-wants_of image shape op.IntAnd = of_ints int
-wants_of image shape op.IntOr = of_ints int
-wants_of image shape op.IntXor = of_ints int
-wants_of image shape op.IntShl = of_ints int
-wants_of image shape op.IntShr = of_ints int
-wants_of image shape op.IntNeg = converts int int
-wants_of image shape op.IntNot = converts int int
-wants_of image shape op.LongAdd = of_longs long
-wants_of image shape op.LongSub = of_longs long
-wants_of image shape op.LongMul = of_longs long
-wants_of image shape op.LongDiv = of_longs long
-wants_of image shape op.LongRem = of_longs long
-wants_of image shape op.LongAnd = of_longs long
-wants_of image shape op.LongOr = of_longs long
-wants_of image shape op.LongXor = of_longs long
-wants_of image shape op.LongShl = long_shift
-wants_of image shape op.LongShr = long_shift
-wants_of image shape op.LongNeg = converts long long
-wants_of image shape op.LongNot = converts long long
-wants_of image shape op.IntEq = of_ints bool
-wants_of image shape op.IntNe = of_ints bool
-wants_of image shape op.IntLt = of_ints bool
-wants_of image shape op.IntLe = of_ints bool
-wants_of image shape op.IntGt = of_ints bool
-wants_of image shape op.IntGe = of_ints bool
-wants_of image shape op.LongEq = of_longs bool
-wants_of image shape op.LongNe = of_longs bool
-wants_of image shape op.LongLt = of_longs bool
-wants_of image shape op.LongLe = of_longs bool
-wants_of image shape op.LongGt = of_longs bool
-wants_of image shape op.LongGe = of_longs bool
-wants_of image shape op.BoolEq = of_bools
-wants_of image shape op.BoolNe = of_bools
-wants_of image shape op.RefEq = of_references
-wants_of image shape op.RefNe = of_references
-wants_of image shape op.IntToLong = converts int long
-wants_of image shape op.LongToInt = converts long int
-wants_of image shape op.Not = converts bool bool
-wants_of image shape op.IntToByte = converts int int
-wants_of image shape op.IntToShort = converts int int
-wants_of image shape (op.Jump to) = nothing
-wants_of image shape (op.JumpFalse to) = wants (Goes bool ∷ []) []
-wants_of image shape (op.JumpTrue to) = wants (Goes bool ∷ []) []
-wants_of image shape op.Turn = nothing
-wants_of image shape (op.GetBool offset) = gets bool
-wants_of image shape (op.GetByte offset) = gets int
-wants_of image shape (op.GetShort offset) = gets int
-wants_of image shape (op.GetInt offset) = gets int
-wants_of image shape (op.GetLong offset) = gets long
-wants_of image shape (op.PutBool offset) = stores bool
-wants_of image shape (op.PutByte offset) = stores int
-wants_of image shape (op.PutShort offset) = stores int
-wants_of image shape (op.PutInt offset) = stores int
-wants_of image shape (op.PutLong offset) = stores long
-wants_of image shape (op.Inner offset class) = gets (object class)
-wants_of image shape (op.Str offset size) = gets str
-wants_of image shape (op.BufSize offset) = gets int
-wants_of image shape (op.BufGet offset capacity) = gets_at int
-wants_of image shape (op.ArrayGetBool offset count) = gets_at bool
-wants_of image shape (op.ArrayGetByte offset count) = gets_at int
-wants_of image shape (op.ArrayGetShort offset count) = gets_at int
-wants_of image shape (op.ArrayGetInt offset count) = gets_at int
-wants_of image shape (op.ArrayGetLong offset count) = gets_at long
-wants_of image shape (op.ArrayPutBool offset count) = stores_at bool
-wants_of image shape (op.ArrayPutByte offset count) = stores_at int
-wants_of image shape (op.ArrayPutShort offset count) = stores_at int
-wants_of image shape (op.ArrayPutInt offset count) = stores_at int
-wants_of image shape (op.ArrayPutLong offset count) = stores_at long
-wants_of image shape (op.Call number) = static_wants (slice_get image.methods number)
-wants_of image shape (op.VirtualCall class place) = call_wants_of class (declared_method image class place)
-wants_of image shape op.Return = nothing
-wants_of image shape op.ReturnValue = wants (Anything ∷ []) []
-wants_of image shape op.Ticks = wants [] (long ∷ [])
-wants_of image shape op.StrLen = wants (Goes str ∷ []) (int ∷ [])
-wants_of image shape op.StrGet = wants (Goes int ∷ Goes str ∷ []) (int ∷ [])
-wants_of image shape op.StrSet = wants (Goes int ∷ Goes int ∷ Goes str ∷ []) []
-wants_of image shape op.StrEq = wants (Goes str ∷ Goes str ∷ []) (bool ∷ [])
-wants_of image shape op.StrCopy = wants (Goes str ∷ Goes str ∷ []) []
+abbrev pub nothing : Effect
+nothing = effect takes.Nothing puts.Nothing
+
+abbrev pub constant : ImageKind → Effect
+constant k = effect takes.Nothing (puts.One k)
+
+abbrev pub takes_any : Effect
+takes_any = effect (takes.One Anything) puts.Nothing
+
+abbrev pub twice : Effect
+twice = effect (takes.One Anything) puts.Twice
+
+abbrev pub of_two : ImageKind → ImageKind → Effect
+of_two k gives = effect (takes.Two (Goes k) (Goes k)) (puts.One gives)
+
+abbrev pub long_shift : Effect
+long_shift = effect (takes.Two (Goes int) (Goes long)) (puts.One long)
+
+abbrev pub of_references : Effect
+of_references = effect (takes.Two Reference Reference) (puts.One bool)
+
+abbrev pub converts : ImageKind → ImageKind → Effect
+converts k gives = effect (takes.One (Goes k)) (puts.One gives)
+
+abbrev pub takes_one : ImageKind → Effect
+takes_one k = effect (takes.One (Goes k)) puts.Nothing
+
+abbrev pub gets : ImageKind → Effect
+gets k = effect (takes.One AnyObject) (puts.One k)
+
+abbrev pub stores : ImageKind → Effect
+stores k = effect (takes.Two (Goes k) AnyObject) puts.Nothing
+
+abbrev pub gets_at : ImageKind → Effect
+gets_at k = effect (takes.Two (Goes int) AnyObject) (puts.One k)
+
+abbrev pub stores_at : ImageKind → Effect
+stores_at k = effect (takes.Three (Goes k) (Goes int) AnyObject) puts.Nothing
+
+abbrev pub str_get : Effect
+str_get = effect (takes.Two (Goes int) (Goes str)) (puts.One int)
+
+abbrev pub str_set : Effect
+str_set = effect (takes.Three (Goes int) (Goes int) (Goes str)) puts.Nothing
+
+abbrev pub str_copy : Effect
+str_copy = effect (takes.Two (Goes str) (Goes str)) puts.Nothing
+
+abbrev pub loads : List ImageKind → ℕ → Effect
+loads locals i = option_map_or (λ k. constant k) (slice_get locals i) nothing
+
+-- the arguments of a method, and below them a receiver of a class, if it has one
+abbrev pub arguments : ℕ → ℕ → Effect
+arguments method class = effect (takes.Arguments method class) (puts.Answer method)
+
+abbrev pub calls : Image → ℕ → Effect
+calls image n = option_map_or (λ m. arguments n m.class) (slice_get image.methods n) nothing
+
+abbrev pub virtual_calls : Image → ℕ → ℕ → Effect
+virtual_calls image class place = option_map_or (λ n. arguments n class) (table_method image class place) nothing
+
+abbrev pub wants_of : Image → List ImageKind → Op → Effect
+wants_of image locals (op.Int n) = constant int
+wants_of image locals (op.Long n) = constant long
+wants_of image locals (op.Bool t) = constant bool
+wants_of image locals op.Null = constant null
+wants_of image locals (op.Text n) = constant str
+wants_of image locals op.Statics = constant statics
+wants_of image locals (op.Load i) = loads locals i
+wants_of image locals (op.Store i) = takes_any
+wants_of image locals op.Dup = twice
+wants_of image locals op.Pop = takes_any
+wants_of image locals op.IntAdd = of_two int int
+wants_of image locals op.IntSub = of_two int int
+wants_of image locals op.IntMul = of_two int int
+wants_of image locals op.IntDiv = of_two int int
+wants_of image locals op.IntRem = of_two int int
+wants_of image locals op.IntAnd = of_two int int
+wants_of image locals op.IntOr = of_two int int
+wants_of image locals op.IntXor = of_two int int
+wants_of image locals op.IntShl = of_two int int
+wants_of image locals op.IntShr = of_two int int
+wants_of image locals op.IntNeg = converts int int
+wants_of image locals op.IntNot = converts int int
+wants_of image locals op.LongAdd = of_two long long
+wants_of image locals op.LongSub = of_two long long
+wants_of image locals op.LongMul = of_two long long
+wants_of image locals op.LongDiv = of_two long long
+wants_of image locals op.LongRem = of_two long long
+wants_of image locals op.LongAnd = of_two long long
+wants_of image locals op.LongOr = of_two long long
+wants_of image locals op.LongXor = of_two long long
+wants_of image locals op.LongShl = long_shift
+wants_of image locals op.LongShr = long_shift
+wants_of image locals op.LongNeg = converts long long
+wants_of image locals op.LongNot = converts long long
+wants_of image locals op.IntEq = of_two int bool
+wants_of image locals op.IntNe = of_two int bool
+wants_of image locals op.IntLt = of_two int bool
+wants_of image locals op.IntLe = of_two int bool
+wants_of image locals op.IntGt = of_two int bool
+wants_of image locals op.IntGe = of_two int bool
+wants_of image locals op.LongEq = of_two long bool
+wants_of image locals op.LongNe = of_two long bool
+wants_of image locals op.LongLt = of_two long bool
+wants_of image locals op.LongLe = of_two long bool
+wants_of image locals op.LongGt = of_two long bool
+wants_of image locals op.LongGe = of_two long bool
+wants_of image locals op.BoolEq = of_two bool bool
+wants_of image locals op.BoolNe = of_two bool bool
+wants_of image locals op.RefEq = of_references
+wants_of image locals op.RefNe = of_references
+wants_of image locals op.IntToLong = converts int long
+wants_of image locals op.LongToInt = converts long int
+wants_of image locals op.Not = converts bool bool
+wants_of image locals op.IntToByte = converts int int
+wants_of image locals op.IntToShort = converts int int
+wants_of image locals (op.Jump to) = nothing
+wants_of image locals (op.JumpFalse to) = takes_one bool
+wants_of image locals (op.JumpTrue to) = takes_one bool
+wants_of image locals op.Turn = nothing
+wants_of image locals (op.GetBool offset) = gets bool
+wants_of image locals (op.GetByte offset) = gets int
+wants_of image locals (op.GetShort offset) = gets int
+wants_of image locals (op.GetInt offset) = gets int
+wants_of image locals (op.GetLong offset) = gets long
+wants_of image locals (op.PutBool offset) = stores bool
+wants_of image locals (op.PutByte offset) = stores int
+wants_of image locals (op.PutShort offset) = stores int
+wants_of image locals (op.PutInt offset) = stores int
+wants_of image locals (op.PutLong offset) = stores long
+wants_of image locals (op.Inner offset class) = gets (object class)
+wants_of image locals (op.Str offset size) = gets str
+wants_of image locals (op.BufSize offset) = gets int
+wants_of image locals (op.BufGet offset capacity) = gets_at int
+wants_of image locals (op.ArrayGetBool offset count) = gets_at bool
+wants_of image locals (op.ArrayGetByte offset count) = gets_at int
+wants_of image locals (op.ArrayGetShort offset count) = gets_at int
+wants_of image locals (op.ArrayGetInt offset count) = gets_at int
+wants_of image locals (op.ArrayGetLong offset count) = gets_at long
+wants_of image locals (op.ArrayPutBool offset count) = stores_at bool
+wants_of image locals (op.ArrayPutByte offset count) = stores_at int
+wants_of image locals (op.ArrayPutShort offset count) = stores_at int
+wants_of image locals (op.ArrayPutInt offset count) = stores_at int
+wants_of image locals (op.ArrayPutLong offset count) = stores_at long
+wants_of image locals (op.Call n) = calls image n
+wants_of image locals (op.VirtualCall class place) = virtual_calls image class place
+wants_of image locals op.Return = nothing
+wants_of image locals op.ReturnValue = takes_any
+wants_of image locals op.Ticks = constant long
+wants_of image locals op.StrLen = converts str int
+wants_of image locals op.StrGet = str_get
+wants_of image locals op.StrSet = str_set
+wants_of image locals op.StrEq = of_two str bool
+wants_of image locals op.StrCopy = str_copy
+
+-- the cells that an instruction takes where kinds stand
+abbrev pub needs : Image → Shape → Op → List Need
+needs image shape i = needs_of image (wants_of image shape.locals i).takes

@@ -39,8 +39,8 @@ pub fn rules_are_broken_or_not()
     ensures { (image : AnyImage) → (first_broken image ≡ None) ↔ BreaksNone image }
 {}
 
-/// What the walk of the rules finds is the first rule that is broken, by method, place and rule, with that on the tables
-/// before all.
+/// What the walk of the rules finds is the first rule that is broken, by method, place and rule, with that on the
+/// tables before all.
 pub fn first_broken_is_least()
     ensures { (image : AnyImage) (b : Broken) → (first_broken image ≡ Some b) ↔ IsFirstBroken image b }
 {}

@@ -7,8 +7,10 @@
 #![tactic(auto)]
 
 mod laws;
+mod needs;
 
 pub use laws::{
     first_broken_is_least, images_answer, images_without_fault_are_verified, machines_end_once,
     references_lead_to_their_places, rules_are_broken_or_not, stacks_keep_their_maximum,
 };
+pub use needs::{Effect, Need, Puts, Takes};

@@ -5,10 +5,11 @@ use Rattle.std.proofs.Math.ListN.{set}
 use Rattle.scode_image.specs.declared.image.Image.{Image}
 use Rattle.scode_image.specs.declared.image.ImageKind.{ImageKind}
 use Rattle.scode_code.specs.CodeRules.{with_kind}
-use Rattle.scode_rules.specs.declared.needs.Puts.TheVariants as puts
-use Rattle.scode_rules.specs.declared.needs.Takes.{Takes}
-use Rattle.scode_rules.specs.declared.needs.Takes.TheVariants as takes
-use Rattle.scode_rules.specs.Words.{is_ordinary, takes_of}
+use Rattle.scode_code.specs.declared.needs.Puts.TheVariants as puts
+use Rattle.scode_code.specs.declared.needs.Takes.{Takes}
+use Rattle.scode_code.specs.declared.needs.Takes.TheVariants as takes
+use Rattle.scode_rules.specs.Words.{is_ordinary}
+use Rattle.scode_code.specs.Wants.{needs_of}
 
 take_drop : {A : Type 0} (n : ℕ) (xs : List A) → take n xs ++ drop n xs ≡ xs
 take_drop zero xs = refl
@@ -41,7 +42,7 @@ no_top [] is = refl
 no_top (x ∷ xs) is = cc
 
 pub twice_takes_one : (image : Image) (t : Takes) → is_ordinary (record { takes = t; puts = puts.Twice }) ≡ true
-    → length (takes_of image t) ≡ 1
+    → length (needs_of image t) ≡ 1
 twice_takes_one image takes.Nothing h = cc
 twice_takes_one image (takes.One a) h = refl
 twice_takes_one image (takes.Two a b) h = cc

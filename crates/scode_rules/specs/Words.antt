@@ -3,48 +3,22 @@ use Rattle.std.specs.Prelude.{ℕ, Bool, false, not, true, List, [], ◌∷◌, 
 use Rattle.std.specs.Option.{option_map_or}
 use Rattle.scode_image.specs.declared.image.Image.{Image}
 use Rattle.scode_image.specs.declared.image.ImageKind.{ImageKind}
+use Rattle.scode_image.specs.declared.image.ImageMethod.{ImageMethod}
 use Rattle.scode_code.specs.Kinds.{Shape, goes_to}
 use Rattle.scode_code.specs.CodeRules.{field_missing, is_abstract, lacks_field}
 use Rattle.scode_ops.specs.declared.op.Op.{Op}
 use Rattle.scode_ops.specs.declared.op.Op.TheVariants as op
 use Rattle.scode_code.specs.Wants as wants
-use Rattle.scode_rules.specs.declared.needs.Effect.{Effect}
-use Rattle.scode_rules.specs.declared.needs.Need.{Need}
-use Rattle.scode_rules.specs.declared.needs.Need.TheVariants as need
-use Rattle.scode_rules.specs.declared.needs.Puts.{Puts}
-use Rattle.scode_rules.specs.declared.needs.Puts.TheVariants as puts
-use Rattle.scode_rules.specs.declared.needs.Takes.{Takes}
-use Rattle.scode_rules.specs.declared.needs.Takes.TheVariants as takes
+use Rattle.scode_code.specs.declared.needs.Need.{Need}
+use Rattle.scode_code.specs.declared.needs.Effect.{Effect}
+use Rattle.scode_code.specs.declared.needs.Puts.{Puts}
+use Rattle.scode_code.specs.declared.needs.Puts.TheVariants as puts
+use Rattle.scode_code.specs.declared.needs.Takes.{Takes}
+use Rattle.scode_code.specs.declared.needs.Takes.TheVariants as takes
 use Rattle.scode_rules.specs.declared.fields.FieldNeed.{FieldNeed}
 
 abbrev pub goes_along : Image → ImageKind × ImageKind → Bool
 goes_along image pair = goes_to image pair.0 pair.1
-
--- ---- effects
-
-abbrev pub need_of : Need → wants.Need
-need_of (need.Goes k) = wants.Goes k
-need_of need.AnyObject = wants.AnyObject
-need_of need.Reference = wants.Reference
-need_of need.Anything = wants.Anything
-
-abbrev pub takes_of : Image → Takes → List wants.Need
-takes_of image takes.Nothing = []
-takes_of image (takes.One a) = need_of a ∷ []
-takes_of image (takes.Two a b) = need_of a ∷ need_of b ∷ []
-takes_of image (takes.Three a b c) = need_of a ∷ need_of b ∷ need_of c ∷ []
-takes_of image (takes.Arguments method class) = (wants.call_wants_of class (slice_get image.methods method)).takes
-
-abbrev pub puts_of : Image → Puts → List ImageKind → List ImageKind
-puts_of image puts.Nothing taken = []
-puts_of image (puts.One k) taken = k ∷ []
-puts_of image puts.Twice taken = taken ++ taken
-puts_of image (puts.Answer method) taken =
-    option_map_or (λ m. wants.result_cells m.result) (slice_get image.methods method) []
-
--- what an effect wants of a stack
-abbrev pub wanted : Image → Effect → wants.Wants
-wanted image e = record { takes = takes_of image e.takes; puts = puts_of image e.puts }
 
 -- ---- fields
 
@@ -75,8 +49,12 @@ top_differs image stack kind = not (option_map_or (λ k. goes_to image k kind) (
 abbrev pub shape : List ImageKind → List ImageKind → Shape
 shape locals stack = record { locals = locals; stack = reverse stack }
 
+-- what is taken for a method, if it is there
+abbrev pub arguments_of : ℕ → Option ImageMethod → List Need
+arguments_of class m = option_map_or (wants.argument_needs class) m []
+
 -- of a cell that is not there nothing is said
-abbrev pub meets_at : Image → wants.Need → Option ImageKind → Bool
+abbrev pub meets_at : Image → Need → Option ImageKind → Bool
 meets_at image n None = true
 meets_at image n (Some k) = wants.meets image n k
 

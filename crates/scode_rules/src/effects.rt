@@ -1,19 +1,17 @@
 //! The effect of each instruction.
-ghost use Rattle.std.specs.Prelude.{◌≡◌, List, true};
-ghost use Rattle.scode_image.specs.declared.image.ImageKind.{ImageKind as AnyKind};
+ghost use Rattle.std.specs.Prelude.{◌≡◌, true};
 ghost use Rattle.scode_code.specs.Wants as wants;
-ghost use Rattle.scode_rules.specs.Table as table;
 ghost use Rattle.scode_rules.specs.Words as words;
 
 use crate::cells::local_at;
 use crate::kinds::{BOOL, INT, LONG, NULL, STATICS, STR, object};
-use crate::needs::{Effect, Need, Puts, Takes};
+use scode_code::{Effect, Need, Puts, Takes};
 use scode_image::{Image, ImageKind};
 use scode_ops::Op;
 use scode_tables::{method_at, table_method};
 
 fn nothing() -> Effect
-    ensures { result ≡ table.nothing }
+    ensures { result ≡ wants.nothing }
 {
     Effect {
         takes: Takes::Nothing,
@@ -22,7 +20,7 @@ fn nothing() -> Effect
 }
 
 fn constant(kind: ImageKind) -> Effect
-    ensures { result ≡ table.constant kind }
+    ensures { result ≡ wants.constant kind }
 {
     Effect {
         takes: Takes::Nothing,
@@ -31,7 +29,7 @@ fn constant(kind: ImageKind) -> Effect
 }
 
 fn takes_any() -> Effect
-    ensures { result ≡ table.takes_any }
+    ensures { result ≡ wants.takes_any }
 {
     Effect {
         takes: Takes::One(Need::Anything),
@@ -40,7 +38,7 @@ fn takes_any() -> Effect
 }
 
 fn twice() -> Effect
-    ensures { result ≡ table.twice }
+    ensures { result ≡ wants.twice }
 {
     Effect {
         takes: Takes::One(Need::Anything),
@@ -49,7 +47,7 @@ fn twice() -> Effect
 }
 
 fn of_two(kind: ImageKind, gives: ImageKind) -> Effect
-    ensures { result ≡ table.of_two kind gives }
+    ensures { result ≡ wants.of_two kind gives }
 {
     Effect {
         takes: Takes::Two(Need::Goes(kind), Need::Goes(kind)),
@@ -58,7 +56,7 @@ fn of_two(kind: ImageKind, gives: ImageKind) -> Effect
 }
 
 fn long_shift() -> Effect
-    ensures { result ≡ table.long_shift }
+    ensures { result ≡ wants.long_shift }
 {
     Effect {
         takes: Takes::Two(Need::Goes(INT), Need::Goes(LONG)),
@@ -67,7 +65,7 @@ fn long_shift() -> Effect
 }
 
 fn of_references() -> Effect
-    ensures { result ≡ table.of_references }
+    ensures { result ≡ wants.of_references }
 {
     Effect {
         takes: Takes::Two(Need::Reference, Need::Reference),
@@ -76,7 +74,7 @@ fn of_references() -> Effect
 }
 
 fn converts(kind: ImageKind, gives: ImageKind) -> Effect
-    ensures { result ≡ table.converts kind gives }
+    ensures { result ≡ wants.converts kind gives }
 {
     Effect {
         takes: Takes::One(Need::Goes(kind)),
@@ -85,7 +83,7 @@ fn converts(kind: ImageKind, gives: ImageKind) -> Effect
 }
 
 fn takes_one(kind: ImageKind) -> Effect
-    ensures { result ≡ table.takes_one kind }
+    ensures { result ≡ wants.takes_one kind }
 {
     Effect {
         takes: Takes::One(Need::Goes(kind)),
@@ -94,7 +92,7 @@ fn takes_one(kind: ImageKind) -> Effect
 }
 
 fn gets(kind: ImageKind) -> Effect
-    ensures { result ≡ table.gets kind }
+    ensures { result ≡ wants.gets kind }
 {
     Effect {
         takes: Takes::One(Need::AnyObject),
@@ -103,7 +101,7 @@ fn gets(kind: ImageKind) -> Effect
 }
 
 fn stores(kind: ImageKind) -> Effect
-    ensures { result ≡ table.stores kind }
+    ensures { result ≡ wants.stores kind }
 {
     Effect {
         takes: Takes::Two(Need::Goes(kind), Need::AnyObject),
@@ -112,7 +110,7 @@ fn stores(kind: ImageKind) -> Effect
 }
 
 fn gets_at(kind: ImageKind) -> Effect
-    ensures { result ≡ table.gets_at kind }
+    ensures { result ≡ wants.gets_at kind }
 {
     Effect {
         takes: Takes::Two(Need::Goes(INT), Need::AnyObject),
@@ -121,7 +119,7 @@ fn gets_at(kind: ImageKind) -> Effect
 }
 
 fn stores_at(kind: ImageKind) -> Effect
-    ensures { result ≡ table.stores_at kind }
+    ensures { result ≡ wants.stores_at kind }
 {
     Effect {
         takes: Takes::Three(Need::Goes(kind), Need::Goes(INT), Need::AnyObject),
@@ -130,7 +128,7 @@ fn stores_at(kind: ImageKind) -> Effect
 }
 
 fn str_get() -> Effect
-    ensures { result ≡ table.str_get }
+    ensures { result ≡ wants.str_get }
 {
     Effect {
         takes: Takes::Two(Need::Goes(INT), Need::Goes(STR)),
@@ -139,7 +137,7 @@ fn str_get() -> Effect
 }
 
 fn str_set() -> Effect
-    ensures { result ≡ table.str_set }
+    ensures { result ≡ wants.str_set }
 {
     Effect {
         takes: Takes::Three(Need::Goes(INT), Need::Goes(INT), Need::Goes(STR)),
@@ -148,7 +146,7 @@ fn str_set() -> Effect
 }
 
 fn str_copy() -> Effect
-    ensures { result ≡ table.str_copy }
+    ensures { result ≡ wants.str_copy }
 {
     Effect {
         takes: Takes::Two(Need::Goes(STR), Need::Goes(STR)),
@@ -157,7 +155,7 @@ fn str_copy() -> Effect
 }
 
 fn load(locals: &[ImageKind], number: u8) -> Effect
-    ensures { result ≡ table.loads locals.now number }
+    ensures { result ≡ wants.loads locals.now number }
 {
     match local_at(locals, number) {
         Some(kind) => constant(kind),
@@ -167,7 +165,7 @@ fn load(locals: &[ImageKind], number: u8) -> Effect
 
 // The arguments of a method, above a receiver of a class, if it has one.
 fn arguments(method: u16, class: u16) -> Effect
-    ensures { result ≡ table.arguments method class }
+    ensures { result ≡ wants.arguments method class }
 {
     Effect {
         takes: Takes::Arguments { method, class },
@@ -176,7 +174,7 @@ fn arguments(method: u16, class: u16) -> Effect
 }
 
 fn call(image: &Image, method: u16) -> Effect
-    ensures { result ≡ table.calls image.now method }
+    ensures { result ≡ wants.calls image.now method }
 {
     match method_at(image, method) {
         Some(found) => arguments(method, found.class),
@@ -185,7 +183,7 @@ fn call(image: &Image, method: u16) -> Effect
 }
 
 fn virtual_call(image: &Image, class: u16, place: u8) -> Effect
-    ensures { result ≡ table.virtual_calls image.now class place }
+    ensures { result ≡ wants.virtual_calls image.now class place }
 {
     match table_method(image, class, place) {
         Some(method) => arguments(method, class),
@@ -194,7 +192,7 @@ fn virtual_call(image: &Image, class: u16, place: u8) -> Effect
 }
 
 fn table_effect(image: &Image, locals: &[ImageKind], op: Op) -> Effect
-    ensures { result ≡ table.effect_by image.now locals.now op }
+    ensures { result ≡ wants.wants_of image.now locals.now op }
 {
     match op {
         Op::Int(_) => constant(INT),
@@ -268,7 +266,7 @@ fn table_effect(image: &Image, locals: &[ImageKind], op: Op) -> Effect
 
 /// What an instruction takes off the stack and puts on it, where these are the locals.
 pub(crate) fn effect_of(image: &Image, locals: &[ImageKind], op: Op) -> Effect
-    ensures wants { (stack : List AnyKind) → words.wanted image.now result ≡ wants.wants_of image.now (record { locals = locals.now; stack = stack }) op }
+    ensures wants { result ≡ wants.wants_of image.now locals.now op }
     ensures ordinary { words.is_ordinary result ≡ true }
 {
     table_effect(image, locals, op)

@@ -6,8 +6,8 @@ ghost use Rattle.scode_rules.specs.Words as words;
 
 use crate::cells::cell_at;
 use crate::effects::effect_of;
-use crate::needs::{Effect, Puts};
 use crate::stack::takes_count;
+use scode_code::{Effect, Puts};
 use scode_image::{Image, ImageKind};
 use scode_ops::Op;
 use scode_tables::method_at;
@@ -57,9 +57,9 @@ fn put_answer(image: &Image, method: u16, stack: &mut Vec<ImageKind>) -> Result<
 
 #[tactic(auto, using(crate::proofs::Stacks::twice_takes_one))]
 fn put_effect(image: &Image, effect: Effect, stack: &mut Vec<ImageKind>) -> Result<(), Memory>
-    requires enough { length (words.takes_of image.now effect.takes) ≤ length stack.old.items }
+    requires enough { length (wants.needs_of image.now effect.takes) ≤ length stack.old.items }
     requires ordinary { words.is_ordinary effect ≡ true }
-    ensures { OnOk result (reverse stack.new.items ≡ rules.after_stack (words.wanted image.now effect) (reverse stack.old.items)) }
+    ensures { OnOk result (reverse stack.new.items ≡ rules.after_stack image.now effect (reverse stack.old.items)) }
 {
     let taken = takes_count(image, effect.takes);
     match effect.puts {
@@ -102,7 +102,7 @@ pub fn leave(
     stack: &mut Vec<ImageKind>,
     op: Op,
 ) -> Result<(), Memory>
-    requires { length (wants.wants_of image.now (words.shape locals.old.items stack.old.items) op).takes ≤ length stack.old.items }
+    requires { length (wants.needs image.now (words.shape locals.old.items stack.old.items) op) ≤ length stack.old.items }
     ensures { OnOk result (words.shape locals.new.items stack.new.items ≡ rules.after image.now (words.shape locals.old.items stack.old.items) op) }
 {
     let effect = effect_of(image, locals.as_slice(), op);

@@ -12,7 +12,6 @@ mod effects;
 mod fields;
 mod kinds;
 mod leaving;
-mod needs;
 mod numbers;
 mod places;
 mod stack;

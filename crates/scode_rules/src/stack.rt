@@ -5,12 +5,13 @@ ghost use Rattle.scode_code.specs.Calls as calls;
 ghost use Rattle.scode_code.specs.CodeRules as rules;
 ghost use Rattle.scode_code.specs.Wants as wants;
 ghost use Rattle.scode_rules.specs.Words as words;
-ghost use Rattle.scode_rules.specs.declared.needs.Puts.TheVariants as kinds_put;
+ghost use Rattle.scode_code.specs.declared.needs.Need.TheVariants as kinds_need;
+ghost use Rattle.scode_code.specs.declared.needs.Puts.TheVariants as kinds_put;
 
 use crate::cells::cell_at;
 use crate::effects::effect_of;
 use crate::kinds::{goes_to, is_null, is_object, is_str, object};
-use crate::needs::{Effect, Need, Puts, Takes};
+use scode_code::{Effect, Need, Puts, Takes};
 use scode_image::{Image, ImageKind, ImageMethod};
 use scode_ops::Op;
 use scode_tables::{is_instance, method_at};
@@ -30,7 +31,7 @@ fn argument_count(method: &ImageMethod) -> usize
 
 #[tactic(auto, using(crate::proofs::Counts::arguments_are))]
 fn arguments_taken(image: &Image, method: u16, class: u16) -> usize
-    ensures { result ≡ length (wants.call_wants_of class (slice_get image.now.methods method)).takes }
+    ensures { result ≡ length (words.arguments_of class (slice_get image.now.methods method)) }
 {
     match method_at(image, method) {
         Some(found) => argument_count(found),
@@ -40,7 +41,7 @@ fn arguments_taken(image: &Image, method: u16, class: u16) -> usize
 
 // How many cells are taken.
 pub(crate) fn takes_count(image: &Image, takes: Takes) -> usize
-    ensures { result ≡ length (words.takes_of image.now takes) }
+    ensures { result ≡ length (wants.needs_of image.now takes) }
 {
     match takes {
         Takes::Nothing => 0,
@@ -52,7 +53,7 @@ pub(crate) fn takes_count(image: &Image, takes: Takes) -> usize
 }
 
 fn answer_count(image: &Image, method: u16) -> usize
-    ensures count { (taken : List AnyKind) → result ≡ length (words.puts_of image.now (kinds_put.Answer method) taken) }
+    ensures count { (taken : List AnyKind) → result ≡ length (wants.cells_of image.now (kinds_put.Answer method) taken) }
     ensures most { result ≤ 1 }
 {
     match method_at(image, method) {
@@ -64,7 +65,7 @@ fn answer_count(image: &Image, method: u16) -> usize
 // How many cells are put for so many that are taken.
 fn puts_count(image: &Image, puts: Puts, taken: usize) -> usize
     requires { taken ≤ 9223372036854775807 }
-    ensures count { (cells : List AnyKind) → length cells ≡ taken → result ≡ length (words.puts_of image.now puts cells) }
+    ensures count { (cells : List AnyKind) → length cells ≡ taken → result ≡ length (wants.cells_of image.now puts cells) }
     ensures most { result ≤ taken + taken + 1 }
 {
     match puts {
@@ -97,7 +98,7 @@ pub fn stack_breaks(
 // ---- of which kinds
 
 fn meets(image: &Image, need: Need, kind: ImageKind) -> bool
-    ensures { result ≡ wants.meets image.now (words.need_of need) kind }
+    ensures { result ≡ wants.meets image.now need kind }
 {
     match need {
         Need::Goes(to) => goes_to(image, kind, to),
@@ -109,7 +110,7 @@ fn meets(image: &Image, need: Need, kind: ImageKind) -> bool
 
 // Whether the cell so deep is what is needed; of one that is not there nothing is said.
 fn meets_at(image: &Image, stack: &[ImageKind], depth: usize, need: Need) -> bool
-    ensures { result ≡ words.meets_at image.now (words.need_of need) (slice_get (reverse stack.now) depth) }
+    ensures { result ≡ words.meets_at image.now need (slice_get (reverse stack.now) depth) }
 {
     match cell_at(stack, depth) {
         Some(kind) => meets(image, need, kind),
@@ -119,7 +120,7 @@ fn meets_at(image: &Image, stack: &[ImageKind], depth: usize, need: Need) -> boo
 
 // Whether the cells are what the parameters of a method need, the last on top.
 fn params_meet(image: &Image, stack: &[ImageKind], params: &[ImageKind]) -> bool
-    ensures { result ≡ rules.all_meet image.now (map wants.Goes (reverse params.now)) (reverse stack.now) }
+    ensures { result ≡ rules.all_meet image.now (map kinds_need.Goes (reverse params.now)) (reverse stack.now) }
 {
     for depth in 0..params.len() {
         let param = params[params.len() - 1 - depth];
@@ -132,7 +133,7 @@ fn params_meet(image: &Image, stack: &[ImageKind], params: &[ImageKind]) -> bool
 
 #[tactic(auto, using(crate::proofs::Meeting::arguments_with, crate::proofs::Meeting::arguments_without))]
 fn arguments_meet(image: &Image, stack: &[ImageKind], method: &ImageMethod, class: u16) -> bool
-    ensures { result ≡ rules.all_meet image.now (wants.call_wants class method.now).takes (reverse stack.now) }
+    ensures { result ≡ rules.all_meet image.now (wants.argument_needs class method.now) (reverse stack.now) }
 {
     let params = method.params.as_slice();
     if !is_instance(method) {
@@ -143,7 +144,7 @@ fn arguments_meet(image: &Image, stack: &[ImageKind], method: &ImageMethod, clas
 }
 
 fn call_meets(image: &Image, stack: &[ImageKind], method: u16, class: u16) -> bool
-    ensures { result ≡ rules.all_meet image.now (wants.call_wants_of class (slice_get image.now.methods method)).takes (reverse stack.now) }
+    ensures { result ≡ rules.all_meet image.now (words.arguments_of class (slice_get image.now.methods method)) (reverse stack.now) }
 {
     match method_at(image, method) {
         Some(found) => arguments_meet(image, stack, found, class),
@@ -153,7 +154,7 @@ fn call_meets(image: &Image, stack: &[ImageKind], method: u16, class: u16) -> bo
 
 #[tactic(auto, using(crate::proofs::Meeting::one_meets, crate::proofs::Meeting::two_meet, crate::proofs::Meeting::three_meet))]
 fn all_meet(image: &Image, takes: Takes, stack: &[ImageKind]) -> bool
-    ensures { result ≡ rules.all_meet image.now (words.takes_of image.now takes) (reverse stack.now) }
+    ensures { result ≡ rules.all_meet image.now (wants.needs_of image.now takes) (reverse stack.now) }
 {
     match takes {
         Takes::Nothing => true,

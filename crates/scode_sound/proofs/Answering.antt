@@ -12,6 +12,7 @@ use Rattle.sed_engine.specs.State.{Shared}
 use Rattle.sed_engine.specs.Stops.{Stop, Traps, Untyped}
 use Rattle.sed_engine.specs.Values.{Val}
 use Rattle.sed_engine.specs.Whole.{AnswersWell, EndsWell}
+use Rattle.sed_engine.proofs.Asking.{may_from}
 use Rattle.scode_image.specs.declared.image.Image.{Image}
 use Rattle.scode_image.specs.declared.image.ImageMethod.{ImageMethod}
 use Rattle.scode_code.specs.Calls.{locals_of}
@@ -97,7 +98,8 @@ module _ (w : Setting) (is : Tables w.image) (own : Concrete w.image w.class) (g
 fitting_of : (image : Image) (q : Question) → MayAsk (code_of image) q
     → Fitting (setting_of image q) q.turns (shared_of q)
 fitting_of image q may =
-    record { contents = may.contents; statics = may.statics; moment = may.moment; turns = omega arith }
+    let asked = may_from (code_of image) q may in
+    record { contents = asked.contents; statics = asked.statics; moment = asked.moment; turns = omega arith }
 
 trap_number : (t : Trap) → EndsWell 0 (end_of (Err (Traps t)) 0)
 trap_number ZeroDivisor = (lit≤ tt, lit≤ tt)
@@ -124,8 +126,9 @@ record Known (image : Image) (is : Tables image) (q : Question) : Type 0 where
 
 known_of : (image : Image) (is : Tables image) (q : Question) → MayAsk (code_of image) q → Known image is q
 known_of image is q may =
-    let own : IsComponentClass image q.class = component_class image q.class may.creatable in
-    record { component = own; asked = asks image is q own q.which refl may.argument }
+    let may_be = may_from (code_of image) q may in
+    let own : IsComponentClass image q.class = component_class image q.class may_be.creatable in
+    record { component = own; asked = asks image is q own q.which refl may_be.argument }
 
 module _ (image : Image) (clean : IsVerified image) (shapes : Shapes) (verified : IsVerifiedBy image shapes)
     (q : Question) (may : MayAsk (code_of image) q) where

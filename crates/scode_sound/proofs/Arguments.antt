@@ -17,7 +17,7 @@ use Rattle.scode_code.specs.Effect.{taken}
 use Rattle.scode_code.specs.Fields.{Setting}
 use Rattle.scode_code.specs.Kinds.{object, same_kind}
 use Rattle.scode_code.specs.TableRules as rule
-use Rattle.scode_code.specs.Wants.{Goes}
+use Rattle.scode_code.specs.declared.needs.Need.TheVariants.{Goes}
 use Rattle.scode_whole.proofs.Rows.{begins_with}
 use Rattle.scode_sound.specs.Cells.{Fit, HasKind}
 use Rattle.scode_sound.proofs.Rules.{MethodRule, Tables}

@@ -24,7 +24,8 @@ use Rattle.scode_code.specs.Kinds.{Shape, goes_to}
 use Rattle.scode_code.specs.Machine.{Frame, Machine, At as AtWork, Over, Move, Onward, Goto, Enter, Leave, moves, pushed, returned}
 use Rattle.scode_code.specs.Steps.{effect}
 use Rattle.scode_code.specs.Verified.{IsFine, IsVerifiedBy, Leads, MayJump, Shapes}
-use Rattle.scode_code.specs.Wants.{Anything, result_cells, wants_of}
+use Rattle.scode_code.specs.declared.needs.Need.TheVariants.{Anything}
+use Rattle.scode_code.specs.Wants.{needs, result_cells, wants_of}
 use Rattle.scode_whole.proofs.Truths.{no_truth, same_value}
 use Rattle.scode_sound.specs.Potential.{left_at, left_of, longest, weigh}
 use Rattle.scode_sound.specs.Cells.{Concrete, Fit, HasKind}
@@ -128,7 +129,7 @@ module _ (w : Setting) (is : Tables w.image) (own : Concrete w.image w.class) (g
       pub instruction : op_at m.code place ≡ Some i
       pub fine : IsFine w.image shapes method m place shape i
       pub spelled : IsOp i
-      pub cells : Takes w (wants_of w.image shape i).takes shape.stack stack
+      pub cells : Takes w (needs w.image shape i) shape.stack stack
 
     pub left_is : (p : ℕ) → left_of w method p ≡ left_at m.code p
     left_is p = ap (λ (code : List ℕ). left_at code p) (code_is w method m known)
@@ -230,7 +231,7 @@ module _ (w : Setting) (is : Tables w.image) (own : Concrete w.image w.class) (g
       count = ap (λ (ks : List ImageKind). length ks) (straight_keeps shape i str) ∙ many
 
       landed : (r : Result Move Stop) (s : State) → Now w given sh.turns locals s
-          → Sound (Lands w i (after_stack (wants_of w.image shape i) shape.stack)) r
+          → Sound (Lands w i (after_stack w.image (wants_of w.image shape.locals i) shape.stack)) r
           → Better w given shapes now (moves frame below (place + size_of i) r s)
       landed (Ok (Onward st)) s g p =
           let l = h.fine.goes_on p.0 in

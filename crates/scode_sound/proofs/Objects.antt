@@ -34,7 +34,7 @@ use Rattle.scode_code.specs.Fields.{Setting, buf_at, class_of, field_at, fields_
 use Rattle.scode_code.specs.Kinds.{int, is_null, is_object, is_statics, object, str}
 use Rattle.scode_code.specs.Machine.{Move, Onward}
 use Rattle.scode_code.specs.Tables.{class_fields, form_of, is_field}
-use Rattle.scode_code.specs.Wants.{AnyObject, Goes}
+use Rattle.scode_code.specs.declared.needs.Need.TheVariants.{AnyObject, Goes}
 use Rattle.scode_whole.proofs.Bases.{follows}
 use Rattle.scode_whole.proofs.Kits.{classes_most}
 use Rattle.scode_whole.proofs.Truths.{either, no_truth, no_value, three}

@@ -30,7 +30,9 @@ use Rattle.scode_code.specs.Kinds.{Shape, all_go, object}
 use Rattle.scode_code.specs.Machine.{Frame, Machine, Point, At as AtWork, Over, Move, Enter, moves}
 use Rattle.scode_code.specs.Steps.{act, code_of, effect, step}
 use Rattle.scode_code.specs.Verified.{IsFine, IsVerifiedBy, Leads, Shapes, Stands}
-use Rattle.scode_code.specs.Wants.{Goes, call_wants_of, result_cells, static_wants, wants_of}
+use Rattle.scode_code.specs.declared.needs.Need.TheVariants.{Goes}
+use Rattle.scode_code.specs.declared.needs.Effect.{Effect}
+use Rattle.scode_code.specs.Wants.{argument_needs, arguments as method_effect, calls, cells_of, needs, needs_of, nothing as no_effect, result_cells, virtual_calls, wants_of}
 use Rattle.scode_whole.proofs.Kits.{classes_most}
 use Rattle.scode_whole.proofs.Truths.{no_truth, same_value, through}
 use Rattle.scode_sound.specs.Cells.{Block, Concrete, Fit, HasKind, Object, Text, class_from}
@@ -122,7 +124,7 @@ module _ (w : Setting) (is : Tables w.image) (own : Concrete w.image w.class) (g
   called : (i : Op) → Here i → is_end i ≡ false → is_turn (Some i) ≡ false → locals_after shape i ≡ shape.locals
       → (number : ℕ) (c : ImageMethod) (args rest : List Val) (kinds : List ImageKind)
       → slice_get w.image.methods number ≡ Some c → is_abstract c ≡ false → Fit w (kinds_of c.class c) args
-      → after_stack (wants_of w.image shape i) shape.stack ≡ result_cells c.result ++ kinds → Fit w kinds rest
+      → after_stack w.image (wants_of w.image shape.locals i) shape.stack ≡ result_cells c.result ++ kinds → Fit w kinds rest
       → (b : Bool) → (sh.turns == 0) ≡ b
       → Better now (moves frame below (place + size_of i)
       (after_step (if b then Err (Traps TurnsSpent) else Ok (tt {0}))
@@ -209,7 +211,7 @@ module _ (w : Setting) (is : Tables w.image) (own : Concrete w.image w.class) (g
   entered : (i : Op) → Here i → is_end i ≡ false → is_turn (Some i) ≡ false → locals_after shape i ≡ shape.locals
       → (number : ℕ) (c : ImageMethod) (args rest : List Val) (kinds : List ImageKind)
       → slice_get w.image.methods number ≡ Some c → is_abstract c ≡ false → Fit w (kinds_of c.class c) args
-      → after_stack (wants_of w.image shape i) shape.stack ≡ result_cells c.result ++ kinds → Fit w kinds rest
+      → after_stack w.image (wants_of w.image shape.locals i) shape.stack ≡ result_cells c.result ++ kinds → Fit w kinds rest
       → LeadsOn (place + size_of i) (goes_into number c args rest s0)
   entered i h on no_turn same number c args rest kinds e code fit_args leaves_it fit_rest =
       called i h on no_turn same number c args rest kinds e code fit_args leaves_it fit_rest (sh.turns == 0) refl
@@ -217,7 +219,7 @@ module _ (w : Setting) (is : Tables w.image) (own : Concrete w.image w.class) (g
   -- a method by its number, where its receiver is there
   met : (n : ℕ) → Here (op.Call n) → (c : ImageMethod) (args rest : List Val) (kinds : List ImageKind)
       → slice_get w.image.methods n ≡ Some c → is_abstract c ≡ false → Fit w (kinds_of c.class c) args
-      → after_stack (wants_of w.image shape (op.Call n)) shape.stack ≡ result_cells c.result ++ kinds → Fit w kinds rest
+      → after_stack w.image (wants_of w.image shape.locals (op.Call n)) shape.stack ≡ result_cells c.result ++ kinds → Fit w kinds rest
       → (r : Result (Unit {0}) Stop) → Sound (λ _. Unit {0}) r
       → LeadsOn (place + size_of (op.Call n))
       (then_do (answers r s0) (λ (u : Unit {0}) (s3 : State). goes_into n c args rest s3))
@@ -236,12 +238,18 @@ module _ (w : Setting) (is : Tables w.image) (own : Concrete w.image w.class) (g
       by_method (Some c) e =
           let code : is_abstract c ≡ false =
           sym (ap (λ (o : Option ImageMethod). option_map_or is_abstract o true) e) ∙ h.fine.numbers in
-          let cells : Takes w (static_wants (Some c)).takes shape.stack stack =
-          subst (λ (o : Option ImageMethod). Takes w (static_wants o).takes shape.stack stack) e h.cells in
+          let cells : Takes w (map Goes (reverse (kinds_of c.class c))) shape.stack stack =
+          subst (λ (o : Option ImageMethod). Takes w (option_map_or (argument_needs c.class) o []) shape.stack stack) e
+          (subst (λ (o : Option ImageMethod). Takes w (needs_of w.image
+          (option_map_or (λ (y : ImageMethod). method_effect n y.class) o no_effect).takes) shape.stack stack) e h.cells)
+          in
           let t = arguments w is c.class c shape.stack stack cells in
-          let leaves_it : after_stack (wants_of w.image shape (op.Call n)) shape.stack
+          let leaves_it : after_stack w.image (wants_of w.image shape.locals (op.Call n)) shape.stack
           ≡ result_cells c.result ++ drop (length (map Goes (reverse (kinds_of c.class c)))) shape.stack =
-          ap (λ (o : Option ImageMethod). after_stack (static_wants o) shape.stack) e in
+          ap (λ (o : Option ImageMethod). after_stack w.image
+          (option_map_or (λ (y : ImageMethod). method_effect n y.class) o no_effect) shape.stack) e
+          ∙ ap (λ (o : Option ImageMethod). option_map_or (λ (y : ImageMethod). result_cells y.result) o []
+          ++ drop (length (option_map_or (argument_needs c.class) o [])) shape.stack) e in
           let last : LeadsOn (place + size_of (op.Call n))
           (then_do (answers (receiver_there c t.args) s0)
           (λ (u : Unit {0}) (s3 : State). goes_into n c t.args t.rest s3)) =
@@ -266,7 +274,7 @@ module _ (w : Setting) (is : Tables w.image) (own : Concrete w.image w.class) (g
   module _ (class slot number : ℕ) (x : ImageMethod) (h : Here (op.VirtualCall class slot))
       (found : table_method w.image class slot ≡ Some number) (declared : slice_get w.image.methods number ≡ Some x)
       (rest : List Val) (kinds : List ImageKind) (fit_rest : Fit w kinds rest)
-      (leaves_it : after_stack (wants_of w.image shape (op.VirtualCall class slot)) shape.stack
+      (leaves_it : after_stack w.image (wants_of w.image shape.locals (op.VirtualCall class slot)) shape.stack
       ≡ result_cells x.result ++ kinds) where
     on_object : (spot : Spot) (vs : List Val) (at : ℕ) → class_from w spot.base spot.path ≡ Some at
         → Concrete w.image at → Below (classes_of w.image) class at → Fit w x.params vs
@@ -287,7 +295,7 @@ module _ (w : Setting) (is : Tables w.image) (own : Concrete w.image w.class) (g
         let args : Fit w (kinds_of f.method.class f.method) (At spot ∷ vs) =
         subst (λ (b : Bool). Fit w ((if b then object f.method.class ∷ [] else []) ++ f.method.params) (At spot ∷ vs))
         (sym r.instance) (receiver, params) in
-        let leaves_own : after_stack (wants_of w.image shape (op.VirtualCall class slot)) shape.stack
+        let leaves_own : after_stack w.image (wants_of w.image shape.locals (op.VirtualCall class slot)) shape.stack
         ≡ result_cells f.method.result ++ kinds =
         leaves_it ∙ ap (λ (k : ImageKind). result_cells k ++ kinds) (sym f.same.result) in
         let last : LeadsOn (place + size_of (op.VirtualCall class slot))
@@ -352,12 +360,17 @@ module _ (w : Setting) (is : Tables w.image) (own : Concrete w.image w.class) (g
       let declared : option_and_then (λ (k : ℕ). slice_get w.image.methods k) (table_method w.image class slot)
       ≡ Some x.0 =
       ap (λ (o : Option ℕ). option_and_then (λ (k : ℕ). slice_get w.image.methods k) o) n.1 ∙ x.1 in
-      let cells : Takes w (call_wants_of class (Some x.0)).takes shape.stack stack =
-      subst (λ (o : Option ImageMethod). Takes w (call_wants_of class o).takes shape.stack stack) declared h.cells in
+      let effect_is : wants_of w.image shape.locals (op.VirtualCall class slot) ≡ method_effect n.0 class =
+      ap (λ (o : Option ℕ). option_map_or (λ (k : ℕ). method_effect k class) o no_effect) n.1 in
+      let cells : Takes w (map Goes (reverse (kinds_of class x.0))) shape.stack stack =
+      subst (λ (o : Option ImageMethod). Takes w (option_map_or (argument_needs class) o []) shape.stack stack) x.1
+      (subst (λ (e : Effect). Takes w (needs_of w.image e.takes) shape.stack stack) effect_is h.cells) in
       let t = arguments w is class x.0 shape.stack stack cells in
-      let leaves_it : after_stack (wants_of w.image shape (op.VirtualCall class slot)) shape.stack
+      let leaves_it : after_stack w.image (wants_of w.image shape.locals (op.VirtualCall class slot)) shape.stack
       ≡ result_cells x.0.result ++ drop (length (map Goes (reverse (kinds_of class x.0)))) shape.stack =
-      ap (λ (o : Option ImageMethod). after_stack (call_wants_of class o) shape.stack) declared in
+      ap (λ (e : Effect). after_stack w.image e shape.stack) effect_is
+      ∙ ap (λ (o : Option ImageMethod). option_map_or (λ (y : ImageMethod). result_cells y.result) o []
+      ++ drop (length (option_map_or (argument_needs class) o [])) shape.stack) x.1 in
       let args : Fit w (object class ∷ x.0.params) t.args =
       subst (λ (b : Bool). Fit w ((if b then object class ∷ [] else []) ++ x.0.params) t.args) r.instance t.fit_args in
       let last = on_args class slot n.0 x.0 h n.1 x.1 t.rest
@@ -398,7 +411,7 @@ module _ (w : Setting) (is : Tables w.image) (own : Concrete w.image w.class) (g
 -- ---- a step
 
 enough_cells : (image : Image) (m : ImageMethod) (shape : Shape) (i : Op) → stack_breaks image m shape i ≡ false
-    → nat_lt (length shape.stack) (length (wants_of image shape i).takes) ≡ false
+    → nat_lt (length shape.stack) (length (needs image shape i)) ≡ false
 enough_cells image m shape i h = grind (arith, h)
 
 module _ (w : Setting) (is : Tables w.image) (own : Concrete w.image w.class) (given : ℕ) (shapes : Shapes)
@@ -415,8 +428,8 @@ module _ (w : Setting) (is : Tables w.image) (own : Concrete w.image w.class) (g
       (found-stands v.m.code x.top.place v.i
       (λ k. ltb-true (slice_index v.m.code k) 256 (byte_at v.m.code k rules.bytes)) v.instruction).is in
       let enough = enough_cells w.image v.m fine.shape v.i v.fine.stack in
-      let meet : all_meet w.image (wants_of w.image fine.shape v.i).takes fine.shape.stack ≡ true =
-      not_not (all_meet w.image (wants_of w.image fine.shape v.i).takes fine.shape.stack) v.fine.kinds in
+      let meet : all_meet w.image (needs w.image fine.shape v.i) fine.shape.stack ≡ true =
+      not_not (all_meet w.image (needs w.image fine.shape v.i) fine.shape.stack) v.fine.kinds in
       let here : op_at (code_of w.image x.top.method) x.top.place ≡ Some v.i =
       ap (λ (code : List ℕ). op_at code x.top.place)
       (points.code_is w x.top.method v.m v.there) ∙ v.instruction in
@@ -427,5 +440,5 @@ module _ (w : Setting) (is : Tables w.image) (own : Concrete w.image w.class) (g
         instruction = subst (λ (y : ImageMethod). op_at y.code x.top.place ≡ Some v.i) same v.instruction;
         fine = subst (λ (y : ImageMethod). IsFine w.image shapes x.top.method y x.top.place fine.shape v.i) same v.fine;
         spelled = spelled;
-        cells = takes w (wants_of w.image fine.shape v.i).takes fine.shape.stack x.top.stack enough meet fine.fit_stack;
+        cells = takes w (needs w.image fine.shape v.i) fine.shape.stack x.top.stack enough meet fine.fit_stack;
       }))

@@ -15,7 +15,8 @@ use Rattle.scode_code.specs.Effect.{on_top, on_two, on_three, push, no_push}
 use Rattle.scode_code.specs.Fields.{Setting}
 use Rattle.scode_code.specs.Kinds.{bool}
 use Rattle.scode_code.specs.Machine.{Move, Onward, Goto, Enter, Leave, pushed}
-use Rattle.scode_code.specs.Wants.{Need, meets}
+use Rattle.scode_code.specs.declared.needs.Need.{Need}
+use Rattle.scode_code.specs.Wants.{meets}
 use Rattle.scode_whole.proofs.Truths.{no_truth}
 use Rattle.scode_sound.specs.Cells.{Fit, HasKind}
 use Rattle.scode_sound.proofs.Plain.{nothing, to_bool}

@@ -36,7 +36,8 @@ use Rattle.scode_code.specs.Fields.{Setting}
 use Rattle.scode_code.specs.Kinds.{Shape, bool, long, str, is_null, is_object, is_str}
 use Rattle.scode_code.specs.Machine.{Move, Onward, Goto}
 use Rattle.scode_code.specs.Steps.{effect}
-use Rattle.scode_code.specs.Wants.{Goes, Reference, Anything, wants_of}
+use Rattle.scode_code.specs.declared.needs.Need.TheVariants.{Goes, Reference, Anything}
+use Rattle.scode_code.specs.Wants.{constant, loads, needs, nothing as no_effect, wants_of}
 use Rattle.scode_whole.proofs.Truths.{either, no_truth, same_value}
 use Rattle.scode_sound.specs.Cells.{Block, Concrete, Fit, HasKind}
 use Rattle.scode_sound.proofs.Rules.{Tables, stands_at}
@@ -158,12 +159,12 @@ module _ (w : Setting) (is : Tables w.image) (own : Concrete w.image w.class) (g
 
   load_it : (m : ImageMethod) (shape : Shape) (i : ℕ) (stack : List Val) → i < length m.locals
       → length shape.locals ≡ length m.locals → Fit w shape.locals locals → Fit w shape.stack stack
-      → Holds G Move (Lands w (op.Load i) (option_map_or (λ k. k ∷ []) (slice_get shape.locals i) [] ++ shape.stack))
+      → Holds G Move (Lands w (op.Load i) (after_stack w.image (loads shape.locals i) shape.stack))
       (λ s. push stack (local_at i s))
   load_it m shape i stack low many fit cells =
       let k = stands_at shape.locals i (omega (arith, low, many)) in
       subst (λ (o : Option ImageKind). Holds G Move (Lands w (op.Load i)
-      (option_map_or (λ k. k ∷ []) o [] ++ shape.stack)) (λ s. push stack (local_at i s))) (sym k.1)
+      (after_stack w.image (option_map_or (λ k. constant k) o no_effect) shape.stack)) (λ s. push stack (local_at i s))) (sym k.1)
       (push_it w G (op.Load i) k.0 shape.stack stack (local_at i) refl cells (local_it shape.locals i k.0 fit k.1))
 
   text_it : (n : ℕ) (ks : List ImageKind) (stack : List Val) → n < length w.image.texts → Fit w ks stack
@@ -201,14 +202,14 @@ module _ (w : Setting) (is : Tables w.image) (own : Concrete w.image w.class) (g
     pub spelled : IsOp i
     pub numbers : number_missing w.image m i ≡ false
     pub fields : field_missing w.image shape.stack i ≡ false
-    pub cells : Takes w (wants_of w.image shape i).takes shape.stack stack
+    pub cells : Takes w (needs w.image shape i) shape.stack stack
     pub many : length shape.locals ≡ length m.locals
     pub fit_locals : Fit w shape.locals locals
     pub fit_stack : Fit w shape.stack stack
 
   pub straight : (m : ImageMethod) (shape : Shape) (i : Op) (stack : List Val) → is_straight i ≡ true
       → Stood m shape i stack
-      → Holds G Move (Lands w i (after_stack (wants_of w.image shape i) shape.stack)) (effect w i stack)
+      → Holds G Move (Lands w i (after_stack w.image (wants_of w.image shape.locals i) shape.stack)) (effect w i stack)
   straight m shape (op.Int n) stack st h =
       gives_it (Onward (Int n ∷ stack)) (refl, ((refl, h.spelled.fits), h.fit_stack))
   straight m shape (op.Long n) stack st h =

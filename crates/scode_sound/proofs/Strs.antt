@@ -27,7 +27,7 @@ use Rattle.scode_code.specs.Effect.{int_cell, no_push, push, reference_cell}
 use Rattle.scode_code.specs.Fields.{Setting}
 use Rattle.scode_code.specs.Kinds.{bool, int, str}
 use Rattle.scode_code.specs.Machine.{Move}
-use Rattle.scode_code.specs.Wants.{Goes}
+use Rattle.scode_code.specs.declared.needs.Need.TheVariants.{Goes}
 use Rattle.scode_sound.specs.Cells.{Block, Concrete, HasKind, Object, Text, form_from}
 use Rattle.scode_sound.proofs.Rules.{Tables, stands_at, text_rule}
 use Rattle.scode_sound.proofs.Cells.{goes}

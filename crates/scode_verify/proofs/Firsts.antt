@@ -7,7 +7,7 @@ use Rattle.scode_image.specs.declared.image.ImageMethod.{ImageMethod}
 use Rattle.scode_ops.specs.declared.op.Op.{Op}
 use Rattle.scode_code.specs.Kinds.{Shape}
 use Rattle.scode_code.specs.CodeRules.{broken_by, first_of, kind_rules, plain_rules, stack_breaks}
-use Rattle.scode_code.specs.Wants.{wants_of}
+use Rattle.scode_code.specs.Wants.{needs}
 use Rattle.scode_rules.specs.Words.{shape}
 use Rattle.scode_verify.specs.Words.{carried}
 
@@ -69,8 +69,8 @@ not_first n true o is = cc
 not_first n false o is = refl
 
 pub room : (image : Image) (m : ImageMethod) (place : ℕ) (wrong : Bool) (s : Shape) (i : Op)
-    → broken_by image m place wrong (Some s) i ≡ None → length (wants_of image s i).takes ≤ length s.stack
+    → broken_by image m place wrong (Some s) i ≡ None → length (needs image s i) ≤ length s.stack
 room image m place wrong s i none =
     let kinds = none_behind (plain_rules image m place i) (kind_rules image m wrong s i) none in
     let cells = not_first 6 (stack_breaks image m s i) _ kinds in
-    ltb-false (length s.stack) (length (wants_of image s i).takes) (or_parts _ _ (or_parts _ _ cells).0).1
+    ltb-false (length s.stack) (length (needs image s i)) (or_parts _ _ (or_parts _ _ cells).0).1

@@ -9,7 +9,7 @@ use Rattle.scode_code.specs.Faults.{Broken as AnyBroken}
 use Rattle.scode_code.specs.Kinds.{Shape}
 use Rattle.scode_code.specs.CodeRules.{Fault, carried_on, entry_at, entry_from, fault_from, first_shape, is_between, is_start, shape_at, stray_or}
 use Rattle.scode_code.specs.TableRules.{places_ascend}
-use Rattle.scode_code.specs.Wants.{wants_of}
+use Rattle.scode_code.specs.Wants.{needs}
 use Rattle.scode_rules.specs.Words.{shape}
 use Rattle.scode_verify.specs.declared.kinds.Kinds.{Kinds}
 use Rattle.scode_verify.specs.declared.walk.Broken.{Broken}
@@ -45,7 +45,7 @@ left_at image m place arrived i = carried_on image (shape_at (entry_at m place) 
 
 -- the cells that an instruction takes are there, where it goes on
 abbrev pub HasRoom : Image → Kinds → Op → Type 0
-HasRoom image k i = (s : Shape) → kinds_of k ≡ Some s → length (wants_of image s i).takes ≤ length s.stack
+HasRoom image k i = (s : Shape) → kinds_of k ≡ Some s → length (needs image s i) ≤ length s.stack
 
 -- ---- entries that are no starts
 

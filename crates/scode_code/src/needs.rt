@@ -4,7 +4,7 @@ use scode_image::ImageKind;
 
 /// What a cell has to be: of a kind that goes to this one, an object or null, a Str or an object or null, or anything.
 #[derive(Clone, Copy, Debug, PartialEq, Eq)]
-pub(crate) enum Need {
+pub enum Need {
     Goes(ImageKind),
     AnyObject,
     Reference,
@@ -13,7 +13,7 @@ pub(crate) enum Need {
 
 /// The cells that are taken off, the top first.
 #[derive(Clone, Copy, Debug, PartialEq, Eq)]
-pub(crate) enum Takes {
+pub enum Takes {
     Nothing,
     One(Need),
     Two(Need, Need),
@@ -24,7 +24,7 @@ pub(crate) enum Takes {
 
 /// The cells that are put on.
 #[derive(Clone, Copy, Debug, PartialEq, Eq)]
-pub(crate) enum Puts {
+pub enum Puts {
     Nothing,
     One(ImageKind),
     /// What is taken, twice.
@@ -35,7 +35,7 @@ pub(crate) enum Puts {
 
 /// What an instruction takes off the stack, and what it puts on for it.
 #[derive(Clone, Copy, Debug, PartialEq, Eq)]
-pub(crate) struct Effect {
+pub struct Effect {
     pub takes: Takes,
     pub puts: Puts,
 }
