@@ -1,0 +1,7 @@
+pub mod Site
+pub mod Instructions
+pub mod Sizes
+pub mod Code
+pub mod Entries
+pub mod Stack
+pub mod Method

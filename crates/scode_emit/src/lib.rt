@@ -1,0 +1,4 @@
+//! Code as functions of trees.
+#![tactic(auto)]
+
+mod laws;
