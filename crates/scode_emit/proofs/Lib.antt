@@ -1,0 +1,4 @@
+pub mod Building
+mod CodeExamples
+mod StatementExamples
+mod RootExamples

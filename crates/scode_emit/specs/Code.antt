@@ -21,10 +21,8 @@ use Rattle.scode_ops.specs.declared.op.Op.{Op}
 use Rattle.scode_ops.specs.declared.op.Op.TheVariants as op
 use Rattle.scode_ops.specs.Codes as codes
 use Rattle.scode_emit.specs.Site.{Site, waiting, offset_in, room_in, static_room}
-use Rattle.scode_emit.specs.Instructions.{arithmetic_op, binary_op, unary_code, text_op, zero_op, pop_code, get_op, get_element_op, part_op, invoke_op, storage, put_code, keep_code, fetch_code, before_code, before_size, fetch_size, behind_code}
-use Rattle.scode_emit.specs.Sizes.{expr_size, place_size, test_size, last_size, over_size, tests_size, stmt_size, stmts_size}
-use Rattle.scode_emit.specs.Instructions.{pop_size}
-use Rattle.scode_emit.specs.Sizes.{link_size}
+use Rattle.scode_emit.specs.Instructions.{arithmetic_op, binary_op, unary_code, text_op, zero_op, pop_code, get_op, get_element_op, part_op, invoke_op, storage, put_code, keep_code, fetch_code, before_code, before_size, fetch_size, behind_code, pop_size}
+use Rattle.scode_emit.specs.Sizes.{expr_size, place_size, link_size, test_size, last_size, over_size, tests_size, stmt_size, stmts_size}
 
 abbrev mutual
   pub expr_code : Site → ℕ → Expr → List Op
@@ -133,8 +131,8 @@ abbrev pub first_of : ℕ → List ℕ → ℕ
 first_of end [] = end
 first_of end (at ∷ places) = at
 
--- the value, which waits in a local, against each case in the order of the labels: where it is equal the code goes on at
--- the label's place
+-- the value, which waits in a local, against each case in the order of the labels: where it is equal the code goes on
+-- at the label's place
 abbrev pub tests_code : ℕ → ℕ → List Label → List ℕ → List Op
 tests_code local end [] places = []
 tests_code local end (Case c ∷ labels) places =

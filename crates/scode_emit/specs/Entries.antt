@@ -1,8 +1,8 @@
 -- Where code goes on whichever way it is reached, and what stands on the stack there.
 --
--- There is an entry where a jump leads, and behind each instruction with which code ends. Its kinds are the declared ones:
--- what arrives may be null or of a class below. A place may be told twice, with the same kinds, where what begins there stands
--- behind what ends there.
+-- There is an entry where a jump leads, and behind each instruction with which code ends. Its kinds are the declared
+-- ones: what arrives may be null or of a class below. A place may be told twice, with the same kinds, where what begins
+-- there stands behind what ends there.
 use Rattle.std.specs.Prelude.{ℕ, ◌+◌, ◌==◌, if◌then◌else◌, List, [], ◌∷◌, ◌++◌, Option, Some, None}
 use Rattle.sed_typed.specs.declared.kind.Kind.{Kind}
 use Rattle.sed_typed.specs.declared.kind.Kind.TheVariants as kind
@@ -69,7 +69,8 @@ abbrev mutual
       let first = at + expr_size w t + 3 in
       let second = first + expr_size w a + 3 in
       expr_marks w below at t ++ (expr_marks w below first a
-      ++ mark second below ∷ (expr_marks w below second b ++ mark (second + expr_size w b) (above (kind_of a) below) ∷ []))
+      ++ mark second below
+      ∷ (expr_marks w below second b ++ mark (second + expr_size w b) (above (kind_of a) below) ∷ []))
   expr_marks w below at (expr.Set' target p e) =
       place_marks w below at target ++ expr_marks w (with_place target below) (at + place_size w target) e
   expr_marks w below at (expr.Update' u target p e) =

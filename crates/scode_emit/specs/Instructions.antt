@@ -171,15 +171,16 @@ narrow_size p = 0
 
 -- a virtual method is looked up in the table of the object's class, by its place in that of the receiver's kind
 abbrev pub invoke_op : Site → Kind → ℕ → Op
-invoke_op w k m = if is_virtual w m then op.VirtualCall (class_of k) (w.layout.table_place (class_of k) m) else op.Call m
+invoke_op w k m =
+    if is_virtual w m then op.VirtualCall (class_of k) (w.layout.table_place (class_of k) m) else op.Call m
 
 abbrev pub invoke_size : Site → ℕ → ℕ
 invoke_size w m = if is_virtual w m then 4 else 3
 
 -- ---- what may be assigned to
 
--- a local; a field of an object or of the static block, which stands on the stack; or an element of an array in one, whose
--- index stands above it
+-- a local; a field of an object or of the static block, which stands on the stack; or an element of an array in one,
+-- whose index stands above it
 pub data Storage : Type 0 where
   InLocal : ℕ → Storage
   InField : Primitive → ℕ → Storage
@@ -219,8 +220,8 @@ keep_size (InLocal i) = 3
 keep_size (InField p offset) = narrow_size p + 9
 keep_size (InElement p offset count) = narrow_size p + 11
 
--- the value that stands there, above what is needed to store another. An element's index waits while it is read, and then
--- its value waits while the index comes below it.
+-- the value that stands there, above what is needed to store another. An element's index waits while it is read, and
+-- then its value waits while the index comes below it.
 abbrev pub fetch_code : Site → Storage → List Op
 fetch_code w (InLocal i) = op.Load i ∷ []
 fetch_code w (InField p offset) = op.Dup ∷ get_op p offset ∷ []

@@ -15,7 +15,8 @@ use Rattle.scode_emit.specs.Entries.{Mark, cell_of, body_marks, each_once}
 use Rattle.scode_emit.specs.Stack.{body_stack}
 
 abbrev pub site_of : Program → Layout → Method → Site
-site_of program layout m = record { program = program; layout = layout; class = m.class.0; locals = length (locals_of m) }
+site_of program layout m =
+    record { program = program; layout = layout; class = m.class.0; locals = length (locals_of m) }
 
 -- the instructions of a method, and how many bytes they have: an abstract one has none
 abbrev pub code_of : Program → Layout → Method → List Op
@@ -24,7 +25,8 @@ code_of program layout m = body_code (site_of program layout m) m.result m.body
 abbrev pub size_of : Program → Layout → Method → ℕ
 size_of program layout m = body_size (site_of program layout m) m.result m.body
 
--- the compiler's locals: a bool, an int and a long that wait, and an index. Whatever is stored in them is of these kinds.
+-- the compiler's locals: a bool, an int and a long that wait, and an index. Whatever is stored in them is of these
+-- kinds.
 abbrev pub waiting_kinds : List ImageKind
 waiting_kinds = bool ∷ int ∷ long ∷ int ∷ []
 

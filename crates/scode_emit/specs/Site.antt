@@ -9,15 +9,15 @@ use Rattle.sed_typed.specs.declared.program.FieldForm.TheVariants as form
 use Rattle.sed_typed.specs.declared.program.Program.{Program}
 use Rattle.sed_typed.specs.TypedExpr.{field_form, static_form, object_class}
 
--- where the data of a program lie: a field of a class in its objects, by class and number; a static in the static block;
--- and a method in the table of a class, by class and number
+-- where the data of a program lie: a field of a class in its objects, by class and number; a static in the static
+-- block; and a method in the table of a class, by class and number
 pub record Layout : Type 0 where
   pub offset : ℕ → ℕ → ℕ
   pub static_offset : ℕ → ℕ
   pub table_place : ℕ → ℕ → ℕ
 
--- where an expression stands: in a method of this class, which has so many locals of its own. Those of the compiler stand
--- behind them.
+-- where an expression stands: in a method of this class, which has so many locals of its own. Those of the compiler
+-- stand behind them.
 pub record Site : Type 0 where
   pub program : Program
   pub layout : Layout

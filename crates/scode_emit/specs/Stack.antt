@@ -17,7 +17,8 @@ place_cells (place.Field' p q e i) = 1
 place_cells (place.Element' p n q e f r i) = 2
 place_cells (place.StaticElement' p n i q e) = 2
 
--- a value that is stored in a local stands there twice where it is kept; one that is computed stands above the value before
+-- a value that is stored in a local stands there twice where it is kept; one that is computed stands above the value
+-- before it
 abbrev mutual
   pub expr_stack : Expr → ℕ
   expr_stack (expr.StaticElement' p n i q e) = suc (expr_stack e)
