@@ -1,9 +1,7 @@
 -- A small program and its image, for examples: the types of `sys`, and one class below `Component` with a field of each form.
-use Rattle.std.proofs.Common.{ℕ, pos, false, true, List, [], ◌∷◌, ◌++◌, map, replicate, slice_index, Some, None, Vec, Global, lit<, codes}
+use Rattle.std.proofs.Common.{pos, false, true, List, [], ◌∷◌, ◌++◌, map, replicate, slice_index, Some, None, Vec, Global, lit<, codes}
 use Rattle.sed_value.specs.declared.value.Value.TheVariants as kept
-use Rattle.sed_value.specs.declared.slot_type.Primitive.{Primitive}
 use Rattle.sed_value.specs.declared.slot_type.Primitive.TheVariants as prim
-use Rattle.sed_typed.specs.declared.kind.Kind.{Kind}
 use Rattle.sed_typed.specs.declared.kind.Kind.TheVariants as kind
 use Rattle.sed_typed.specs.declared.program.Field.{Field}
 use Rattle.sed_typed.specs.declared.program.FieldForm.TheVariants as form

@@ -17,7 +17,6 @@ use Rattle.sed_typed.specs.declared.tree.Link.TheVariants as link
 use Rattle.sed_typed.specs.declared.tree.Place.TheVariants as place
 use Rattle.sed_engine.proofs.Building.{Pointer, none, one, two, chain, by, int, this, own_place, set, set_y, y, y_is}
 use Rattle.scode_ops.specs.declared.op.Op.TheVariants as op
-use Rattle.scode_image.specs.declared.image.ImageEntry.{ImageEntry}
 use Rattle.scode_code.specs.Kinds as kinds
 use Rattle.scode_emit.proofs.Building.{code, entries, layout, program, m, g, q, a_at, s_of, update, is, m_of}
 use Rattle.scode_emit.specs.Method.{code_of, entries_of, local_kinds}

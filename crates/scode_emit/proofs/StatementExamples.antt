@@ -1,6 +1,5 @@
 -- The code of statements, worked out by hand, with the places of the entries; below a statement the stack is empty.
-use Rattle.std.proofs.Common.{◌≡◌, ℕ, pos, List, [], ◌∷◌, ◌++◌, map, None, refl}
-use Rattle.sed_value.specs.declared.slot_type.Primitive.TheVariants as prim
+use Rattle.std.proofs.Common.{◌≡◌, ℕ, pos, List, [], ◌∷◌, map, None, refl}
 use Rattle.sed_typed.specs.declared.kind.Kind.TheVariants as kind
 use Rattle.sed_typed.specs.declared.operators.Comparison.TheVariants as comparison
 use Rattle.sed_typed.specs.declared.statement.Stmt.{Stmt}
