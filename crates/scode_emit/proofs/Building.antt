@@ -71,7 +71,9 @@ program p body = record {
 abbrev pub layout : Layout
 layout = record {
   offset = λ class i. slice_index (0 ∷ 4 ∷ 8 ∷ 9 ∷ 21 ∷ 29 ∷ 37 ∷ 43 ∷ []) i;
+  room = λ class i. slice_index (0 ∷ 0 ∷ 0 ∷ 0 ∷ 0 ∷ 8 ∷ 4 ∷ 0 ∷ []) i;
   static_offset = λ i. slice_index (0 ∷ 4 ∷ []) i;
+  static_room = λ i. 0;
   table_place = λ class method. slice_index (0 ∷ 0 ∷ 1 ∷ []) method;
 }
 

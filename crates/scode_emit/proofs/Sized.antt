@@ -16,7 +16,7 @@ use Rattle.sed_typed.specs.declared.tree.Link.{Link}
 use Rattle.sed_typed.specs.declared.tree.Link.TheVariants as link
 use Rattle.sed_typed.specs.Kinds.{kind_of, link_kind}
 use Rattle.scode_ops.specs.declared.op.Op.TheVariants as op
-use Rattle.scode_emit.specs.Site.{Site, waiting, offset_in, room_in, static_room}
+use Rattle.scode_emit.specs.Site.{Site, waiting, offset_in, room_in}
 use Rattle.scode_emit.specs.Instructions.{arithmetic_op, binary_op, unary_code, text_op, pop_code, pop_size, get_element_op, invoke_op, storage, put_code, keep_code, fetch_code, before_code, before_size, fetch_size, behind_code}
 use Rattle.scode_emit.specs.Sizes.{expr_size, place_size, link_size, exprs_size, links_size, drop_size, begin_size, test_size, last_size, over_size, tests_size, stmt_size, stmts_size, end_size, body_size}
 use Rattle.scode_emit.specs.Code.{expr_code, place_code, link_code, exprs_code, links_code, drop_code, begin_code, test_code, last_code, over_code, begins, tests_code, default_place, stmt_code, stmts_code, end_code, body_code}
@@ -32,7 +32,7 @@ mutual
   expr_sized w at (expr.This class) = refl
   expr_sized w at (expr.Local k i) = refl
   expr_sized w at (expr.Static p i) = omega (arith, get_sized p (w.layout.static_offset i))
-  expr_sized w at (expr.StaticPart k i) = omega (arith, part_sized k (w.layout.static_offset i) (static_room w i))
+  expr_sized w at (expr.StaticPart k i) = omega (arith, part_sized k (w.layout.static_offset i) (w.layout.static_room i))
   expr_sized w at (expr.StaticElement' p n i q e) =
       let get = get_element_op p (w.layout.static_offset i) n in
       omega (arith, count-append (expr_code w (at + 1) e) (get ∷ []), expr_sized w (at + 1) e, get_element_sized p (w.layout.static_offset i) n)

@@ -20,7 +20,7 @@ use Rattle.sed_typed.specs.Kinds.{kind_of, link_kind}
 use Rattle.scode_ops.specs.declared.op.Op.{Op}
 use Rattle.scode_ops.specs.declared.op.Op.TheVariants as op
 use Rattle.scode_ops.specs.Codes as codes
-use Rattle.scode_emit.specs.Site.{Site, waiting, offset_in, room_in, static_room}
+use Rattle.scode_emit.specs.Site.{Site, waiting, offset_in, room_in}
 use Rattle.scode_emit.specs.Instructions.{arithmetic_op, binary_op, unary_code, text_op, zero_op, pop_code, get_op, get_element_op, part_op, invoke_op, storage, put_code, keep_code, fetch_code, before_code, before_size, fetch_size, behind_code, pop_size}
 use Rattle.scode_emit.specs.Sizes.{expr_size, place_size, link_size, test_size, last_size, over_size, tests_size, stmt_size, stmts_size}
 
@@ -34,7 +34,7 @@ abbrev mutual
   expr_code w at (expr.This class) = op.Load 0 ∷ []
   expr_code w at (expr.Local k i) = op.Load i ∷ []
   expr_code w at (expr.Static p i) = op.Statics ∷ get_op p (w.layout.static_offset i) ∷ []
-  expr_code w at (expr.StaticPart k i) = op.Statics ∷ part_op k (w.layout.static_offset i) (static_room w i) ∷ []
+  expr_code w at (expr.StaticPart k i) = op.Statics ∷ part_op k (w.layout.static_offset i) (w.layout.static_room i) ∷ []
   expr_code w at (expr.StaticElement' p n i q e) =
       op.Statics ∷ (expr_code w (at + 1) e ++ get_element_op p (w.layout.static_offset i) n ∷ [])
   expr_code w at expr.Ticks = op.Ticks ∷ []

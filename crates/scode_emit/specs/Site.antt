@@ -4,16 +4,17 @@ use Rattle.std.specs.Option.{option_map_or}
 use Rattle.sed_value.specs.declared.slot_type.Primitive.{Primitive}
 use Rattle.sed_value.specs.declared.slot_type.Primitive.TheVariants as prim
 use Rattle.sed_typed.specs.declared.kind.Kind.{Kind}
-use Rattle.sed_typed.specs.declared.program.FieldForm.{FieldForm}
-use Rattle.sed_typed.specs.declared.program.FieldForm.TheVariants as form
 use Rattle.sed_typed.specs.declared.program.Program.{Program}
-use Rattle.sed_typed.specs.TypedExpr.{field_form, static_form, object_class}
+use Rattle.sed_typed.specs.TypedExpr.{object_class}
 
--- where the data of a program lie: a field of a class in its objects, by class and number; a static in the static
--- block; and a method in the table of a class, by class and number
+-- Where the data of a program lie, and how much room they have: a field of a class in its objects, by class and number,
+-- and a static in the static block; the room is the size of a Str, and the most bytes of a Buf. And the place of a method
+-- in the table of a class, by class and number.
 pub record Layout : Type 0 where
   pub offset : ℕ → ℕ → ℕ
+  pub room : ℕ → ℕ → ℕ
   pub static_offset : ℕ → ℕ
+  pub static_room : ℕ → ℕ
   pub table_place : ℕ → ℕ → ℕ
 
 -- where an expression stands: in a method of this class, which has so many locals of its own. Those of the compiler
@@ -42,20 +43,11 @@ waiting_index w = w.locals + 3
 abbrev pub class_of : Kind → ℕ
 class_of k = option_map_or (λ c. c) (object_class k) 0
 
--- the size of a Str, and the most bytes of a Buf
-abbrev pub room_of : FieldForm → ℕ
-room_of (form.Str n) = n
-room_of (form.Buf n) = n
-room_of f = 0
-
 abbrev pub offset_in : Site → Kind → ℕ → ℕ
 offset_in w k i = w.layout.offset (class_of k) i
 
 abbrev pub room_in : Site → Kind → ℕ → ℕ
-room_in w k i = option_map_or room_of (field_form w.program k i) 0
-
-abbrev pub static_room : Site → ℕ → ℕ
-static_room w i = option_map_or room_of (static_form w.program i) 0
+room_in w k i = w.layout.room (class_of k) i
 
 -- ---- methods
 
