@@ -2,6 +2,7 @@ pub mod Site
 pub mod Instructions
 pub mod Sizes
 pub mod Code
+pub mod Rows
 pub mod Starts
 pub mod Entries
 pub mod Stack

@@ -5,6 +5,9 @@
 //! method is. Beside the code stand its entries and the most cells on its stack.
 #![tactic(auto)]
 
+mod instructions;
 mod laws;
+mod site;
 
 pub use laws::{code_has_its_size, instructions_stand_where_they_start};
+pub use site::Site;
