@@ -22,7 +22,9 @@ use Rattle.scode_ops.specs.declared.op.Op.{Op}
 use Rattle.scode_ops.specs.declared.op.Op.TheVariants as op
 use Rattle.scode_ops.specs.Decoding.{size_of}
 use Rattle.scode_emit.specs.Site.{Site, is_virtual, class_of, waiting}
-use Rattle.scode_emit.specs.Instructions.{Storage, InLocal, InField, InElement, arithmetic_op, comparison_op, binary_op, unary_code, unary_size, text_op, zero_op, zero_size, pop_code, pop_size, get_op, put_op, get_element_op, put_element_op, part_op, narrow_code, narrow_size, invoke_op, invoke_size, put_code, put_size, around, keep_code, keep_size, fetch_code, fetch_size, fetch_old_code, fetch_old_size, put_old_code, put_old_size, before_code, before_size, behind_code, behind_size}
+use Rattle.scode_emit.specs.declared.storage.Storage.{Storage}
+use Rattle.scode_emit.specs.declared.storage.Storage.TheVariants.{InLocal, InField, InElement}
+use Rattle.scode_emit.specs.Instructions.{arithmetic_op, comparison_op, binary_op, unary_code, unary_size, text_op, zero_op, zero_size, pop_code, pop_size, get_op, put_op, get_element_op, put_element_op, part_op, narrow_code, narrow_size, invoke_op, invoke_size, put_code, put_size, around, keep_code, keep_size, fetch_code, fetch_size, fetch_old_code, fetch_old_size, put_old_code, put_old_size, before_code, before_size, behind_code, behind_size}
 use Rattle.scode_ops.specs.Codes as codes
 use Rattle.scode_emit.specs.Code.{bytes_of}
 

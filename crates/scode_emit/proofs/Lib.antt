@@ -5,3 +5,4 @@ mod RootExamples
 pub mod Counts
 pub mod Sized
 pub mod Stand
+pub mod RowLemmas

@@ -23,6 +23,8 @@ use Rattle.sed_typed.specs.declared.tree.Place.TheVariants as place
 use Rattle.sed_typed.specs.Kinds.{kind_of}
 use Rattle.scode_ops.specs.declared.op.Op.{Op}
 use Rattle.scode_ops.specs.declared.op.Op.TheVariants as op
+use Rattle.scode_emit.specs.declared.storage.Storage.{Storage}
+use Rattle.scode_emit.specs.declared.storage.Storage.TheVariants.{InLocal, InField, InElement}
 use Rattle.scode_emit.specs.Site.{Site, waiting, waiting_index, class_of, offset_in, is_virtual}
 
 -- ---- operators
@@ -179,13 +181,7 @@ invoke_size w m = if is_virtual w m then 4 else 3
 
 -- ---- what may be assigned to
 
--- a local; a field of an object or of the static block, which stands on the stack; or an element of an array in one,
--- whose index stands above it
-pub data Storage : Type 0 where
-  InLocal : ℕ → Storage
-  InField : Primitive → ℕ → Storage
-  InElement : Primitive → ℕ → ℕ → Storage
-
+-- what is stored, once an object and an index are on the stack
 abbrev pub storage : Site → Place → Storage
 storage w (place.Local k i) = InLocal i
 storage w (place.Static p i) = InField p (w.layout.static_offset i)

@@ -3,6 +3,7 @@ pub mod Instructions
 pub mod Sizes
 pub mod Code
 pub mod Rows
+pub mod Lists
 pub mod Starts
 pub mod Entries
 pub mod Stack

@@ -5,9 +5,16 @@
 //! method is. Beside the code stand its entries and the most cells on its stack.
 #![tactic(auto)]
 
+mod expressions;
 mod instructions;
+mod kinds;
 mod laws;
+mod put;
 mod site;
+mod sizes;
+mod storage;
 
 pub use laws::{code_has_its_size, instructions_stand_where_they_start};
 pub use site::Site;
+pub use sizes::TOO_LONG;
+pub use storage::Storage;
