@@ -13,7 +13,7 @@ use Rattle.scode_ops.specs.declared.op.Op.{Op}
 use Rattle.scode_ops.specs.declared.op.Op.TheVariants as op
 use Rattle.scode_emit.specs.Site.{Site}
 use Rattle.scode_emit.specs.Instructions as meant
-use Rattle.scode_emit.specs.Instructions.{arithmetic_op, before_code, before_size, keep_code, storage}
+use Rattle.scode_emit.specs.Instructions.{arithmetic_op, before_code, before_size, fetch_code, fetch_size, keep_code, put_code, storage}
 use Rattle.scode_emit.specs.Sizes.{expr_size, place_size, link_size, stmt_size}
 use Rattle.scode_emit.specs.Code.{expr_code, place_code, link_code, stmt_code}
 
@@ -78,3 +78,13 @@ update_code w at u target e =
 
 abbrev pub chain_code : Site → ℕ → Expr → List Link → List Op
 chain_code w at head links = expr_code w at head ++ behind_code w (at + expr_size w head) (kind_of head) links
+
+abbrev pub stored_code : Site → ℕ → Place → Expr → List Op
+stored_code w at target e =
+    place_code w at target ++ (expr_code w (at + place_size w target) e ++ put_code (storage w target))
+
+abbrev pub updated_code : Site → ℕ → Update → Place → Expr → List Op
+updated_code w at u target e =
+    place_code w at target ++ (fetch_code w (storage w target)
+    ++ (expr_code w (at + place_size w target + fetch_size (storage w target)) e
+    ++ arithmetic_op u.arithmetic u.width ∷ put_code (storage w target)))

@@ -17,9 +17,7 @@ use crate::kinds::{kind_of, link_kind};
 use crate::put::put;
 use crate::site::Site;
 use crate::sizes::{expr_size, link_size, place_size};
-use crate::storage::{
-    before_size, emit_before, emit_behind, emit_fetch, emit_keep, emit_put, fetch_size, storage_of,
-};
+use crate::storage::{before_size, emit_before, emit_behind, emit_keep, storage_of};
 use scode_ops::Op;
 use sed_typed::{Expr, Kind, Link, Place, Unary, Update, Width};
 use sed_value::Memory;
@@ -54,7 +52,7 @@ fn emit_low(ops: &mut Vec<Op>, width: Width, op: Op) -> Result<(), Memory>
 }
 
 // A value is taken off, where there is one.
-fn emit_pop(ops: &mut Vec<Op>, kind: Kind) -> Result<(), Memory>
+pub(crate) fn emit_pop(ops: &mut Vec<Op>, kind: Kind) -> Result<(), Memory>
     ensures { OnOk result (ops.new.items ≡ ops.old.items ++ meant.pop_code kind) }
 {
     match kind {
@@ -196,7 +194,12 @@ fn emit_update(
 
 // What stands on the stack before a value is stored at a place.
 #[cycle(expressions)]
-fn emit_place(ops: &mut Vec<Op>, site: &Site<'_>, at: usize, target: &Place) -> Result<(), Memory>
+pub(crate) fn emit_place(
+    ops: &mut Vec<Op>,
+    site: &Site<'_>,
+    at: usize,
+    target: &Place,
+) -> Result<(), Memory>
     requires room { site.now.locals ≤ 250 }
     requires fits { at + sizes.place_size (seen site.now) target.now ≤ 65535 }
     ensures { OnOk result (ops.new.items ≡ ops.old.items ++ code.place_code (seen site.now) at target.now) }

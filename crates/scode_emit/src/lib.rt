@@ -9,6 +9,7 @@ mod expressions;
 mod instructions;
 mod kinds;
 mod laws;
+mod parts;
 mod put;
 mod site;
 mod sizes;
