@@ -1,0 +1,10 @@
+pub mod Site
+pub mod Instructions
+pub mod Sizes
+pub mod Code
+pub mod Rows
+pub mod Lists
+pub mod Starts
+pub mod Entries
+pub mod Stack
+pub mod Method
