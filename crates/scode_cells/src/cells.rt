@@ -47,10 +47,10 @@ impl Model for Cells {
 
 impl Cells {
     /// No frames yet. Each may have so many cells, locals and stack together. No other call takes memory.
-    pub fn new(alloc: Global, most: u16) -> Result<Cells, Memory>
+    pub fn new(alloc: Global, most: u32) -> Result<Cells, Memory>
         ensures { IfOk result (λ c. c ≡ no_frames most) }
     {
-        let most = usize::from(most);
+        let most = most as usize;
         Ok(Cells {
             row: some_cells(alloc, most)?,
             is_running: false,

@@ -13,7 +13,7 @@ pub const FRAMES: usize = 32;
 
 /// Cells for all frames, of which each has so many at most.
 pub fn some_cells(alloc: Global, most: usize) -> Result<Vec<Cell>, Memory>
-    requires { most < 2 ^ 16 }
+    requires { most < 2 ^ 32 }
     ensures { IfOk result (λ v. vec_len v ≡ 32 * most) }
 {
     let mut row = Vec::new(alloc);
