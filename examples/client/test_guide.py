@@ -13,6 +13,9 @@ import threading
 import unittest
 from unittest import mock
 
+import client as words_client
+import test_tool
+
 ROOT = pathlib.Path(__file__).resolve().parents[2]
 PAGE = (ROOT / "docs" / "GUIDE_TOOLS.md").read_text()
 CLIENT = re.search(r"```python\n(.*?)```", PAGE, re.S)[1]
@@ -73,6 +76,15 @@ class Page(unittest.TestCase):
         came = [digits(word.split()[0]) for word in line.split(" | ")[3].split("; ")]
         self.assertEqual(replies, came)
 
+    def test_words(self):
+        """The words of client.py come to the requests of the same table, in its order."""
+        table = PAGE[PAGE.index("### One of each"):PAGE.index("### The refusals")]
+        rows = re.findall(r"^\| `([0-9a-f ]+)` \| `([0-9a-f ]+)`(?:(?:,| and) `([0-9a-f ]+)`)? \|", table, re.M)
+        page = test_tool.Page([(bytes.fromhex(request), bytes.fromhex(reply + more)) for request, reply, more in rows])
+        self.assertEqual(len(rows), len(WORDS))
+        for words, printed in WORDS:
+            self.assertEqual(words_client.do(page, words.split()), printed)
+
     def test_refusals(self):
         """Each example of a refusal has, in rows, the reply with the text of its number."""
         texts = dict(re.findall(r"^\| (\d+) \| `([a-z ]+)` \|", PAGE, re.M))
@@ -81,6 +93,30 @@ class Page(unittest.TestCase):
         for number, request in rows:
             reply = "21" + digits(request)[2:4] + texts[number].encode().hex() + "00"
             self.assertTrue(stands_in_rows(digits(request)) and stands_in_rows(reply), (number, request, reply))
+
+
+# The table of one of each as words of the client, and what it prints.
+WORDS = (
+    ("add 0 1 1 g int 5 bool true buf 6869", "added 1"),
+    ("part 1 t", "1 t 01 01 67 00 00 00 ff 00"),
+    ("part 1 c", "1 c 00 00 00 05 01 00 02 68 69"),
+    ("part 1 r", "1 r 07 01 2c 00 00 00 00 00 00 00 00 00 00 00 00 02 00 03 61 62 00"),
+    ("part 1 l", "1 l ff ff"),
+    ("part 1 f", "1 f 00"),
+    ("invoke 1 9", "invoked"),
+    ("read 1 5 int", "10"),
+    ("link 1 3 1 5", "linked"),
+    ("part 1 l", "1 l 00 01 03 00 01 05 ff ff"),
+    ("unlink 1 3 1 5", "unlinked"),
+    ("rename 1 h", "renamed"),
+    ("reorder 0 1", "reordered"),
+    ("subscribe 1 tcrl", "subscribed"),
+    ("unsubscribe 1 tr", "unsubscribed"),
+    ("version", "sys 3600e4e4\nforms 40694739"),
+    ("write 1 5 int 7", "written"),
+    ("clear 1", "cleared"),
+    ("delete 1", "deleted"),
+)
 
 
 class Client(unittest.TestCase):

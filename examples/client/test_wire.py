@@ -65,7 +65,7 @@ class Requests(unittest.TestCase):
         rows = (
             ("int", "7", "00000007"), ("int", "-1", "ffffffff"), ("byte", "255", "ff"), ("short", "258", "0102"),
             ("long", "-2", "fffffffffffffffe"), ("bool", "true", "01"), ("bool", "null", "02"),
-            ("buf", "0aff", "0aff"), ("buf", "", ""),
+            ("buf", "0aff", "00020aff"), ("buf", "", "0000"),
         )
         for kind, words, digits in rows:
             self.assertEqual(wire.write_value(kind, words), bytes.fromhex(digits))
@@ -157,6 +157,7 @@ class Sessions(unittest.TestCase):
         self.assertEqual(client.do(session, "read 1 1 int".split()), "-7")
         with self.assertRaises(wire.Refused):
             client.do(session, ["save"])
+        self.assertEqual(client.do(session, ["events", "0"]), "\n".join(["1 f 00"] * 5))
         session.close()
         node.join(10)
         self.assertFalse(node.is_alive())

@@ -94,28 +94,37 @@ def digest(user, password, nonce):
     return hashlib.sha1(credential + nonce).digest()
 
 
-# The types of values. A `buf` is the bytes that are left.
+# The types of values, and how many bytes one has. A `buf` has two bytes that say how many follow, and these.
 SIZES = {"bool": 1, "byte": 1, "short": 2, "int": 4, "long": 8}
+TRUTHS = {"false": 0, "true": 1, "null": 2}
 
 
 def write_value(kind, text):
-    """The bytes of a value of that type, which the words of a command line spell."""
+    """The bytes of a value of that type, which the words of a command line spell; of a `buf` hexadecimal digits."""
     if kind == "buf":
-        return bytes.fromhex(text)
+        return struct.pack(">H", len(text) // 2) + bytes.fromhex(text)
     if kind == "bool":
-        return {"false": b"\0", "true": b"\1", "null": b"\2"}[text]
+        return bytes([TRUTHS[text]])
     return int(text).to_bytes(SIZES[kind], "big", signed=kind in ("int", "long"))
 
 
-def read_value(kind, left):
-    """A value of that type, as words."""
+def take_value(kind, reader):
+    """The next value, of that type, as words."""
     if kind == "buf":
-        return left.hex()
-    if len(left) != SIZES[kind]:
-        raise Malformed("a value of another size")
+        return reader.take(reader.number(2)).hex()
+    number = reader.number(SIZES[kind], signed=kind in ("int", "long"))
     if kind == "bool":
-        return {0: "false", 1: "true"}.get(left[0], "null")
-    return str(int.from_bytes(left, "big", signed=kind in ("int", "long")))
+        return next((word for word, byte in TRUTHS.items() if byte == number), "null")
+    return str(number)
+
+
+def read_value(kind, left):
+    """A value of that type, as words, where the bytes are that value and nothing else."""
+    reader = Reader(left)
+    value = take_value(kind, reader)
+    if reader.left:
+        raise Malformed("a value of another size")
+    return value
 
 
 def kits_of(body):
