@@ -18,7 +18,8 @@ name_at rows place = option_map_or (λ (r : FileRow). r.name) (slice_get rows pl
 
 -- the rows at the places of each list have names that differ
 abbrev pub SiblingsDiffer : List FileRow → List (List ℕ) → Type 0
-SiblingsDiffer rows lists = (k : ℕ) (list : List ℕ) → slice_get lists k ≡ Some list → IsDistinct bytes_eq (map_list (name_at rows) list)
+SiblingsDiffer rows lists = (k : ℕ) (list : List ℕ) → slice_get lists k ≡ Some list
+    → IsDistinct bytes_eq (map_list (name_at rows) list)
 
 -- the class of the row at a place is one that it may have there
 abbrev pub IsKind : Meaning → ℕ → FileRow → Type 0

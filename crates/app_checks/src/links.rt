@@ -42,8 +42,8 @@ fn is_before(k: LinkRec, l: LinkRec) -> bool
     k.to.0 < l.to.0 || (k.to.0 == l.to.0 && k.to_slot < l.to_slot)
 }
 
-/// Whether each link is between properties of rows that are there, whose types go together. The rows that tell of the tree
-/// are those of these rows, and their ids ascend.
+/// Whether each link is between properties of rows that are there, whose types go together. The rows that tell of the
+/// tree are those of these rows, and their ids ascend.
 pub fn are_links(schema: &Schema, rows: &[FileRow], tree: &[TreeRow], links: &[LinkRec]) -> bool
     requires rows { tree.now ≡ tree_rows rows.now }
     requires ascend { Ascend tree.now }

@@ -13,13 +13,14 @@ use link_prop::App;
 use sed_engine::{Callback, Engine};
 use sed_value::Id;
 
-/// Calls `start` of each component, depth first, with so many turns, 1 to 1,000,000, at a moment in nanoseconds. Where a
-/// component's fault isn't 0 nothing is called; a trap becomes its fault, and is counted. It may mark the values of any
-/// component, and marks nothing else.
+/// Calls `start` of each component, depth first, with so many turns, 1 to 1,000,000, at a moment in nanoseconds. Where
+/// a component's fault isn't 0 nothing is called; a trap becomes its fault, and is counted. It may mark the values of
+/// any component, and marks nothing else.
 pub fn begin<E: Engine>(app: &mut App<E>, turns: u32, ticks: i64) -> CycleEnd
     requires some_turns { 1 ≤ turns }
     requires most_turns { turns ≤ 1000000 }
-    ensures begun { (let c : Cycled = record { application = application_of E.Engine app.new; traps = result.traps } in c) ≡ Begin (E.meaning app.old.tree.engine) (application_of E.Engine app.old) turns ticks }
+    ensures begun { (let c : Cycled = record { application = application_of E.Engine app.new; traps = result.traps }
+        in c) ≡ Begin (E.meaning app.old.tree.engine) (application_of E.Engine app.old) turns ticks }
     ensures marks { KeepsAppMarks E.Engine values_of_any no_links app.old app.new }
     ensures meaning { E.meaning app.new.tree.engine ≡ E.meaning app.old.tree.engine }
     ensures steady { E.fixed app.new.tree.engine ≡ E.fixed app.old.tree.engine }
@@ -36,7 +37,9 @@ fn start_all<E: Engine>(app: &mut App<E>, ids: &[u16], turns: u32, ticks: i64) -
     requires few { length ids.now ≤ most_components }
     requires some_turns { 1 ≤ turns }
     requires most_turns { turns ≤ 1000000 }
-    ensures started { call_each (E.meaning app.old.tree.engine) Callback.Start turns ticks (components_of E.Engine app.old.tree) ids.now ≡ (let s : Counted = record { left = components_of E.Engine app.new.tree; traps = result } in s) }
+    ensures started { call_each (E.meaning app.old.tree.engine) Callback.Start turns ticks
+        (components_of E.Engine app.old.tree) ids.now ≡ (let s : Counted =
+        record { left = components_of E.Engine app.new.tree; traps = result } in s) }
     ensures links { app.new.links ≡ app.old.links }
     ensures marks { KeepsAppMarks E.Engine values_of_any no_links app.old app.new }
     ensures meaning { E.meaning app.new.tree.engine ≡ E.meaning app.old.tree.engine }

@@ -17,7 +17,7 @@ use Rattle.sed_engine.specs.Fits.{Fits}
 use Rattle.sed_engine.specs.Whole.{HasBufSize, HasTables}
 use Rattle.comp_tree.specs.Application.{Component, object_of}
 use Rattle.comp_tree.specs.Parts.{config_slots, is_config, is_property_form, values_in}
-use Rattle.comp_tree.proofs.FitLemmas.{slot_is_of_type}
+use Rattle.sed_engine.proofs.KeptSlots.{property_is_of_type}
 use Rattle.app_file.proofs.ValuesOneWay.{AreTyped}
 use Rattle.sed_value.proofs.Lists.{at_place}
 
@@ -69,7 +69,7 @@ typed_each : (m : Meaning) (c : Component) (numbers : List ℕ) → HasTables m 
     → AllByRecursion (IsProperty m c.class) numbers → AreTyped m c.class numbers (values_in m c numbers)
 typed_each m c [] tables fits all = tt
 typed_each m c (slot ∷ numbers) tables fits all =
-    (record { type = all.0.type; is = all.0.is; held = all.0.held; of = slot_is_of_type m (object_of c) slot all.0.type tables fits all.0.is }, typed_each m c numbers tables fits all.1)
+    (record { type = all.0.type; is = all.0.is; held = all.0.held; of = property_is_of_type m (object_of c) slot all.0.type tables fits all.0.is }, typed_each m c numbers tables fits all.1)
 
 pub config_is_typed : (m : Meaning) (c : Component) → HasTables m → Fits m.fields (m.fields c.class) (m.initial c.class) c.contents
     → AreTyped m c.class (config_slots m c.class) (values_in m c (config_slots m c.class))

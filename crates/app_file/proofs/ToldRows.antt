@@ -10,7 +10,7 @@ use Rattle.std.proofs.lemmas.List.Elements.{recursion_from_All}
 use Rattle.sed_value.specs.declared.value.Value.{Value}
 use Rattle.sed_engine.specs.Code.{Meaning, new_object, slot_value}
 use Rattle.comp_tree.specs.Application.{ById, Component, children_of, object_of}
-use Rattle.comp_tree.specs.Mapped.{on_values}
+use Rattle.sed_value.specs.Mapped.{on_values}
 use Rattle.comp_tree.specs.Parts.{config_slots, kept_by_id, kept_component, with_slots}
 use Rattle.app_file.specs.Rows.{Row, row_of, rows_by, rows_of}
 use Rattle.app_file.specs.Telling.{RowAgrees, RowsAgree, told_by, told_component, told_entries}

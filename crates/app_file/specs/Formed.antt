@@ -1,5 +1,6 @@
 -- What a file tells of an application before any limit is asked for.
-use Rattle.std.specs.Prelude.{ℕ, ◌≡◌, ◌<◌, ◌≤◌, Bool, IsTrue, IsSomeAnd, List, map as map_list, nat_eq, Option, Some, None}
+use Rattle.std.specs.Prelude.{ℕ, ◌≡◌, ◌<◌, ◌≤◌, Bool, IsTrue, IsSomeAnd, List, map as map_list, nat_eq, Option, Some}
+use Rattle.std.specs.Prelude.{None}
 use Rattle.std.specs.List.{All, AllPairs, Contains, IsDistinct}
 use Rattle.std.specs.Str.{bytes_eq}
 use Rattle.std.specs.FinMap as map
@@ -29,7 +30,8 @@ pub record IsFormed (m : Meaning) (a : Application) : Type 0 where
   pub app : IsSomeAnd (map.get a.components.by_id 0) (IsApp m)
   pub others : Each a.components.by_id (λ id c. 0 < id → IsOther m c)
   pub names : Each a.components.by_id (λ id c. IsTrue (is_name c.name))
-  pub siblings : Each a.components.by_id (λ id c. IsDistinct bytes_eq (map_list (name_of a.components.by_id) c.children))
+  pub siblings : Each a.components.by_id (λ id c.
+      IsDistinct bytes_eq (map_list (name_of a.components.by_id) c.children))
   pub links : All (IsLink m a.components.by_id) a.links
   pub order : AllPairs (λ k l. IsTrue (is_before k l)) a.links
   pub values : Each a.components.by_id (λ id c. Fits m.fields (m.fields c.class) (m.initial c.class) c.contents)

@@ -3,7 +3,8 @@ use Rattle.std.specs.Prelude.{ℕ, Bool, nat_le, nat_lt, if◌then◌else◌, Li
 use Rattle.std.specs.List.{list_any}
 use Rattle.std.specs.FinMap as map
 use Rattle.sed_engine.specs.Code.{Meaning}
-use Rattle.comp_tree.specs.Application.{Application, Component, data_size_of, greatest_depth, most_children, most_components, most_links, most_links_at_component}
+use Rattle.comp_tree.specs.Application.{Application, Component, data_size_of, greatest_depth, most_children}
+use Rattle.comp_tree.specs.Application.{most_components, most_links, most_links_at_component}
 use Rattle.comp_tree.specs.Order.{depth}
 use Rattle.comp_tree.specs.Parts.{links_at}
 

@@ -9,8 +9,8 @@ use Rattle.comp_tree.specs.Parts.{config_slots, values_in, with_slots}
 use Rattle.app_file.specs.Rows.{Row, sibling_behind}
 use Rattle.app_file.specs.Text.{body_text, front_text, greatest_of}
 
--- a component as its row tells of it, with these children: its config values are stored in a new object, in the order of the
--- slots
+-- a component as its row tells of it, with these children: its config values are stored in a new object, in the order
+-- of the slots
 abbrev pub told_component : Meaning → Row → List ℕ → Component
 told_component m r children = record {
   class = r.class;
@@ -28,8 +28,8 @@ told_entries m children rows = map_list (λ (r : Row). (r.id, told_component m r
 abbrev pub told_by : Meaning → (ℕ → List ℕ) → List Row → ById
 told_by m children rows = map.from_sorted (told_entries m children rows)
 
--- a row agrees with the children: the first child and the next sibling are as it says, and each slot gives the value that it
--- gives
+-- a row agrees with the children: the first child and the next sibling are as it says, and each slot gives the value
+-- that it gives
 pub record RowAgrees (m : Meaning) (children : ℕ → List ℕ) (r : Row) : Type 0 where
   pub first : slice_get (children r.id) 0 ≡ r.first_child
   pub next : sibling_behind children r.id r.parent ≡ r.next_sibling
@@ -54,4 +54,5 @@ ids_of_rows rows = map_list (λ (r : Row). r.id) rows
 
 -- the text in which rows and links stand
 abbrev pub told_text : ℕ → Meaning → List Row → List Link → List ℕ
-told_text version m rows links = front_text version m.schema.kits ++ body_text m (greatest_of (ids_of_rows rows)) rows links
+told_text version m rows links = front_text version m.schema.kits
+    ++ body_text m (greatest_of (ids_of_rows rows)) rows links

@@ -42,7 +42,8 @@ id_text id = u2 (option_map_or (λ id. id) id no_id)
 -- the id, the kit and the type, the name, the parent, the first child, the next sibling, the config values, and `;`
 abbrev pub row_text : Meaning → Row → List ℕ
 row_text m r =
-    u2 r.id ++ class_bytes m r.class ++ text r.name ++ id_text r.parent ++ id_text r.first_child ++ id_text r.next_sibling
+    u2 r.id ++ class_bytes m r.class ++ text r.name ++ id_text r.parent
+    ++ id_text r.first_child ++ id_text r.next_sibling
     ++ spelling_of_all r.config ++ u1 0x3b
 
 -- ---- the file

@@ -53,8 +53,8 @@ pub fn what_passes_no_limit_is_whole()
     trees_are_walked_once();
 }
 
-/// An application that is whole is formed, and passes no limit: so a file is the text of a kept application that is whole, and no
-/// more is asked.
+/// An application that is whole is formed, and passes no limit: so a file is the text of a kept application that is
+/// whole, and no more is asked.
 pub fn what_is_whole_passes_no_limit()
     ensures formed { (m : Meaning) (a : Application) → Whole m a → IsFormed m a }
     ensures within { (m : Meaning) (a : Application) → Whole m a → limit_passed m a ≡ None }
@@ -81,9 +81,9 @@ pub fn a_larger_data_limit_reads_the_same()
     stores_open_to_one();
 }
 
-/// Rows that agree with the children of each id tell of components that have just these rows, and the text in which they stand with
-/// links stands for the application that they tell of, where that is formed. Each application that bytes stand for is told by
-/// its own rows and children.
+/// Rows that agree with the children of each id tell of components that have just these rows, and the text in which
+/// they stand with links stands for the application that they tell of, where that is formed. Each application that
+/// bytes stand for is told by its own rows and children.
 pub fn rows_tell_of_applications()
     ensures rows { (m : Meaning) (children : ℕ → List ℕ) (rows : List Row) → RowsAgree m children rows
         → rows_of m (told_by m children rows) ≡ rows }

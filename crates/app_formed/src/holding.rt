@@ -21,9 +21,9 @@ use sed_typed::Schema;
 use sed_value::{Id, Items};
 use std::alloc::{AllocError, Global};
 
-/// The places of the children of each row of a file, where its rows and links hold together. `NoTree` comes only where they do
-/// not, whatever children one might take, and `Memory` where memory was wanted and refused. The rows may stand in a file of
-/// the engine's code, and `tree` is what they tell of the tree.
+/// The places of the children of each row of a file, where its rows and links hold together. `NoTree` comes only where
+/// they do not, whatever children one might take, and `Memory` where memory was wanted and refused. The rows may stand
+/// in a file of the engine's code, and `tree` is what they tell of the tree.
 pub fn formed<E: Engine>(
     alloc: Global,
     engine: &E,
@@ -32,11 +32,14 @@ pub fn formed<E: Engine>(
 ) -> Result<Items<Items<usize>>, TreeRefusal>
     requires rows { All (IsToldRow (E.meaning engine.now)) file.now.rows }
     requires tree { tree.now ≡ tree_rows file.now.rows }
-    ensures formed { IfOk result (λ lists. IsFormedFile (E.meaning engine.now) file.now (children_in (tree_rows file.now.rows) lists)) }
-    ensures only { IfOk result (λ lists. (others : ℕ → List ℕ) → IsFormedFile (E.meaning engine.now) file.now others → (id : ℕ) → others id ≡ children_in (tree_rows file.now.rows) lists id) }
+    ensures formed { IfOk result (λ lists.
+        IsFormedFile (E.meaning engine.now) file.now (children_in (tree_rows file.now.rows) lists)) }
+    ensures only { IfOk result (λ lists. (others : ℕ → List ℕ) → IsFormedFile (E.meaning engine.now) file.now others
+        → (id : ℕ) → others id ≡ children_in (tree_rows file.now.rows) lists id) }
     ensures size { IfOk result (λ lists. length lists ≡ length file.now.rows) }
     ensures within { IfOk result (λ lists. StayWithin lists) }
-    ensures none { result ≡ Err NoTree → (others : ℕ → List ℕ) → IsFormedFile (E.meaning engine.now) file.now others → ⊥ }
+    ensures none { result ≡ Err NoTree → (others : ℕ → List ℕ)
+        → IsFormedFile (E.meaning engine.now) file.now others → ⊥ }
 {
     if !are_ascending(tree) {
         return Err(TreeRefusal::NoTree);

@@ -10,8 +10,8 @@ use Rattle.app_file.specs.declared.refusal.AppRefusal.TheVariants.{NotAnApp, Wro
 use Rattle.app_front.specs.BodyForm.{IsBodyAnswer, ReadsNoRows, ReadsRows, body}
 use Rattle.app_front.specs.Front.{IsFrontOutcome}
 use Rattle.sed_wire.specs.Gives.{Gives}
-use Rattle.sed_wire.specs.declared.halt.Halt.{Halt}
-use Rattle.sed_wire.specs.declared.halt.Halt.TheVariants.{Fault}
+use Rattle.sed_value.specs.declared.halt.Halt.{Halt}
+use Rattle.sed_value.specs.declared.halt.Halt.TheVariants.{Fault}
 use Rattle.app_front.specs.declared.rows.FileRows.{FileRows}
 
 pub front_refused : (schema : Schema) (bytes old left : List ℕ) (refusal : AppRefusal) → old ≡ bytes → IsFrontOutcome schema old left (Err refusal) → IsBodyAnswer schema bytes (Err refusal)

@@ -10,8 +10,8 @@ use Rattle.sed_wire.proofs.Rows.{with_front}
 use Rattle.comp_tree.specs.Parts.{no_id}
 use Rattle.app_front.specs.Ended.{Begin, ended}
 use Rattle.sed_wire.specs.Gives.{Gives}
-use Rattle.sed_wire.specs.declared.halt.Halt.{Halt}
-use Rattle.sed_wire.specs.declared.halt.Halt.TheVariants.{Fault, Memory}
+use Rattle.sed_value.specs.declared.halt.Halt.{Halt}
+use Rattle.sed_value.specs.declared.halt.Halt.TheVariants.{Fault, Memory}
 
 is_end : (k : ℕ) → k ≡ no_id → (k == no_id) ≡ true
 is_end k is = grind (arith, nat_tests)

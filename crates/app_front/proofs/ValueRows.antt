@@ -15,8 +15,8 @@ use Rattle.sed_wire.specs.FormReading.{Reading, Found, Stuck, read_on}
 use Rattle.sed_wire.proofs.Rows.{with_front}
 use Rattle.sed_wire.specs.Gives.{Gives}
 use Rattle.app_front.specs.ValueForm as form
-use Rattle.sed_wire.specs.declared.halt.Halt.{Halt}
-use Rattle.sed_wire.specs.declared.halt.Halt.TheVariants.{Fault, Memory}
+use Rattle.sed_value.specs.declared.halt.Halt.{Halt}
+use Rattle.sed_value.specs.declared.halt.Halt.TheVariants.{Fault, Memory}
 
 -- ---- a value
 

@@ -34,11 +34,13 @@ or_end behind more number = cond (number == no_id) (given []) (listed (then (beh
 abbrev pub Begin : {A : Type 0} → (A → ℕ) → (ℕ → Form A) → Type 0
 Begin {A} first behind = (number : ℕ) (x : A) (bytes : List ℕ) → (behind number).spells x bytes → first x ≡ number
 
-pub one_first : {A : Type 0} (first : A → ℕ) (behind : ℕ → Form A) (begin : Begin first behind) (more : Form (List A)) (k : ℕ × List A) (bytes : List ℕ)
+pub one_first : {A : Type 0} (first : A → ℕ) (behind : ℕ → Form A)
+    (begin : Begin first behind) (more : Form (List A)) (k : ℕ × List A) (bytes : List ℕ)
     → (then (number 2) (or_end behind more)).spells k bytes → (first_number first k.1, k.1) ≡ k
 one_first {A} first behind begin more k bytes h = ap (λ (n : ℕ). (n, k.1)) (by (k.0 == no_id) refl k.1 h.3)
   where
-    by : (b : Bool) → (k.0 == no_id) ≡ b → (xs : List A) → (cond b (given []) (listed (then (behind k.0) (λ _. more)))).spells xs h.1 → first_number first xs ≡ k.0
+    by : (b : Bool) → (k.0 == no_id) ≡ b → (xs : List A)
+        → (cond b (given []) (listed (then (behind k.0) (λ _. more)))).spells xs h.1 → first_number first xs ≡ k.0
     by true is xs e = ap (first_number first) e.0 ∙ sym (eqb-true k.0 no_id is)
     by false is [] e = absurd e
     by false is (x ∷ xs) e = begin k.0 x e.0 e.2
@@ -48,4 +50,5 @@ abbrev pub ended : {A : Type 0} → (first : A → ℕ) → (behind : ℕ → Fo
 ended first behind begin zero = never
 ended first behind begin (suc n) =
     seen_as (λ k. k.1) (λ xs. (first_number first xs, xs)) (λ xs. refl)
-    (then (number 2) (or_end behind (ended first behind begin n))) (one_first first behind begin (ended first behind begin n))
+    (then (number 2) (or_end behind (ended first behind begin n)))
+    (one_first first behind begin (ended first behind begin n))

@@ -2,6 +2,7 @@
 use Rattle.std.specs.Prelude.{ℕ, List, refl}
 use Rattle.sed_wire.specs.Form.{Form, given, seen_as, ◌&◌}
 use Rattle.sed_wire.specs.Leaves.{mark, number}
+pub use Rattle.sed_wire.specs.Leaves.{u1, u2}
 use Rattle.comp_tree.specs.Application.{Link}
 use Rattle.app_front.specs.Ended.{Begin, ended}
 

@@ -1,5 +1,6 @@
 -- A component of a file as a form of bytes, and the components up to the mark behind them.
-use Rattle.std.specs.Prelude.{◌≡◌, ℕ, ◌==◌, ◌&&◌, ◌^◌, Bool, true, false, cond, List, [], ◌∷◌, slice_get, Option, Some, None, refl}
+use Rattle.std.specs.Prelude.{◌≡◌, ℕ, ◌==◌, ◌&&◌, ◌^◌, Bool, true, false, cond, List, [], ◌∷◌, slice_get, Option, Some}
+use Rattle.std.specs.Prelude.{None, refl}
 use Rattle.std.specs.Option.{option_and_then, option_map_or}
 use Rattle.std.specs.List.{position}
 use Rattle.std.proofs.Common.{ap, ap₂, sym, ◌∙◌, eqb-true}
@@ -37,7 +38,8 @@ id_again n = by (n == no_id) refl
     by true is = sym (eqb-true n no_id is)
     by false is = refl
 
-pub one_id : (k : ℕ × Option Id) (bytes : List ℕ) → (then (number 2) (λ n. given (id_of n))).spells k bytes → (id_number k.1, k.1) ≡ k
+pub one_id : (k : ℕ × Option Id) (bytes : List ℕ) → (then (number 2) (λ n. given (id_of n))).spells k bytes
+    → (id_number k.1, k.1) ≡ k
 one_id k bytes h = ap (λ (n : ℕ). (n, k.1)) (ap id_number h.3.0 ∙ id_again k.0)
 
 -- an id, or the number that no component has
@@ -66,9 +68,11 @@ numbered_is (Some k) n e = by (nat_lt k (2 ^ 16)) e
     by true e = e
     by false e = absurd (let no : ◌≡◌ {A = Option ℕ} None (Some n) = e in cc)
 
-pub place_is : (classes : List ClassInfo) (kit n class : ℕ) → type_at classes kit n ≡ Some class → place_of classes class ≡ (kit, n)
+pub place_is : (classes : List ClassInfo) (kit n class : ℕ) → type_at classes kit n ≡ Some class
+    → place_of classes class ≡ (kit, n)
 place_is [] kit n class e =
-    absurd (let no : ◌≡◌ {A = Option ℕ} None (Some class) = numbered_is (position (λ (c : ClassInfo). (c.kit == kit) && (c.number == n)) []) class e in cc)
+    absurd (let no : ◌≡◌ {A = Option ℕ} None (Some class) =
+    numbered_is (position (λ (c : ClassInfo). (c.kit == kit) && (c.number == n)) []) class e in cc)
 place_is (d ∷ classes) kit n class e =
     let all = d ∷ classes in
     let test = λ (c : ClassInfo). (c.kit == kit) && (c.number == n) in
@@ -82,14 +86,16 @@ place_is (d ∷ classes) kit n class e =
 abbrev pub class_form : List ClassInfo → Form ((ℕ × ℕ) × ℕ)
 class_form classes = then (number 1 & number 1) (λ k. known (type_at classes k.0 k.1))
 
-pub one_class : (classes : List ClassInfo) (k : (ℕ × ℕ) × ℕ) (bytes : List ℕ) → (class_form classes).spells k bytes → (place_of classes k.1, k.1) ≡ k
+pub one_class : (classes : List ClassInfo) (k : (ℕ × ℕ) × ℕ) (bytes : List ℕ)
+    → (class_form classes).spells k bytes → (place_of classes k.1, k.1) ≡ k
 one_class classes k bytes h =
     ap (λ (p : ℕ × ℕ). (p, k.1)) (place_is classes k.0.0 k.0.1 k.1 (known_is (type_at classes k.0.0 k.0.1) k.1 h.1 h.3))
 
 -- the first class with a kit and a number
 unfoldable pub class : List ClassInfo → Form TypeNo
 class classes =
-    seen_as (λ k. record { 0 = k.1 }) (λ t. (place_of classes t.0, t.0)) (λ t. refl) (class_form classes) (one_class classes)
+    seen_as (λ k. record { 0 = k.1 }) (λ t. (place_of classes t.0, t.0))
+    (λ t. refl) (class_form classes) (one_class classes)
 
 -- ---- components
 
@@ -121,7 +127,8 @@ row_of (n, (kind, (name, (parent, (first_child, (next_sibling, (config, _)))))))
       config = config;
     }
 
-abbrev pub behind_class : List ClassInfo → TypeNo → Form (List ℕ × (Option Id × (Option Id × (Option Id × (List Value × Unit {0})))))
+abbrev pub behind_class : List ClassInfo → TypeNo
+    → Form (List ℕ × (Option Id × (Option Id × (Option Id × (List Value × Unit {0})))))
 behind_class classes kind = name & (id & (id & (id & (config classes kind.0 & row_end))))
 
 -- a component with this id, behind the id

@@ -1,5 +1,6 @@
 -- Which bytes are rows and links of a code, behind a front with its kits.
-use Rattle.std.specs.Prelude.{ℕ, ◌≡◌, ◌⊎◌, ◌<◌, IsTrue, IfSome, List, map as map_list, slice_get, Option, Some, Result, Ok, Err}
+use Rattle.std.specs.Prelude.{ℕ, ◌≡◌, ◌⊎◌, ◌<◌, IsTrue, IfSome, List, map as map_list, slice_get, Option, Some, Result}
+use Rattle.std.specs.Prelude.{Ok, Err}
 use Rattle.std.specs.List.{All}
 use Rattle.std.specs.Option.{option_map}
 use Rattle.sed_value.specs.Names.{is_name}

@@ -1,13 +1,17 @@
 -- The value of a slot as a form of bytes, and the values of several.
-use Rattle.std.specs.Prelude.{◌≡◌, ℕ, zero, suc, ◌+◌, ◌<◌, ◌≤◌, ◌^◌, ◌&&◌, nat_le, nat_lt, Bool, true, false, cond, IsTrue, List, [], ◌∷◌, ◌++◌, length, take, drop, refl}
+use Rattle.std.specs.Prelude.{◌≡◌, ℕ, zero, suc, ◌+◌, ◌<◌, ◌≤◌, ◌^◌, ◌&&◌, nat_le, nat_lt, Bool, true, false, cond}
+use Rattle.std.specs.Prelude.{IsTrue, List, [], ◌∷◌, ◌++◌, length, take, drop, refl}
 use Rattle.std.specs.Int.{w32, w64}
-use Rattle.std.proofs.Common.{ap, subst, sym, ◌∙◌, arith, take-append-drop, length-take-le, le-leb, leb-true, length-drop}
+use Rattle.std.proofs.Common.{ap, subst, sym, ◌∙◌, arith, take-append-drop, length-take-le, le-leb, leb-true}
+use Rattle.std.proofs.Common.{length-drop}
 use Rattle.std.proofs.lemmas.Bool.{and_from, and_parts}
 use Rattle.std.proofs.lemmas.List.{take_at, drop_at, length-append}
 use Rattle.std.proofs.lemmas.Int.{of_z-to_z}
 use Rattle.std.proofs.Math.Facts.{Fits-of_lt, sfits_to_z}
 use Rattle.sed_value.specs.Value.{are_bytes, is_of_type}
-use Rattle.sed_value.specs.declared.slot_type.Primitive.TheVariants.{Bool as BoolType, Byte as ByteType, Short as ShortType, Int as IntType, Long as LongType}
+use Rattle.sed_value.specs.declared.slot_type.Primitive.TheVariants.{Bool as BoolType, Byte as ByteType}
+use Rattle.sed_value.specs.declared.slot_type.Primitive.TheVariants.{Short as ShortType, Int as IntType}
+use Rattle.sed_value.specs.declared.slot_type.Primitive.TheVariants.{Long as LongType}
 use Rattle.sed_value.specs.declared.slot_type.SlotType.{SlotType}
 use Rattle.sed_value.specs.declared.slot_type.SlotType.TheVariants.{Prim as PrimSlot, Buf as BufSlot}
 use Rattle.sed_value.specs.declared.value.Value.{Value}
@@ -51,7 +55,8 @@ all_taken (suc n) (byte ∷ bytes) are =
     and_from (nat_lt byte 256) (are_bytes (take n bytes)) parts.0 (all_taken n bytes parts.1)
 
 -- a front of the size that it tells is spelled by its value
-spells_of : (t : SlotType) (front : List ℕ) → length front ≡ size_of t front → IsTrue (are_bytes front) → IsTrue (is_of_type t (value_of t front))
+spells_of : (t : SlotType) (front : List ℕ) → length front ≡ size_of t front
+    → IsTrue (are_bytes front) → IsTrue (is_of_type t (value_of t front))
     → SpellsValue (value_of t front) front
 spells_of (PrimSlot BoolType) front long are typed =
     (record { as_many = long; are_bytes = are; is_number = refl }, leb-true (number_of front) 2 typed)
@@ -90,19 +95,29 @@ size_again (BufSlot most) bytes =
     let more : 2 + count ≡ suc (suc count) = omega arith in
     ap (λ (two : List ℕ). 2 + number_of two) (ap (λ (n : ℕ). take 2 (take n bytes)) more ∙ take_two count bytes)
 
-pub value_sound : (t : SlotType) (bytes : List ℕ) (v : Value) (rest : List ℕ) → value_reads t bytes ≡ Found v rest → Begins (Spells t v) bytes rest
-value_sound t bytes v rest e = by_test (nat_le (size_of t bytes) (length bytes) && is_value t (value_front t bytes)) refl e
+pub value_sound : (t : SlotType) (bytes : List ℕ) (v : Value) (rest : List ℕ)
+    → value_reads t bytes ≡ Found v rest → Begins (Spells t v) bytes rest
+value_sound t bytes v rest e =
+    by_test (nat_le (size_of t bytes) (length bytes) && is_value t (value_front t bytes)) refl e
   where
     by_test : (b : Bool) → (nat_le (size_of t bytes) (length bytes) && is_value t (value_front t bytes)) ≡ b
-        → cond b (Found (value_of t (value_front t bytes)) (drop (size_of t bytes) bytes)) (Stuck bytes) ≡ Found v rest → Begins (Spells t v) bytes rest
+        → cond b (Found (value_of t (value_front t bytes)) (drop (size_of t bytes) bytes)) (Stuck bytes) ≡ Found v rest
+        → Begins (Spells t v) bytes rest
     by_test false is e = absurd (not_found bytes rest v e)
     by_test true is e =
         let parts = and_parts (nat_le (size_of t bytes) (length bytes)) (is_value t (value_front t bytes)) is in
-        let value = and_parts (are_bytes (value_front t bytes)) (is_of_type t (value_of t (value_front t bytes))) parts.1 in
+        let value = and_parts (are_bytes (value_front t bytes))
+        (is_of_type t (value_of t (value_front t bytes))) parts.1 in
         let long = length-take-le (size_of t bytes) bytes (leb-true (size_of t bytes) (length bytes) parts.0) in
         let g = found_eq (value_of t (value_front t bytes)) (drop (size_of t bytes) bytes) v rest e in
-        begins_again (Spells t) bytes (value_of t (value_front t bytes)) v (drop (size_of t bytes) bytes) rest g.0 g.1
-        (value_front t bytes, record { of_type = value.1; spelled = spells_of t (value_front t bytes) (long ∙ sym (size_again t bytes)) value.0 value.1 }, sym (take-append-drop (size_of t bytes) bytes))
+        begins_again (Spells t) bytes (value_of t (value_front t bytes)) v (drop (size_of t bytes) bytes) rest g.0 g.1 (
+          value_front t bytes,
+          record {
+            of_type = value.1;
+            spelled = spells_of t (value_front t bytes) (long ∙ sym (size_again t bytes)) value.0 value.1;
+          },
+          sym (take-append-drop (size_of t bytes) bytes),
+        )
 
 -- the bytes that spell a value are bytes
 all_both : (a b : List ℕ) → IsTrue (are_bytes a) → IsTrue (are_bytes b) → IsTrue (are_bytes (a ++ b))
@@ -111,7 +126,8 @@ all_both (byte ∷ a) b first second =
     let parts = and_parts (nat_lt byte 256) (are_bytes a) first in
     and_from (nat_lt byte 256) (are_bytes (a ++ b)) parts.0 (all_both a b parts.1 second)
 
-spelled_bytes : (t : SlotType) (v : Value) (front : List ℕ) → IsTrue (is_of_type t v) → SpellsValue v front → IsTrue (are_bytes front)
+spelled_bytes : (t : SlotType) (v : Value) (front : List ℕ) → IsTrue (is_of_type t v)
+    → SpellsValue v front → IsTrue (are_bytes front)
 spelled_bytes t (Truth n) front typed is = is.0.are_bytes
 spelled_bytes t (Byte n) front typed is = is.are_bytes
 spelled_bytes t (Short n) front typed is = is.are_bytes
@@ -127,13 +143,15 @@ spelled_bytes (BufSlot most) (Buf c) front typed is =
     subst (λ (s : List ℕ). IsTrue (are_bytes s)) (sym is.front) (all_both is.count c is.counts.are_bytes parts.0)
 spelled_bytes t Nothing front typed is = absurd is
 
-pub value_whole : (t : SlotType) (v : Value) (front rest : List ℕ) → Spells t v front → value_reads t (front ++ rest) ≡ Found v rest
+pub value_whole : (t : SlotType) (v : Value) (front rest : List ℕ)
+    → Spells t v front → value_reads t (front ++ rest) ≡ Found v rest
 value_whole t v front rest is =
     let f = found t v front is in
     let size : size_of t (front ++ rest) ≡ length front = f.size rest in
     let taken : take (length front) (front ++ rest) ≡ front = take_at front rest (length front) refl in
     let left : drop (length front) (front ++ rest) ≡ rest = drop_at front rest (length front) refl in
-    let enough : nat_le (length front) (length (front ++ rest)) ≡ true = le-leb (length front) (length (front ++ rest)) (omega (arith, length-append front rest)) in
+    let enough : nat_le (length front) (length (front ++ rest)) ≡ true =
+    le-leb (length front) (length (front ++ rest)) (omega (arith, length-append front rest)) in
     let are : are_bytes front ≡ true = spelled_bytes t v front is.of_type is.spelled in
     let typed : is_of_type t (value_of t front) ≡ true = ap (is_of_type t) f.value ∙ is.of_type in
     rw (size, enough, taken, left, are, typed) (ap (λ (w : Value). Found w rest) f.value)
@@ -141,13 +159,15 @@ value_whole t v front rest is =
 pub value_stays : (t : SlotType) (bytes rest : List ℕ) → value_reads t bytes ≡ Stuck rest → bytes ≡ rest
 value_stays t bytes rest e = by_test (nat_le (size_of t bytes) (length bytes) && is_value t (value_front t bytes)) e
   where
-    by_test : (b : Bool) → cond b (Found (value_of t (value_front t bytes)) (drop (size_of t bytes) bytes)) (Stuck bytes) ≡ Stuck rest → bytes ≡ rest
+    by_test : (b : Bool) → cond b (Found (value_of t (value_front t bytes)) (drop (size_of t bytes) bytes))
+        (Stuck bytes) ≡ Stuck rest → bytes ≡ rest
     by_test true e = absurd (not_stuck (drop (size_of t bytes) bytes) rest (value_of t (value_front t bytes)) e)
     by_test false e = stuck_eq {A = Value} bytes rest e
 
 -- a value of the type
 unfoldable pub value : SlotType → Form Value
-value t = field (Spells t) (value_reads t) (λ v a b one other. one_value v a b one.spelled other.spelled) (value_sound t) (value_whole t) (value_stays t)
+value t = field (Spells t) (value_reads t) (λ v a b one other. one_value v a b one.spelled other.spelled)
+    (value_sound t) (value_whole t) (value_stays t)
 
 -- ---- values of types, one behind another
 

@@ -26,7 +26,7 @@ pub(crate) fn links(alloc: Global, reader: &mut Reader, most: usize) -> Result<I
 }
 
 // A link from this id, behind the id.
-#[tactic(auto, unfolding(crate::specs::LinkForm::link_behind, sed_wire::specs::Leaves::u1, sed_wire::specs::Leaves::u2))]
+#[tactic(auto, unfolding(crate::specs::LinkForm::link_behind, crate::specs::LinkForm::u1, crate::specs::LinkForm::u2))]
 fn link_behind(reader: &mut Reader, from: u16) -> Result<LinkRec, Halt>
     ensures { Gives result reader.new ((form.link_behind from).reads reader.old) }
 {

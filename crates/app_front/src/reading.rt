@@ -26,8 +26,8 @@ use std::alloc::Global;
 ///
 /// `NotAnApp` comes exactly where the bytes begin with no front, or where the front's kits are the schema's and what
 /// stands behind it are no rows and links; `WrongKits` exactly where they begin with a front of other kits, with the
-/// first place at which the two lists differ. `Memory` may come in the place of any answer. The schema is one that keeps
-/// the limits of schemas, as an engine's does.
+/// first place at which the two lists differ. `Memory` may come in the place of any answer. The schema is one that
+/// keeps the limits of schemas, as an engine's does.
 pub fn read_rows(alloc: Global, schema: &Schema, bytes: &[u8]) -> Result<FileRows, AppRefusal>
     requires { KeepsLimits schema.now }
     // What is read are rows that the bytes are, and a refusal has its reason.

@@ -37,7 +37,7 @@ use Rattle.comp_tree.proofs.DepthLemmas.{depth_is}
 use Rattle.comp_tree.proofs.MapLemmas.{get_beside, get_put}
 use Rattle.comp_tree.proofs.ShapeLemmas.{In, in_child, in_from, once_from}
 use Rattle.comp_tree.proofs.ShapeSteps.{tree_more}
-use Rattle.comp_tree.proofs.SumLemmas.{total, total_more, total_over}
+use Rattle.sed_value.proofs.Maps.{total, total_more, total_over}
 use Rattle.link_prop.proofs.AlikeComponents.{link_with_classes}
 use Rattle.app_laws.proofs.FreeIds.{least_is_free}
 use Rattle.app_laws.proofs.Names.{names_apart, names_differ, turned_bytes}

@@ -19,7 +19,7 @@ use Rattle.comp_tree.specs.Edits.{app_class, app_component, first_components}
 use Rattle.comp_tree.specs.Whole.{Each, IsApp, IsOther, Whole}
 use Rattle.comp_tree.proofs.MapLemmas.{get_beside, get_put}
 use Rattle.comp_tree.proofs.ShapeLemmas.{in_from, once_to}
-use Rattle.comp_tree.proofs.SumLemmas.{total, total_more}
+use Rattle.sed_value.proofs.Maps.{total, total_more}
 use Rattle.app_laws.proofs.Names.{names_differ}
 use Rattle.app_laws.proofs.Nodes.{siblings_to}
 use Rattle.app_laws.proofs.RootCalls.{app_creatable}

@@ -11,7 +11,7 @@ use Rattle.sed_engine.specs.Code.{Meaning, Object, is_creatable, may_store, new_
 use Rattle.sed_engine.specs.Fits.{Fits}
 use Rattle.sed_engine.specs.Whole.{IsObject, IsWhole}
 use Rattle.comp_tree.specs.Application.{Application, ById, Component, children_of, object_of}
-use Rattle.comp_tree.specs.Mapped.{on_values}
+use Rattle.sed_value.specs.Mapped.{on_values}
 use Rattle.comp_tree.specs.Parts.{Kept, config_slots, kept_by_id, kept_component, kept_contents, values_in, with_slots}
 use Rattle.comp_tree.specs.Whole.{Whole}
 use Rattle.app_file.specs.Reading.{IsFile}

@@ -14,7 +14,7 @@ use Rattle.sed_engine.specs.Code.{Meaning, property_type, slot_form}
 use Rattle.sed_engine.specs.Fits.{Fits}
 use Rattle.link_table.specs.Link.{Link}
 use Rattle.comp_tree.specs.Application.{Application, ById, Component, children_of, data_size_of, is_live, most_children, most_components, name_of, parent_of, type_at}
-use Rattle.comp_tree.specs.Mapped.{on_values}
+use Rattle.sed_value.specs.Mapped.{on_values}
 use Rattle.comp_tree.specs.Order.{depth_first}
 use Rattle.comp_tree.specs.Parts.{Kept, kept_by_id, kept_component, kept_contents}
 use Rattle.comp_tree.specs.Whole.{Each, IsApp, IsLink, IsOther, Whole}

@@ -20,7 +20,7 @@ use Rattle.comp_tree.specs.Whole.{Each, IsLink, IsOther, Whole}
 use Rattle.comp_tree.proofs.MapLemmas.{get_beside, get_put}
 use Rattle.comp_tree.proofs.ShapeLemmas.{In, in_to, once_from}
 use Rattle.comp_tree.proofs.ShapeSteps.{Reordered, reordered, tree_reordered}
-use Rattle.comp_tree.proofs.SumLemmas.{total_over}
+use Rattle.sed_value.proofs.Maps.{total_over}
 use Rattle.app_laws.proofs.Names.{names_apart, names_differ, names_once, turned_bytes}
 use Rattle.app_laws.proofs.PutComponents.{app_put, each_put, same_put, was_put}
 use Rattle.app_laws.proofs.Refused.{AllFalse, all_false, not_false}

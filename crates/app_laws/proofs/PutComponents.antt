@@ -16,7 +16,7 @@ use Rattle.comp_tree.specs.Order.{depth_first}
 use Rattle.comp_tree.specs.Whole.{Each, IsApp, IsLink, IsOther, Whole}
 use Rattle.comp_tree.proofs.MapLemmas.{get_beside, get_put}
 use Rattle.comp_tree.proofs.SubtreeLemmas.{down_is}
-use Rattle.comp_tree.proofs.SumLemmas.{total_over}
+use Rattle.sed_value.proofs.Maps.{total_over}
 
 -- what is said of each component, of the one that stands there
 pub here : (P : Component → Type 0) (r : Option Component) (c : Component) → r ≡ Some c → IfSome r P → P c

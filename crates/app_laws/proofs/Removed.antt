@@ -32,7 +32,7 @@ use Rattle.comp_tree.proofs.MapLemmas.{get_beside, get_put, kept_beside, taken_o
 use Rattle.comp_tree.proofs.ShapeLemmas.{In, in_child, in_from, once_from}
 use Rattle.comp_tree.proofs.ShapeSteps.{at_stays, parent_live, tree_less}
 use Rattle.comp_tree.proofs.SubtreeLemmas.{decide_in, down_is, get_gone, get_stays, without_more, without_none}
-use Rattle.comp_tree.proofs.SumLemmas.{total, total_less, total_over}
+use Rattle.sed_value.proofs.Maps.{total, total_less, total_over}
 use Rattle.link_prop.proofs.AlikeComponents.{class_at, link_with_classes}
 use Rattle.app_laws.proofs.Names.{names_apart, names_differ}
 use Rattle.app_laws.proofs.Nodes.{siblings_from, siblings_to}

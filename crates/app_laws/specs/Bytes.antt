@@ -1,7 +1,8 @@
 -- Commands as they come in a message: the values that they give are bytes.
 use Rattle.std.specs.Prelude.{IsTrue}
 use Rattle.sed_value.specs.Value.{are_bytes}
-use Rattle.comp_tree.specs.Edit.{Add, Clear, Command, Connect, Delete, Disconnect, Invoke, ReadPart, ReadSlot, Rename, Reorder, Subscribe, Unsubscribe, Version, Write}
+use Rattle.comp_tree.specs.Edit.{Add, Clear, Command, Connect, Delete, Disconnect, Invoke, ReadPart, ReadSlot, Rename}
+use Rattle.comp_tree.specs.Edit.{Reorder, Subscribe, Unsubscribe, Version, Write}
 
 -- what an add and a write give is told byte by byte; no other command gives values that are stored
 abbrev pub GivesBytes : Command → Type 0

@@ -12,10 +12,11 @@ use link_table::laws::{
 };
 use sed_engine::what_is_kept_fits;
 
-/// A command that is not refused leaves a whole application, where the code and the application are whole and the values that
-/// the command gives are bytes; with any number of turns and at any moment.
+/// A command that is not refused leaves a whole application, where the code and the application are whole and the
+/// values that the command gives are bytes; with any number of turns and at any moment.
 pub fn an_edit_keeps_whole()
-    ensures { (m : Meaning) (a : Application) (command : Command) (turns : ℕ) (moment : ℤ) (e : Edited) → IsWhole m → Whole m a → GivesBytes command
+    ensures { (m : Meaning) (a : Application) (command : Command) (turns : ℕ) (moment : ℤ) (e : Edited)
+        → IsWhole m → Whole m a → GivesBytes command
         → Edit m a command turns moment ≡ Ok e → Whole m e.application }
 {
     what_is_kept_fits();

@@ -1,8 +1,8 @@
 //! Laws of applications: what keeps an application whole, and what a file keeps of one.
 //!
 //! `Whole` says what holds of every application. A law here says that something keeps it, under a whole code: it is the
-//! contract of a function that does nothing. Whoever opens a whole application and then edits and runs it has whole ones
-//! ever after, and the text of each is a file of what is kept of it.
+//! contract of a function that does nothing. Whoever opens a whole application and then edits and runs it has whole
+//! ones ever after, and the text of each is a file of what is kept of it.
 #![tactic(auto)]
 
 mod cycles;

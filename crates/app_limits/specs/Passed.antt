@@ -2,7 +2,8 @@
 use Rattle.std.specs.Prelude.{ℕ, Bool, nat_le, nat_lt, List, [], ◌∷◌, length}
 use Rattle.std.specs.List.{list_any}
 use Rattle.sed_typed.specs.Classes.{reached}
-use Rattle.comp_tree.specs.Application.{Link, greatest_depth, most_children, most_components, most_links, most_links_at_component}
+use Rattle.comp_tree.specs.Application.{Link, greatest_depth, most_children, most_components, most_links}
+use Rattle.comp_tree.specs.Application.{most_links_at_component}
 use Rattle.comp_tree.specs.Order.{most_levels}
 use Rattle.comp_tree.specs.Parts.{links_at}
 use Rattle.row_tree.specs.Rows.{parent_in}

@@ -11,10 +11,11 @@ ghost use Rattle.app_told.specs.FormedFile.{tree_rows};
 ghost use Rattle.app_told.specs.Tells.{rows_told};
 ghost use Rattle.app_limits.specs.Passed.{passed_by};
 
-/// The limits that rows and links pass, with the lists of the rows' children, are the first five that the application passes
-/// that they tell of; the last is that of the data.
+/// The limits that rows and links pass, with the lists of the rows' children, are the first five that the application
+/// passes that they tell of; the last is that of the data.
 pub fn limits_of_rows_are_those_told()
-    ensures { (m : Meaning) (f : FileRows) (lists : List (List ℕ)) (limit : ℕ) → Ascend (tree_rows f.rows) → length lists ≡ length f.rows
+    ensures { (m : Meaning) (f : FileRows) (lists : List (List ℕ)) (limit : ℕ)
+        → Ascend (tree_rows f.rows) → length lists ≡ length f.rows
         → limits_passed m (told_application m (children_in (tree_rows f.rows) lists) (rows_told f) f.links limit)
         ≡ passed_by (tree_rows f.rows) lists f.links
         ++ (nat_lt limit (data_size_of m (told_by m (children_in (tree_rows f.rows) lists) (rows_told f))), 6) ∷ [] }

@@ -13,9 +13,9 @@ use link_table::LinkRec;
 use row_tree::TreeRow;
 use sed_value::Items;
 
-/// The number of the first limit that rows, the lists of their children and links pass: 1 an id of 4,096 or more, 2 more
-/// than 8,192 links, 3 a row that stands more than 16 levels below the App's, 4 more than 200 children of one row, 5 more
-/// than 60 links at one. The ids of the rows ascend.
+/// The number of the first limit that rows, the lists of their children and links pass: 1 an id of 4,096 or more, 2
+/// more than 8,192 links, 3 a row that stands more than 16 levels below the App's, 4 more than 200 children of one row,
+/// 5 more than 60 links at one. The ids of the rows ascend.
 pub fn limit_passed(rows: &[TreeRow], lists: &[Items<usize>], links: &[LinkRec]) -> Option<u8>
     requires { Ascend rows.now }
     ensures { result ≡ first_passed (passed_by rows.now lists.now links.now) }

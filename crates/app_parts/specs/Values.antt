@@ -23,8 +23,11 @@ values_bytes m all id class which = spelling_of_all (map (value_at m all id) (sl
 -- of the one slot with a number: nothing where it is not told
 abbrev pub slot_bytes : Meaning → ById → ℕ → ℕ → Values → ℕ → List ℕ
 slot_bytes m all id class which slot =
-    option_map_or (λ (s : SlotInfo). if is_told which s then spelling_of (value_at m all id slot) else []) (slice_get (slots m.schema.classes class) slot) []
+    option_map_or (λ (s : SlotInfo). if is_told which s then spelling_of (value_at m all id slot)
+    else []) (slice_get (slots m.schema.classes class) slot) []
 
 -- and how many bytes that may be
 abbrev pub slot_size : Meaning → ℕ → Values → ℕ → ℕ
-slot_size m class which slot = option_map_or (λ (s : SlotInfo). if is_told which s then value_size s.form else 0) (slice_get (slots m.schema.classes class) slot) 0
+slot_size m class which slot =
+    option_map_or (λ (s : SlotInfo). if is_told which s then value_size s.form
+    else 0) (slice_get (slots m.schema.classes class) slot) 0

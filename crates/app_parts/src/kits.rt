@@ -15,8 +15,8 @@ use sed_wire::Writer;
 /// How many bytes the kits of a schema have at most.
 pub const LONGEST_SCHEMA: usize = 465;
 
-/// Puts the kits of a schema in front of `into`: how many there are, at most 16, and the name and the checksum of each. It
-/// says how many bytes these are; what stood behind them stays.
+/// Puts the kits of a schema in front of `into`: how many there are, at most 16, and the name and the checksum of each.
+/// It says how many bytes these are; what stood behind them stays.
 pub fn write_schema(schema: &Schema, into: &mut [u8; 465]) -> usize
     requires { length schema.now.kits ≤ most_kits }
     ensures kits { Puts (kits_bytes schema.now.kits) result into.old into.new }

@@ -26,7 +26,8 @@ pub const LONGEST_PART: usize = 438;
 /// any component of the code's schema may have; what stood behind it stays. The letters are `t`, `c`, `r`, `l` and `f`.
 /// For any other letter, and of an id that is not live, there is nothing to put.
 pub fn write_part<E: Engine>(app: &App<E>, id: Id, part: u8, into: &mut [u8; 438]) -> usize
-    ensures bytes { Puts (part_bytes (E.meaning app.now.tree.engine) (application_of E.Engine app.now) id.0 part) result into.old into.new }
+    ensures bytes { Puts (part_bytes (E.meaning app.now.tree.engine) (application_of E.Engine app.now) id.0 part)
+        result into.old into.new }
     ensures short { result ≤ longest_part (E.meaning app.now.tree.engine).schema part }
 {
     let mut writer = Writer::new(into);
@@ -37,8 +38,10 @@ pub fn write_part<E: Engine>(app: &App<E>, id: Id, part: u8, into: &mut [u8; 438
 // Puts the part of a component that a letter names.
 fn put_part<E: Engine>(writer: &mut Writer, app: &App<E>, id: Id, part: u8)
     requires { 438 ≤ room writer.old }
-    ensures bytes { Appends writer.old writer.new (part_bytes (E.meaning app.now.tree.engine) (application_of E.Engine app.now) id.0 part) }
-    ensures short { length (part_bytes (E.meaning app.now.tree.engine) (application_of E.Engine app.now) id.0 part) ≤ longest_part (E.meaning app.now.tree.engine).schema part }
+    ensures bytes { Appends writer.old writer.new
+        (part_bytes (E.meaning app.now.tree.engine) (application_of E.Engine app.now) id.0 part) }
+    ensures short { length (part_bytes (E.meaning app.now.tree.engine) (application_of E.Engine app.now) id.0 part)
+        ≤ longest_part (E.meaning app.now.tree.engine).schema part }
 {
     if let Some(entry) = app.tree().find(id) {
         put_part_told(writer, app, id, &entry, part);
@@ -47,11 +50,14 @@ fn put_part<E: Engine>(writer: &mut Writer, app: &App<E>, id: Id, part: u8)
 
 // Puts the part of a component of which this is told.
 fn put_part_told<E: Engine>(writer: &mut Writer, app: &App<E>, id: Id, entry: &Entry, part: u8)
-    requires told { IsSomeAnd (map.get (components_of E.Engine app.now.tree).by_id id.0) (IsEntry (E.live app.now.tree.engine) entry.now) }
+    requires told { IsSomeAnd (map.get (components_of E.Engine app.now.tree).by_id id.0)
+        (IsEntry (E.live app.now.tree.engine) entry.now) }
     requires few { entry.now.children ≤ most_children }
     requires room { 438 ≤ room writer.old }
-    ensures bytes { Appends writer.old writer.new (part_bytes (E.meaning app.now.tree.engine) (application_of E.Engine app.now) id.0 part) }
-    ensures short { length (part_bytes (E.meaning app.now.tree.engine) (application_of E.Engine app.now) id.0 part) ≤ longest_part (E.meaning app.now.tree.engine).schema part }
+    ensures bytes { Appends writer.old writer.new
+        (part_bytes (E.meaning app.now.tree.engine) (application_of E.Engine app.now) id.0 part) }
+    ensures short { length (part_bytes (E.meaning app.now.tree.engine) (application_of E.Engine app.now) id.0 part)
+        ≤ longest_part (E.meaning app.now.tree.engine).schema part }
 {
     match part {
         b't' => put_tree_part(writer, app.tree(), id, entry),

@@ -33,9 +33,12 @@ pub fn put_values<E: Engine>(
 )
     requires class { IsSomeAnd (map.get (components_of E.Engine tree.now).by_id id.0) (λ c. c.class ≡ kind.0) }
     requires room { 400 ≤ room writer.old }
-    ensures bytes { Appends writer.old writer.new (values_bytes (E.meaning tree.now.engine) (components_of E.Engine tree.now).by_id id.0 kind.0 which) }
-    ensures short { length (values_bytes (E.meaning tree.now.engine) (components_of E.Engine tree.now).by_id id.0 kind.0 which) ≤ 400 }
-    ensures sized { length (values_bytes (E.meaning tree.now.engine) (components_of E.Engine tree.now).by_id id.0 kind.0 which) ≤ longest_values which (E.meaning tree.now.engine).schema.classes }
+    ensures bytes { Appends writer.old writer.new
+        (values_bytes (E.meaning tree.now.engine) (components_of E.Engine tree.now).by_id id.0 kind.0 which) }
+    ensures short { length (values_bytes (E.meaning tree.now.engine)
+        (components_of E.Engine tree.now).by_id id.0 kind.0 which) ≤ 400 }
+    ensures sized { length (values_bytes (E.meaning tree.now.engine) (components_of E.Engine tree.now).by_id
+        id.0 kind.0 which) ≤ longest_values which (E.meaning tree.now.engine).schema.classes }
 {
     for slot in 0..tree.schema().slot_count(kind) {
         put_slot(writer, tree, id, kind, which, slot);
@@ -54,8 +57,10 @@ fn put_slot<E: Engine>(
     requires class { IsSomeAnd (map.get (components_of E.Engine tree.now).by_id id.0) (λ c. c.class ≡ kind.0) }
     requires there { slot < length (slots (E.meaning tree.now.engine).schema.classes kind.0) }
     requires room { slot_size (E.meaning tree.now.engine) kind.0 which slot ≤ room writer.old }
-    ensures bytes { Appends writer.old writer.new (slot_bytes (E.meaning tree.now.engine) (components_of E.Engine tree.now).by_id id.0 kind.0 which slot) }
-    ensures short { length (slot_bytes (E.meaning tree.now.engine) (components_of E.Engine tree.now).by_id id.0 kind.0 which slot) ≤ slot_size (E.meaning tree.now.engine) kind.0 which slot }
+    ensures bytes { Appends writer.old writer.new
+        (slot_bytes (E.meaning tree.now.engine) (components_of E.Engine tree.now).by_id id.0 kind.0 which slot) }
+    ensures short { length (slot_bytes (E.meaning tree.now.engine) (components_of E.Engine tree.now).by_id
+        id.0 kind.0 which slot) ≤ slot_size (E.meaning tree.now.engine) kind.0 which slot }
 {
     if !is_told_slot(tree.schema(), kind, which, slot) {
         return;

@@ -31,8 +31,8 @@ tree_with statics limit all = record { by_id = all; statics = statics; limit = l
 abbrev pub application_told : Meaning → ℕ → FormedRows → Application
 application_told m limit rows = told_application m (children_told rows) (rows_told rows.file) rows.file.links limit
 
--- rows and links hold together, and pass no limit but that of the data, which shows where components are made; so they tell an
--- application that is formed
+-- rows and links hold together, and pass no limit but that of the data, which shows where components are made; so they
+-- tell an application that is formed
 pub record AreReady (m : Meaning) (rows : FormedRows) : Type 0 where
   pub told : All (IsToldRow m) rows.file.rows
   pub formed : IsFormedFile m rows.file (children_told rows)

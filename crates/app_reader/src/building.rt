@@ -23,12 +23,15 @@ pub(crate) fn tree_built<E: Engine>(
 ) -> Result<Tree<E>, AddRefusal>
     requires no_objects { E.live engine ≡ map.empty }
     requires ready { AreReady (E.meaning engine) rows.now }
-    ensures built { IfOk result (λ t. components_of E.Engine t ≡ tree_with (E.statics engine) (E.limit engine) (components_told (E.meaning engine) rows.now)) }
+    ensures built { IfOk result (λ t. components_of E.Engine t
+        ≡ tree_with (E.statics engine) (E.limit engine) (components_told (E.meaning engine) rows.now)) }
     ensures meaning { IfOk result (λ t. E.meaning t.engine ≡ E.meaning engine) }
     ensures steady { IfOk result (λ t. E.fixed t.engine ≡ E.fixed engine) }
     ensures marks { IfOk result (λ t. (id at : ℕ) → marks_at t id at ≡ all_parts) }
-    ensures full { result ≡ Err AddRefusal.DataFull → E.limit engine < data_size_of (E.meaning engine) (components_told (E.meaning engine) rows.now) }
-    ensures fits { OnOk result (data_size_of (E.meaning engine) (components_told (E.meaning engine) rows.now) ≤ E.limit engine) }
+    ensures full { result ≡ Err AddRefusal.DataFull
+        → E.limit engine < data_size_of (E.meaning engine) (components_told (E.meaning engine) rows.now) }
+    ensures fits { OnOk result (data_size_of (E.meaning engine) (components_told (E.meaning engine) rows.now)
+        ≤ E.limit engine) }
 {
     let _whole = engine.schema();
     what_passes_no_limit_is_whole();

@@ -18,10 +18,10 @@ use std::alloc::Global;
 /// The application that bytes are a text of, over an engine without live places whose statics are as they begin: its
 /// data limit is the engine's, 1 to 4,194,304 bytes.
 ///
-/// `NotAnApp` comes where the bytes up to the end of the kits are no front of a file, or the kits are the code's and the
-/// rest is no file; `WrongKits` where they begin with a front of other kits, with the first place at which the two lists
-/// differ; `OverLimit` where they are a file whose application passes a limit, with the first. `Memory` may come in the
-/// place of any answer.
+/// `NotAnApp` comes where the bytes up to the end of the kits are no front of a file, or the kits are the code's and
+/// the rest is no file; `WrongKits` where they begin with a front of other kits, with the first place at which the two
+/// lists differ; `OverLimit` where they are a file whose application passes a limit, with the first. `Memory` may come
+/// in the place of any answer.
 pub fn read_app<E: Engine>(alloc: Global, bytes: &[u8], engine: E) -> Result<App<E>, AppRefusal>
     requires no_objects { E.live engine ≡ map.empty }
     requires statics { E.statics engine ≡ (E.meaning engine).initial_statics }

@@ -34,8 +34,10 @@ pub(crate) fn ready_rows<E: Engine>(
     bytes: &[u8],
 ) -> Result<FormedRows, AppRefusal>
     ensures ready { IfOk result (AreReady (E.meaning engine.now)) }
-    ensures stands { IfOk result (λ rows. (limit : ℕ) → StandsFor (E.meaning engine.now) limit bytes.now (application_told (E.meaning engine.now) limit rows)) }
-    ensures refused { IfErr result (λ refusal. (limit : ℕ) → IsRefusedFor (E.meaning engine.now) limit bytes.now refusal) }
+    ensures stands { IfOk result (λ rows. (limit : ℕ)
+        → StandsFor (E.meaning engine.now) limit bytes.now (application_told (E.meaning engine.now) limit rows)) }
+    ensures refused { IfErr result (λ refusal. (limit : ℕ)
+        → IsRefusedFor (E.meaning engine.now) limit bytes.now refusal) }
 {
     let _whole = engine.schema();
     files_that_tell_are_formed();
@@ -64,8 +66,10 @@ pub(crate) fn ready_rows<E: Engine>(
 // The rows and links that bytes are; they tell each application that the bytes stand for.
 fn file_rows<E: Engine>(alloc: Global, engine: &E, bytes: &[u8]) -> Result<FileRows, AppRefusal>
     ensures rows { IfOk result (λ file. AreRows (E.meaning engine.now) bytes.now file) }
-    ensures only { IfOk result (λ file. (limit : ℕ) (a : Application) → StandsFor (E.meaning engine.now) limit bytes.now a → Tells (E.meaning engine.now) limit file a) }
-    ensures refused { IfErr result (λ refusal. (limit : ℕ) → IsRefusedFor (E.meaning engine.now) limit bytes.now refusal) }
+    ensures only { IfOk result (λ file. (limit : ℕ) (a : Application)
+        → StandsFor (E.meaning engine.now) limit bytes.now a → Tells (E.meaning engine.now) limit file a) }
+    ensures refused { IfErr result (λ refusal. (limit : ℕ)
+        → IsRefusedFor (E.meaning engine.now) limit bytes.now refusal) }
 {
     let schema = engine.schema();
     schema_can_be_told(schema);

@@ -30,9 +30,10 @@ pub record OpensToEntry (S : ℕ) (opened : List ℕ) (saves : Saves) (m : ℕ) 
   pub opens : Opens S image payload
   pub is_entry : IsEntrySince opened saves m payload
 
--- From the start on these saves began. Each acknowledged one made one mark, and at each moment a crash leaves only images
--- that open to an entry, none before the last one acknowledged by then.
+-- From the start on these saves began. Each acknowledged one made one mark, and at each moment a crash leaves only
+-- images that open to an entry, none before the last one acknowledged by then.
 pub record IsRun (S : ℕ) (opened : List ℕ) (saves : Saves) (start now : Meaning) : Type 0 where
   pub later : start.now ≤ now.now
   pub made : now.marks now.now ≡ start.marks start.now + acknowledged saves
-  pub each : (u : ℕ) (c : Image) → start.now ≤ u → u ≤ now.now → now.leaves u c → OpensToEntry S opened saves (now.marks u - start.marks start.now) c
+  pub each : (u : ℕ) (c : Image) → start.now ≤ u → u ≤ now.now → now.leaves u c
+      → OpensToEntry S opened saves (now.marks u - start.marks start.now) c

@@ -19,12 +19,14 @@ pub record OpensAsBegun (S : ℕ) (payload : List ℕ) (start : Meaning) (image 
 
 -- At each moment behind a sync of this call that answered Ok, a crash leaves only images that have P.
 abbrev pub SinceSync : Meaning → Meaning → (Image → Type 0) → Type 0
-SinceSync old new P = (u : ℕ) (c : Image) → old.now ≤ u → u ≤ new.now → old.syncs old.now < new.syncs u → new.leaves u c → P c
+SinceSync old new P = (u : ℕ) (c : Image) → old.now ≤ u → u ≤ new.now
+    → old.syncs old.now < new.syncs u → new.leaves u c → P c
 
 -- A page is 512 bytes of the payload from a multiple of 512 on; the last one is cut at the payload's length. Page q of
 -- the payload stands in this image, whose payload begins there.
 abbrev pub HasPage : ℕ → List ℕ → Image → ℕ → Type 0
-HasPage begins payload image q = (i : ℕ) → 512 * q ≤ i → i < 512 * q + 512 → i < length payload → slice_index image (begins + i) ≡ slice_index payload i
+HasPage begins payload image q = (i : ℕ) → 512 * q ≤ i → i < 512 * q + 512
+    → i < length payload → slice_index image (begins + i) ≡ slice_index payload i
 
 -- Each page of the payload that stood in the file stands in the image.
 abbrev pub KeepsPages : ℕ → List ℕ → Image → Image → Type 0
@@ -32,4 +34,5 @@ KeepsPages begins payload file image = (q : ℕ) → HasPage begins payload file
 
 -- So they do in the slot that a save of this file writes, the one that isn't newest.
 abbrev pub KeepsEqualPages : ℕ → List ℕ → Image → Image → Type 0
-KeepsEqualPages S payload file image = (slot other : ℕ) → AreSlots S slot other → IsNewest file slot other → KeepsPages (other + 6) payload file image
+KeepsEqualPages S payload file image = (slot other : ℕ) → AreSlots S slot other
+    → IsNewest file slot other → KeepsPages (other + 6) payload file image

@@ -56,8 +56,8 @@ pub record Lands {T E : Type 0} (at : ℕ) (bytes : List ℕ) (result : Result T
   pub holds : OnOk result (Holds at bytes new.content)
   pub rests : OnOk result (Rests new)
 
--- Nothing is written. At each moment behind the first sync that answers Ok a crash leaves what a read gave at the start,
--- and so it does after Ok, where a read gives the same.
+-- Nothing is written. At each moment behind the first sync that answers Ok a crash leaves what a read gave at the
+-- start, and so it does after Ok, where a read gives the same.
 pub record Settled {T E : Type 0} (result : Result T E) (old new : Meaning) : Type 0 where
   pub during : During old new (old.leaves old.now)
   pub since : IsTrue old.tells_syncs → SinceSync old new (λ c. c ≡ old.content)

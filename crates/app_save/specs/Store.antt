@@ -8,7 +8,8 @@ IsOpen image slot = slice_index image slot ≡ 0xa5
 
 -- Four bytes of length, the highest first, and one of generation.
 abbrev pub length_at : Image → ℕ → ℕ
-length_at image slot = 16777216 * slice_index image (slot + 1) + 65536 * slice_index image (slot + 2) + 256 * slice_index image (slot + 3) + slice_index image (slot + 4)
+length_at image slot = 16777216 * slice_index image (slot + 1) + 65536
+    * slice_index image (slot + 2) + 256 * slice_index image (slot + 3) + slice_index image (slot + 4)
 
 abbrev pub generation_at : Image → ℕ → ℕ
 generation_at image slot = slice_index image (slot + 5)

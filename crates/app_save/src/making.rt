@@ -1,5 +1,6 @@
 //! Making a store.
-ghost use Rattle.std.specs.Prelude.{◌≡◌, ◌≢◌, ◌⊎◌, ◌+◌, ◌*◌, ◌<◌, ◌≤◌, ◌↔◌, [], false, length, IsTrue, IsErr, IsErrOf, IsOk, IfOk, OnOk, OnErr};
+ghost use Rattle.std.specs.Prelude.{◌≡◌, ◌≢◌, ◌⊎◌, ◌+◌, ◌*◌, ◌<◌, ◌≤◌, ◌↔◌, [], false, length, IsTrue, IsErr, IsErrOf};
+ghost use Rattle.std.specs.Prelude.{IsOk, IfOk, OnOk, OnErr};
 ghost use Rattle.sed_outside.specs.Cause.{Rose, HasCause};
 ghost use Rattle.disk_model.specs.Disk.{Elapses, During, MarksUp, Keeps};
 ghost use Rattle.app_save.specs.Saving.{AllOpen};
@@ -18,7 +19,8 @@ fn write_zeros<D: Disk>(disk: &mut D, len: u32) -> Result<(), DiskFault>
     requires small { len ≤ 8388620 }
     requires empty { IsTrue (D.meaning disk.old).tells → length (D.meaning disk.old).content ≡ 0 }
     ensures blank { IsTrue (D.meaning disk.old).tells → OnOk result (IsBlank len (D.meaning disk.new).content) }
-    ensures bound { IsTrue (D.meaning disk.old).tells → NoneLonger len (D.meaning disk.old) → During (D.meaning disk.old) (D.meaning disk.new) (λ c. length c ≤ len) }
+    ensures bound { IsTrue (D.meaning disk.old).tells → NoneLonger len (D.meaning disk.old)
+        → During (D.meaning disk.old) (D.meaning disk.new) (λ c. length c ≤ len) }
     ensures time { Elapses (D.meaning disk.old) (D.meaning disk.new) }
     ensures marks { MarksUp (D.meaning disk.old) (D.meaning disk.new) 0 }
     ensures attached { (D.meaning disk.new).attached ≡ (D.meaning disk.old).attached }
@@ -39,8 +41,10 @@ fn write_store<D: Disk>(disk: &mut D, slot: u32, payload: &[u8]) -> Result<(), D
     requires small { slot ≤ 4194304 }
     requires fits { length payload.now ≤ slot }
     requires empty { IsTrue (D.meaning disk.old).tells → length (D.meaning disk.old).content ≡ 0 }
-    ensures saved { IsTrue (D.meaning disk.old).tells → OnOk result (IsSaved slot (slot + 6) 0 payload.now (D.meaning disk.new)) }
-    ensures bound { IsTrue (D.meaning disk.old).tells → NoneLonger (2 * (slot + 6)) (D.meaning disk.old) → During (D.meaning disk.old) (D.meaning disk.new) (λ c. length c ≤ 2 * (slot + 6)) }
+    ensures saved { IsTrue (D.meaning disk.old).tells
+        → OnOk result (IsSaved slot (slot + 6) 0 payload.now (D.meaning disk.new)) }
+    ensures bound { IsTrue (D.meaning disk.old).tells → NoneLonger (2 * (slot + 6)) (D.meaning disk.old)
+        → During (D.meaning disk.old) (D.meaning disk.new) (λ c. length c ≤ 2 * (slot + 6)) }
     ensures time { Elapses (D.meaning disk.old) (D.meaning disk.new) }
     ensures marks { MarksUp (D.meaning disk.old) (D.meaning disk.new) 0 }
     ensures unmarked { OnOk result ((D.meaning disk.new).is_marked ≡ false) }
@@ -54,9 +58,9 @@ fn write_store<D: Disk>(disk: &mut D, slot: u32, payload: &[u8]) -> Result<(), D
     write_through(disk, 0, &[OPEN])
 }
 
-/// Makes a store with slots of that size, in bytes, in an empty file, and saves the payload in it as the first. It takes
-/// no memory. Where the payload is longer than a slot nothing is asked of the disk, and where the file isn't empty
-/// nothing is written.
+/// Makes a store with slots of that size, in bytes, in an empty file, and saves the payload in it as the first. It
+/// takes no memory. Where the payload is longer than a slot nothing is asked of the disk, and where the file isn't
+/// empty nothing is written.
 ///
 /// After Ok every crash leaves a store that opens to the payload, until the next save, and one mark was made. After
 /// `Device` the file may be neither empty nor a store.
@@ -67,24 +71,31 @@ pub fn make<D: Disk>(disk: &mut D, slot: u32, payload: &[u8]) -> Result<Store, S
 
     // a crash at any moment of the call, and after it
     ensures made { IsTrue (D.meaning disk.old).tells → OnOk result (AllOpen slot payload.now (D.meaning disk.new)) }
-    ensures bound { IsTrue (D.meaning disk.old).tells → NoneLonger 0 (D.meaning disk.old) → During (D.meaning disk.old) (D.meaning disk.new) (λ c. length c ≤ 2 * (slot + 6)) }
+    ensures bound { IsTrue (D.meaning disk.old).tells → NoneLonger 0 (D.meaning disk.old)
+        → During (D.meaning disk.old) (D.meaning disk.new) (λ c. length c ≤ 2 * (slot + 6)) }
     ensures time { Elapses (D.meaning disk.old) (D.meaning disk.new) }
 
     // marks, and a run of saves that begins here
     ensures mark { OnOk result (MarksUp (D.meaning disk.old) (D.meaning disk.new) 1) }
     ensures no_mark { OnErr result (MarksUp (D.meaning disk.old) (D.meaning disk.new) 0) }
-    ensures run { IsTrue (D.meaning disk.old).tells → OnOk result (IsRun slot payload.now [] (D.meaning disk.new) (D.meaning disk.new)) }
+    ensures run { IsTrue (D.meaning disk.old).tells
+        → OnOk result (IsRun slot payload.now [] (D.meaning disk.new) (D.meaning disk.new)) }
     ensures attached { (D.meaning disk.new).attached ≡ (D.meaning disk.old).attached }
 
     // its answers
     ensures full { IsErrOf result SaveRefusal.Full ↔ (slot < length payload.now) }
     ensures untouched { IsErrOf result SaveRefusal.Full → disk.new ≡ disk.old }
     ensures empty { IsTrue (D.meaning disk.old).tells → OnOk result (length (D.meaning disk.old).content ≡ 0) }
-    ensures not_empty { IsTrue (D.meaning disk.old).tells → IsErrOf result SaveRefusal.NotEmpty → length (D.meaning disk.old).content ≢ 0 }
-    ensures kept { IsTrue (D.meaning disk.old).tells → length (D.meaning disk.old).content ≢ 0 → Keeps (D.meaning disk.old) (D.meaning disk.new) }
-    ensures cause { HasCause (D.meaning disk.old).faults (D.meaning disk.new).faults (IsErrOf result SaveRefusal.Device) }
-    ensures answers { IsErr result → IsErrOf result SaveRefusal.Full ⊎ IsErrOf result SaveRefusal.NotEmpty ⊎ IsErrOf result SaveRefusal.Device }
-    ensures comes { IsTrue (D.meaning disk.old).tells → length (D.meaning disk.old).content ≡ 0 → length payload.now ≤ slot → (Rose (D.meaning disk.old).faults (D.meaning disk.new).faults → ⊥) → IsOk result }
+    ensures not_empty { IsTrue (D.meaning disk.old).tells → IsErrOf result SaveRefusal.NotEmpty
+        → length (D.meaning disk.old).content ≢ 0 }
+    ensures kept { IsTrue (D.meaning disk.old).tells → length (D.meaning disk.old).content ≢ 0
+        → Keeps (D.meaning disk.old) (D.meaning disk.new) }
+    ensures cause { HasCause (D.meaning disk.old).faults (D.meaning disk.new).faults
+        (IsErrOf result SaveRefusal.Device) }
+    ensures answers { IsErr result → IsErrOf result SaveRefusal.Full
+        ⊎ IsErrOf result SaveRefusal.NotEmpty ⊎ IsErrOf result SaveRefusal.Device }
+    ensures comes { IsTrue (D.meaning disk.old).tells → length (D.meaning disk.old).content ≡ 0
+        → length payload.now ≤ slot → (Rose (D.meaning disk.old).faults (D.meaning disk.new).faults → ⊥) → IsOk result }
 {
     if payload.len() > slot as usize {
         return Err(SaveRefusal::Full);

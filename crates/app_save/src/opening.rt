@@ -1,5 +1,6 @@
 //! Opening a store.
-ghost use Rattle.std.specs.Prelude.{◌≡◌, ◌⊎◌, ◌+◌, ◌*◌, ◌<◌, ◌≤◌, ◌↔◌, [], ℕ, true, length, IsTrue, IsErr, IsErrOf, IfOk, IfSome, IfNone, OnErr, replicate, vec_len};
+ghost use Rattle.std.specs.Prelude.{◌≡◌, ◌⊎◌, ◌+◌, ◌*◌, ◌<◌, ◌≤◌, ◌↔◌, [], ℕ, true, length, IsTrue, IsErr, IsErrOf};
+ghost use Rattle.std.specs.Prelude.{IfOk, IfSome, IfNone, OnErr, replicate, vec_len};
 ghost use Rattle.sed_outside.specs.Cause.{HasCause};
 ghost use Rattle.disk_model.specs.Disk.{Image, Elapses, During, MarksUp};
 ghost use Rattle.app_save.specs.Store.{IsStore, Opens};
@@ -53,9 +54,11 @@ fn second_slot_found(slot: u32, header: &Header) -> Found
 // The newest slot, where headers like these are those of a whole store.
 fn found_in(slot: u32, first: &Header, second: &Header) -> Option<Found>
     requires { slot ≤ 4194304 }
-    ensures found { IfSome result (λ found. (image : Image) → length image ≡ 2 * (slot + 6) → IsHeader image 0 first.now → IsHeader image (slot + 6) second.now → IsFound image found) }
+    ensures found { IfSome result (λ found. (image : Image) → length image ≡ 2 * (slot + 6)
+        → IsHeader image 0 first.now → IsHeader image (slot + 6) second.now → IsFound image found) }
     ensures bounds { IfSome result (λ found. (found.slot ≡ slot) × (found.len ≤ slot) × (found.begins ≤ slot + 6)) }
-    ensures none { IfNone result ((image : Image) → IsHeader image 0 first.now → IsHeader image (slot + 6) second.now → IsStore slot image → ⊥) }
+    ensures none { IfNone result ((image : Image) → IsHeader image 0 first.now
+        → IsHeader image (slot + 6) second.now → IsStore slot image → ⊥) }
 {
     if !is_sound(slot, first) {
         return None;
@@ -78,9 +81,12 @@ fn found_in(slot: u32, first: &Header, second: &Header) -> Option<Found>
 // Syncs, and finds the newest slot.
 fn find<D: Disk>(disk: &mut D) -> Result<Option<Found>, DiskFault>
     ensures settled { IsTrue (D.meaning disk.old).tells → Settled result (D.meaning disk.old) (D.meaning disk.new) }
-    ensures found { IsTrue (D.meaning disk.old).tells → IfOk result (λ found. IfSome found (IsFound (D.meaning disk.old).content)) }
-    ensures bounds { IfOk result (λ found. IfSome found (λ f. (f.slot ≤ 4194304) × (f.len ≤ f.slot) × (f.begins ≤ f.slot + 6))) }
-    ensures none { IsTrue (D.meaning disk.old).tells → IfOk result (λ found. IfNone found ((S : ℕ) → IsStore S (D.meaning disk.old).content → ⊥)) }
+    ensures found { IsTrue (D.meaning disk.old).tells
+        → IfOk result (λ found. IfSome found (IsFound (D.meaning disk.old).content)) }
+    ensures bounds { IfOk result (λ found.
+        IfSome found (λ f. (f.slot ≤ 4194304) × (f.len ≤ f.slot) × (f.begins ≤ f.slot + 6))) }
+    ensures none { IsTrue (D.meaning disk.old).tells
+        → IfOk result (λ found. IfNone found ((S : ℕ) → IsStore S (D.meaning disk.old).content → ⊥)) }
     ensures time { Elapses (D.meaning disk.old) (D.meaning disk.new) }
     ensures marks { MarksUp (D.meaning disk.old) (D.meaning disk.new) 0 }
     ensures attached { (D.meaning disk.new).attached ≡ (D.meaning disk.old).attached }
@@ -111,24 +117,35 @@ fn zeros(alloc: Global, len: usize) -> Result<Vec<u8>, Memory>
 /// From the first sync that answers Ok on, every crash leaves what was read. `NotAStore` comes exactly where that is no
 /// whole store, and `Memory` where the payload found no memory.
 pub fn open<D: Disk>(disk: &mut D, into: &mut Vec<u8>) -> Result<Store, SaveRefusal>
-    ensures opens { IsTrue (D.meaning disk.old).tells → IfOk result (λ S. Opens S (D.meaning disk.old).content into.new.items) }
+    ensures opens { IsTrue (D.meaning disk.old).tells
+        → IfOk result (λ S. Opens S (D.meaning disk.old).content into.new.items) }
     ensures kept { OnErr result (into.new.items ≡ into.old.items) }
 
     // a crash at any moment of the call, and after it
-    ensures moments { IsTrue (D.meaning disk.old).tells → During (D.meaning disk.old) (D.meaning disk.new) ((D.meaning disk.old).leaves (D.meaning disk.old).now) }
-    ensures since { IsTrue (D.meaning disk.old).tells → IsTrue (D.meaning disk.old).tells_syncs → SinceSync (D.meaning disk.old) (D.meaning disk.new) (λ c. c ≡ (D.meaning disk.old).content) }
-    ensures opened { IsTrue (D.meaning disk.old).tells → IfOk result (λ S. AllOpen S into.new.items (D.meaning disk.new)) }
-    ensures content { IsTrue (D.meaning disk.old).tells → (IsErrOf result SaveRefusal.Device → ⊥) → (D.meaning disk.new).content ≡ (D.meaning disk.old).content }
+    ensures moments { IsTrue (D.meaning disk.old).tells
+        → During (D.meaning disk.old) (D.meaning disk.new) ((D.meaning disk.old).leaves (D.meaning disk.old).now) }
+    ensures since { IsTrue (D.meaning disk.old).tells → IsTrue (D.meaning disk.old).tells_syncs
+        → SinceSync (D.meaning disk.old) (D.meaning disk.new) (λ c. c ≡ (D.meaning disk.old).content) }
+    ensures opened { IsTrue (D.meaning disk.old).tells
+        → IfOk result (λ S. AllOpen S into.new.items (D.meaning disk.new)) }
+    ensures content { IsTrue (D.meaning disk.old).tells → (IsErrOf result SaveRefusal.Device → ⊥)
+        → (D.meaning disk.new).content ≡ (D.meaning disk.old).content }
     ensures time { Elapses (D.meaning disk.old) (D.meaning disk.new) }
     ensures marks { MarksUp (D.meaning disk.old) (D.meaning disk.new) 0 }
-    ensures run { IsTrue (D.meaning disk.old).tells → IfOk result (λ S. IsRun S into.new.items [] (D.meaning disk.new) (D.meaning disk.new)) }
+    ensures run { IsTrue (D.meaning disk.old).tells
+        → IfOk result (λ S. IsRun S into.new.items [] (D.meaning disk.new) (D.meaning disk.new)) }
     ensures attached { (D.meaning disk.new).attached ≡ (D.meaning disk.old).attached }
 
     // its answers
-    ensures not_a_store { IsTrue (D.meaning disk.old).tells → IsErrOf result SaveRefusal.NotAStore → (S : ℕ) → IsStore S (D.meaning disk.old).content → ⊥ }
-    ensures not_a_store_comes { IsTrue (D.meaning disk.old).tells → ((S : ℕ) → IsStore S (D.meaning disk.old).content → ⊥) → IsErrOf result SaveRefusal.NotAStore ⊎ IsErrOf result SaveRefusal.Device }
-    ensures cause { HasCause (D.meaning disk.old).faults (D.meaning disk.new).faults (IsErrOf result SaveRefusal.Device) }
-    ensures answers { IsErr result → IsErrOf result SaveRefusal.NotAStore ⊎ IsErrOf result SaveRefusal.Device ⊎ IsErrOf result SaveRefusal.Memory }
+    ensures not_a_store { IsTrue (D.meaning disk.old).tells → IsErrOf result SaveRefusal.NotAStore
+        → (S : ℕ) → IsStore S (D.meaning disk.old).content → ⊥ }
+    ensures not_a_store_comes { IsTrue (D.meaning disk.old).tells
+        → ((S : ℕ) → IsStore S (D.meaning disk.old).content → ⊥)
+        → IsErrOf result SaveRefusal.NotAStore ⊎ IsErrOf result SaveRefusal.Device }
+    ensures cause { HasCause (D.meaning disk.old).faults (D.meaning disk.new).faults
+        (IsErrOf result SaveRefusal.Device) }
+    ensures answers { IsErr result → IsErrOf result SaveRefusal.NotAStore
+        ⊎ IsErrOf result SaveRefusal.Device ⊎ IsErrOf result SaveRefusal.Memory }
 {
     let Some(found) = find(disk)? else {
         return Err(SaveRefusal::NotAStore);

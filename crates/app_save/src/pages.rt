@@ -1,5 +1,6 @@
 //! A payload is written by pages, and only those that differ from what stands there.
-ghost use Rattle.std.specs.Prelude.{◌≡◌, ◌+◌, ◌≤◌, ◌<◌, ◌↔◌, ℕ, length, take, drop, slice_index, IsTrue, IsErr, IfOk, OnOk};
+ghost use Rattle.std.specs.Prelude.{◌≡◌, ◌+◌, ◌≤◌, ◌<◌, ◌↔◌, ℕ, length, take, drop, slice_index, IsTrue, IsErr, IfOk};
+ghost use Rattle.std.specs.Prelude.{OnOk};
 ghost use Rattle.sed_outside.specs.Cause.{HasCause};
 ghost use Rattle.disk_model.specs.Disk.{Elapses, During, Writes, Holds, Keeps, MarksUp, largest_store};
 ghost use Rattle.app_save.specs.Store.{AreSlots};
@@ -20,7 +21,9 @@ fn reads_as<D: Disk>(
 ) -> Result<bool, DiskFault>
     requires scratch { length scratch.old ≡ length bytes.now }
     requires inside { IsTrue (D.meaning disk.old).tells → at + length bytes.now ≤ length (D.meaning disk.old).content }
-    ensures same { IsTrue (D.meaning disk.old).tells → IfOk result (λ same. IsTrue same ↔ (take (length bytes.now) (drop at (D.meaning disk.old).content) ≡ bytes.now)) }
+    ensures same { IsTrue (D.meaning disk.old).tells
+        → IfOk result (λ same. IsTrue same ↔ (take (length bytes.now) (drop at (D.meaning disk.old).content)
+        ≡ bytes.now)) }
     ensures keeps { IsTrue (D.meaning disk.old).tells → Keeps (D.meaning disk.old) (D.meaning disk.new) }
     ensures time { Elapses (D.meaning disk.old) (D.meaning disk.new) }
     ensures marks { MarksUp (D.meaning disk.old) (D.meaning disk.new) 0 }
@@ -36,8 +39,10 @@ fn write_page<D: Disk>(disk: &mut D, at: u64, bytes: &[u8]) -> Result<(), DiskFa
     requires small { at + length bytes.now ≤ largest_store }
     requires page { length bytes.now ≤ 512 }
     requires inside { IsTrue (D.meaning disk.old).tells → at + length bytes.now ≤ length (D.meaning disk.old).content }
-    ensures writes { IsTrue (D.meaning disk.old).tells → Writes at bytes.now result (D.meaning disk.old) (D.meaning disk.new) }
-    ensures equal { IsTrue (D.meaning disk.old).tells → Holds at bytes.now (D.meaning disk.old).content → During (D.meaning disk.old) (D.meaning disk.new) ((D.meaning disk.old).leaves (D.meaning disk.old).now) }
+    ensures writes { IsTrue (D.meaning disk.old).tells
+        → Writes at bytes.now result (D.meaning disk.old) (D.meaning disk.new) }
+    ensures equal { IsTrue (D.meaning disk.old).tells → Holds at bytes.now (D.meaning disk.old).content
+        → During (D.meaning disk.old) (D.meaning disk.new) ((D.meaning disk.old).leaves (D.meaning disk.old).now) }
     ensures time { Elapses (D.meaning disk.old) (D.meaning disk.new) }
     ensures marks { MarksUp (D.meaning disk.old) (D.meaning disk.new) 0 }
     ensures attached { (D.meaning disk.new).attached ≡ (D.meaning disk.old).attached }
@@ -60,10 +65,17 @@ pub fn write_pages<D: Disk>(
     requires small { slot ≤ 4194304 }
     requires fits { length payload.now ≤ slot }
     requires slots { AreSlots slot place.now.newest place.now.other }
-    requires closed { IsTrue (D.meaning disk.old).tells → IsClosed slot place.now.newest place.now.other payload.now (D.meaning disk.old).content (D.meaning disk.old) }
-    ensures during { IsTrue (D.meaning disk.old).tells → During (D.meaning disk.old) (D.meaning disk.new) (Closed slot place.now.newest place.now.other payload.now (D.meaning disk.old).content) }
-    ensures closed { IsTrue (D.meaning disk.old).tells → Closed slot place.now.newest place.now.other payload.now (D.meaning disk.old).content (D.meaning disk.new).content }
-    ensures written { IsTrue (D.meaning disk.old).tells → OnOk result ((i : ℕ) → i < length payload.now → slice_index (D.meaning disk.new).content (place.now.other + 6 + i) ≡ slice_index payload.now i) }
+    requires closed { IsTrue (D.meaning disk.old).tells
+        → IsClosed slot place.now.newest place.now.other payload.now (D.meaning disk.old).content (D.meaning disk.old) }
+    ensures during { IsTrue (D.meaning disk.old).tells
+        → During (D.meaning disk.old) (D.meaning disk.new)
+        (Closed slot place.now.newest place.now.other payload.now (D.meaning disk.old).content) }
+    ensures closed { IsTrue (D.meaning disk.old).tells
+        → Closed slot place.now.newest place.now.other payload.now (D.meaning disk.old).content
+        (D.meaning disk.new).content }
+    ensures written { IsTrue (D.meaning disk.old).tells
+        → OnOk result ((i : ℕ) → i < length payload.now
+        → slice_index (D.meaning disk.new).content (place.now.other + 6 + i) ≡ slice_index payload.now i) }
     ensures time { Elapses (D.meaning disk.old) (D.meaning disk.new) }
     ensures marks { MarksUp (D.meaning disk.old) (D.meaning disk.new) 0 }
     ensures attached { (D.meaning disk.new).attached ≡ (D.meaning disk.old).attached }

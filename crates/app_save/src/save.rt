@@ -1,5 +1,6 @@
 //! The steps of a save: settle, close the other gate, fill the slot behind it, open the gate.
-ghost use Rattle.std.specs.Prelude.{◌≡◌, ◌⊎◌, ◌+◌, ◌*◌, ◌%◌, ◌≤◌, ◌<◌, false, length, slice_index, IsTrue, IsErr, IfOk, OnOk};
+ghost use Rattle.std.specs.Prelude.{◌≡◌, ◌⊎◌, ◌+◌, ◌*◌, ◌%◌, ◌≤◌, ◌<◌, false, length, slice_index, IsTrue, IsErr, IfOk};
+ghost use Rattle.std.specs.Prelude.{OnOk};
 ghost use Rattle.sed_outside.specs.Cause.{HasCause};
 ghost use Rattle.disk_model.specs.Disk.{Elapses, During, MarksUp, Rests, largest_store};
 ghost use Rattle.app_save.specs.Store.{IsStore, AreSlots, generation_at};
@@ -16,10 +17,12 @@ pub fn write_save<D: Disk>(disk: &mut D, slot: u32, payload: &[u8]) -> Result<()
     requires small { slot ≤ 4194304 }
     requires fits { length payload.now ≤ slot }
     requires stores { IsTrue (D.meaning disk.old).tells → AllStores slot (D.meaning disk.old) }
-    ensures moments { IsTrue (D.meaning disk.old).tells → During (D.meaning disk.old) (D.meaning disk.new) (OpensAsBegun slot payload.now (D.meaning disk.old)) }
+    ensures moments { IsTrue (D.meaning disk.old).tells
+        → During (D.meaning disk.old) (D.meaning disk.new) (OpensAsBegun slot payload.now (D.meaning disk.old)) }
     ensures saved { IsTrue (D.meaning disk.old).tells → OnOk result (AllOpen slot payload.now (D.meaning disk.new)) }
     ensures pages { IsTrue (D.meaning disk.old).tells → IsTrue (D.meaning disk.old).tells_syncs →
-        SinceSync (D.meaning disk.old) (D.meaning disk.new) (KeepsEqualPages slot payload.now (D.meaning disk.old).content) }
+        SinceSync (D.meaning disk.old) (D.meaning disk.new)
+        (KeepsEqualPages slot payload.now (D.meaning disk.old).content) }
     ensures time { Elapses (D.meaning disk.old) (D.meaning disk.new) }
     ensures marks { MarksUp (D.meaning disk.old) (D.meaning disk.new) 0 }
     ensures unmarked { OnOk result ((D.meaning disk.new).is_marked ≡ false) }
@@ -36,7 +39,8 @@ pub fn settle<D: Disk>(disk: &mut D, slot: u32) -> Result<Place, DiskFault>
     requires stores { IsTrue (D.meaning disk.old).tells → AllStores slot (D.meaning disk.old) }
     ensures settled { IsTrue (D.meaning disk.old).tells → Settled result (D.meaning disk.old) (D.meaning disk.new) }
     ensures slots { IfOk result (λ place. AreSlots slot place.newest place.other) }
-    ensures place { IsTrue (D.meaning disk.old).tells → IfOk result (λ place. IsPlace (D.meaning disk.old).content place) }
+    ensures place { IsTrue (D.meaning disk.old).tells
+        → IfOk result (λ place. IsPlace (D.meaning disk.old).content place) }
     ensures time { Elapses (D.meaning disk.old) (D.meaning disk.new) }
     ensures marks { MarksUp (D.meaning disk.old) (D.meaning disk.new) 0 }
     ensures attached { (D.meaning disk.new).attached ≡ (D.meaning disk.old).attached }
@@ -62,8 +66,10 @@ fn write_slot<D: Disk>(
     requires store { IsTrue (D.meaning disk.old).tells → IsStore slot (D.meaning disk.old).content }
     requires place { IsTrue (D.meaning disk.old).tells → IsPlace (D.meaning disk.old).content place.now }
     ensures during { IsTrue (D.meaning disk.old).tells → During (D.meaning disk.old) (D.meaning disk.new)
-        (λ c. Stays slot place.now.newest place.now.other payload.now (D.meaning disk.old).content c ⊎ Saved slot place.now.newest place.now.other payload.now c) }
-    ensures saved { IsTrue (D.meaning disk.old).tells → OnOk result (IsSaved slot place.now.newest place.now.other payload.now (D.meaning disk.new)) }
+        (λ c. Stays slot place.now.newest place.now.other payload.now (D.meaning disk.old).content c
+        ⊎ Saved slot place.now.newest place.now.other payload.now c) }
+    ensures saved { IsTrue (D.meaning disk.old).tells
+        → OnOk result (IsSaved slot place.now.newest place.now.other payload.now (D.meaning disk.new)) }
     ensures time { Elapses (D.meaning disk.old) (D.meaning disk.new) }
     ensures marks { MarksUp (D.meaning disk.old) (D.meaning disk.new) 0 }
     ensures unmarked { OnOk result ((D.meaning disk.new).is_marked ≡ false) }
@@ -88,8 +94,12 @@ fn close_gate<D: Disk>(
     requires rests { IsTrue (D.meaning disk.old).tells → Rests (D.meaning disk.old) }
     requires store { IsTrue (D.meaning disk.old).tells → IsStore slot (D.meaning disk.old).content }
     requires place { IsTrue (D.meaning disk.old).tells → IsPlace (D.meaning disk.old).content place.now }
-    ensures during { IsTrue (D.meaning disk.old).tells → During (D.meaning disk.old) (D.meaning disk.new) (Stays slot place.now.newest place.now.other payload.now (D.meaning disk.old).content) }
-    ensures closed { IsTrue (D.meaning disk.old).tells → OnOk result (IsClosed slot place.now.newest place.now.other payload.now (D.meaning disk.old).content (D.meaning disk.new)) }
+    ensures during { IsTrue (D.meaning disk.old).tells
+        → During (D.meaning disk.old) (D.meaning disk.new)
+        (Stays slot place.now.newest place.now.other payload.now (D.meaning disk.old).content) }
+    ensures closed { IsTrue (D.meaning disk.old).tells
+        → OnOk result (IsClosed slot place.now.newest place.now.other payload.now
+        (D.meaning disk.old).content (D.meaning disk.new)) }
     ensures time { Elapses (D.meaning disk.old) (D.meaning disk.new) }
     ensures marks { MarksUp (D.meaning disk.old) (D.meaning disk.new) 0 }
     ensures attached { (D.meaning disk.new).attached ≡ (D.meaning disk.old).attached }
@@ -104,7 +114,8 @@ fn close_gate<D: Disk>(
 /// Writes the bytes at that place, and waits until they are on the disk.
 pub fn write_through<D: Disk>(disk: &mut D, at: u64, bytes: &[u8]) -> Result<(), DiskFault>
     requires { at + length bytes.now ≤ largest_store }
-    ensures lands { IsTrue (D.meaning disk.old).tells → Lands at bytes.now result (D.meaning disk.old) (D.meaning disk.new) }
+    ensures lands { IsTrue (D.meaning disk.old).tells
+        → Lands at bytes.now result (D.meaning disk.old) (D.meaning disk.new) }
     ensures time { Elapses (D.meaning disk.old) (D.meaning disk.new) }
     ensures marks { MarksUp (D.meaning disk.old) (D.meaning disk.new) 0 }
     ensures unmarked { OnOk result ((D.meaning disk.new).is_marked ≡ false) }
@@ -118,7 +129,8 @@ pub fn write_through<D: Disk>(disk: &mut D, at: u64, bytes: &[u8]) -> Result<(),
 /// The length and generation that stand behind a gate.
 pub fn behind_gate(len: u32, generation: u8) -> [u8; 5]
     ensures five { length result ≡ 5 }
-    ensures len { 16777216 * slice_index result 0 + 65536 * slice_index result 1 + 256 * slice_index result 2 + slice_index result 3 ≡ len }
+    ensures len { 16777216 * slice_index result 0 + 65536 * slice_index result 1
+        + 256 * slice_index result 2 + slice_index result 3 ≡ len }
     ensures generation { slice_index result 4 ≡ generation }
 {
     let [high, upper, lower, low] = len.to_be_bytes();
@@ -130,10 +142,16 @@ fn fill<D: Disk>(disk: &mut D, slot: u32, place: &Place, payload: &[u8]) -> Resu
     requires small { slot ≤ 4194304 }
     requires fits { length payload.now ≤ slot }
     requires slots { AreSlots slot place.now.newest place.now.other }
-    requires next { IsTrue (D.meaning disk.old).tells → place.now.generation ≡ (generation_at (D.meaning disk.old).content place.now.newest + 1) % 3 }
-    requires closed { IsTrue (D.meaning disk.old).tells → IsClosed slot place.now.newest place.now.other payload.now (D.meaning disk.old).content (D.meaning disk.old) }
-    ensures during { IsTrue (D.meaning disk.old).tells → During (D.meaning disk.old) (D.meaning disk.new) (Closed slot place.now.newest place.now.other payload.now (D.meaning disk.old).content) }
-    ensures filled { IsTrue (D.meaning disk.old).tells → OnOk result (IsFilled slot place.now.newest place.now.other payload.now (D.meaning disk.old).content (D.meaning disk.new)) }
+    requires next { IsTrue (D.meaning disk.old).tells
+        → place.now.generation ≡ (generation_at (D.meaning disk.old).content place.now.newest + 1) % 3 }
+    requires closed { IsTrue (D.meaning disk.old).tells
+        → IsClosed slot place.now.newest place.now.other payload.now (D.meaning disk.old).content (D.meaning disk.old) }
+    ensures during { IsTrue (D.meaning disk.old).tells
+        → During (D.meaning disk.old) (D.meaning disk.new)
+        (Closed slot place.now.newest place.now.other payload.now (D.meaning disk.old).content) }
+    ensures filled { IsTrue (D.meaning disk.old).tells
+        → OnOk result (IsFilled slot place.now.newest place.now.other payload.now
+        (D.meaning disk.old).content (D.meaning disk.new)) }
     ensures time { Elapses (D.meaning disk.old) (D.meaning disk.new) }
     ensures marks { MarksUp (D.meaning disk.old) (D.meaning disk.new) 0 }
     ensures attached { (D.meaning disk.new).attached ≡ (D.meaning disk.old).attached }
@@ -153,10 +171,13 @@ fn open_gate<D: Disk>(
 ) -> Result<(), DiskFault>
     requires small { slot ≤ 4194304 }
     requires slots { AreSlots slot place.now.newest place.now.other }
-    requires filled { IsTrue (D.meaning disk.old).tells → IsFilled slot place.now.newest place.now.other payload.now (D.meaning disk.old).content (D.meaning disk.old) }
+    requires filled { IsTrue (D.meaning disk.old).tells
+        → IsFilled slot place.now.newest place.now.other payload.now (D.meaning disk.old).content (D.meaning disk.old) }
     ensures during { IsTrue (D.meaning disk.old).tells → During (D.meaning disk.old) (D.meaning disk.new)
-        (λ c. Stays slot place.now.newest place.now.other payload.now (D.meaning disk.old).content c ⊎ Saved slot place.now.newest place.now.other payload.now c) }
-    ensures saved { IsTrue (D.meaning disk.old).tells → OnOk result (IsSaved slot place.now.newest place.now.other payload.now (D.meaning disk.new)) }
+        (λ c. Stays slot place.now.newest place.now.other payload.now (D.meaning disk.old).content c
+        ⊎ Saved slot place.now.newest place.now.other payload.now c) }
+    ensures saved { IsTrue (D.meaning disk.old).tells
+        → OnOk result (IsSaved slot place.now.newest place.now.other payload.now (D.meaning disk.new)) }
     ensures time { Elapses (D.meaning disk.old) (D.meaning disk.new) }
     ensures marks { MarksUp (D.meaning disk.old) (D.meaning disk.new) 0 }
     ensures unmarked { OnOk result ((D.meaning disk.new).is_marked ≡ false) }

@@ -41,7 +41,8 @@ pub fn second_slot(slot: u32) -> u64
 
 fn header_of(bytes: &[u8; 6]) -> Header
     ensures is_open { result.is_open ≡ (slice_index bytes.now 0 == 165) }
-    ensures len { result.len ≡ 16777216 * slice_index bytes.now 1 + 65536 * slice_index bytes.now 2 + 256 * slice_index bytes.now 3 + slice_index bytes.now 4 }
+    ensures len { result.len ≡ 16777216 * slice_index bytes.now 1 + 65536
+        * slice_index bytes.now 2 + 256 * slice_index bytes.now 3 + slice_index bytes.now 4 }
     ensures generation { result.generation ≡ slice_index bytes.now 5 }
 {
     Header {
@@ -54,7 +55,8 @@ fn header_of(bytes: &[u8; 6]) -> Header
 /// Reads what stands in front of the payload of the slot that begins there.
 pub fn read_header<D: Disk>(disk: &mut D, slot: u64) -> Result<Header, DiskFault>
     requires { IsTrue (D.meaning disk.old).tells → slot + 6 ≤ length (D.meaning disk.old).content }
-    ensures header { IsTrue (D.meaning disk.old).tells → IfOk result (λ header. IsHeader (D.meaning disk.old).content slot header) }
+    ensures header { IsTrue (D.meaning disk.old).tells
+        → IfOk result (λ header. IsHeader (D.meaning disk.old).content slot header) }
     ensures keeps { IsTrue (D.meaning disk.old).tells → Keeps (D.meaning disk.old) (D.meaning disk.new) }
     ensures time { Elapses (D.meaning disk.old) (D.meaning disk.new) }
     ensures marks { MarksUp (D.meaning disk.old) (D.meaning disk.new) 0 }
@@ -77,7 +79,8 @@ pub fn next_generation(generation: u8) -> u8
 pub fn place_of(slot: u32, first: &Header, second: &Header) -> Place
     requires { slot ≤ 4194304 }
     ensures slots { AreSlots slot result.newest result.other }
-    ensures place { (image : Image) → IsHeader image 0 first.now → IsHeader image (slot + 6) second.now → IsStore slot image → IsPlace image result }
+    ensures place { (image : Image) → IsHeader image 0 first.now → IsHeader image (slot + 6) second.now
+        → IsStore slot image → IsPlace image result }
 {
     let second_is_newest = second.is_open
         && (!first.is_open || second.generation == next_generation(first.generation));

@@ -1,5 +1,6 @@
 //! An open store, and its saves.
-ghost use Rattle.std.specs.Prelude.{◌≡◌, ◌⊎◌, ◌+◌, ◌<◌, ◌≤◌, ◌↔◌, ◌++◌, [], ◌∷◌, ℕ, List, length, take, IsTrue, IsErr, IsErrOf, IsOk, is_ok, IfOk, OnOk, OnErr};
+ghost use Rattle.std.specs.Prelude.{◌≡◌, ◌⊎◌, ◌+◌, ◌<◌, ◌≤◌, ◌↔◌, ◌++◌, [], ◌∷◌, ℕ, List, length, take, IsTrue, IsErr};
+ghost use Rattle.std.specs.Prelude.{IsErrOf, IsOk, is_ok, IfOk, OnOk, OnErr};
 ghost use Rattle.sed_outside.specs.Cause.{Rose, HasCause};
 ghost use Rattle.disk_model.specs.Disk.{Elapses, During, MarksUp};
 ghost use Rattle.app_save.specs.Store.{Opens};
@@ -48,37 +49,45 @@ impl Store {
     /// Saves the payload on the disk that holds this store. It takes no memory, and asks nothing of the disk where the
     /// payload is longer than a slot.
     ///
-    /// At each moment of the call a crash leaves a whole store that opens to what it opened to before, or to the payload.
-    /// After Ok every crash leaves one that opens to the payload, until the next save, and one mark was made. After
-    /// `Device` it may open to either; the next save begins anew and needs nothing else of this one. What was saved before
-    /// is kept in pages of 512 bytes: from the first sync on, a page of the payload that already stood in the slot is never
-    /// torn.
+    /// At each moment of the call a crash leaves a whole store that opens to what it opened to before, or to the
+    /// payload. After Ok every crash leaves one that opens to the payload, until the next save, and one mark was made.
+    /// After `Device` it may open to either; the next save begins anew and needs nothing else of this one. What was
+    /// saved before is kept in pages of 512 bytes: from the first sync on, a page of the payload that already stood in
+    /// the slot is never torn.
     pub fn save<D: Disk>(&mut self, disk: &mut D, payload: &[u8]) -> Result<(), SaveRefusal>
         requires stores { IsTrue (D.meaning disk.old).tells → AllStores self.old (D.meaning disk.old) }
         ensures same { self.new ≡ self.old }
 
         // a crash at any moment of the call, and after it
-        ensures moments { IsTrue (D.meaning disk.old).tells → During (D.meaning disk.old) (D.meaning disk.new) (OpensAsBegun self.old payload.now (D.meaning disk.old)) }
-        ensures saved { IsTrue (D.meaning disk.old).tells → OnOk result (AllOpen self.old payload.now (D.meaning disk.new)) }
+        ensures moments { IsTrue (D.meaning disk.old).tells
+            → During (D.meaning disk.old) (D.meaning disk.new)
+            (OpensAsBegun self.old payload.now (D.meaning disk.old)) }
+        ensures saved { IsTrue (D.meaning disk.old).tells
+            → OnOk result (AllOpen self.old payload.now (D.meaning disk.new)) }
         ensures stores { IsTrue (D.meaning disk.old).tells → AllStores self.old (D.meaning disk.new) }
         ensures pages { IsTrue (D.meaning disk.old).tells → IsTrue (D.meaning disk.old).tells_syncs →
-            SinceSync (D.meaning disk.old) (D.meaning disk.new) (KeepsEqualPages self.old payload.now (D.meaning disk.old).content) }
+            SinceSync (D.meaning disk.old) (D.meaning disk.new)
+            (KeepsEqualPages self.old payload.now (D.meaning disk.old).content) }
         ensures time { Elapses (D.meaning disk.old) (D.meaning disk.new) }
 
         // marks, and a run of many saves
         ensures mark { OnOk result (MarksUp (D.meaning disk.old) (D.meaning disk.new) 1) }
         ensures no_mark { OnErr result (MarksUp (D.meaning disk.old) (D.meaning disk.new) 0) }
-        ensures run { IsTrue (D.meaning disk.old).tells → IsTrue (D.meaning disk.old).tells_marks → length payload.now ≤ self.old →
-            (start : D) (opened : List ℕ) (saves : Saves) → IsRun self.old opened saves (D.meaning start) (D.meaning disk.old) →
+        ensures run { IsTrue (D.meaning disk.old).tells → IsTrue (D.meaning disk.old).tells_marks
+            → length payload.now ≤ self.old →
+            (start : D) (opened : List ℕ) (saves : Saves)
+            → IsRun self.old opened saves (D.meaning start) (D.meaning disk.old) →
             IsRun self.old opened (saves ++ (payload.now, is_ok result) ∷ []) (D.meaning start) (D.meaning disk.new) }
         ensures attached { (D.meaning disk.new).attached ≡ (D.meaning disk.old).attached }
 
         // its answers
         ensures full { IsErrOf result SaveRefusal.Full ↔ (self.old < length payload.now) }
         ensures untouched { IsErrOf result SaveRefusal.Full → disk.new ≡ disk.old }
-        ensures cause { HasCause (D.meaning disk.old).faults (D.meaning disk.new).faults (IsErrOf result SaveRefusal.Device) }
+        ensures cause { HasCause (D.meaning disk.old).faults (D.meaning disk.new).faults
+            (IsErrOf result SaveRefusal.Device) }
         ensures answers { IsErr result → IsErrOf result SaveRefusal.Full ⊎ IsErrOf result SaveRefusal.Device }
-        ensures comes { length payload.now ≤ self.old → (Rose (D.meaning disk.old).faults (D.meaning disk.new).faults → ⊥) → IsOk result }
+        ensures comes { length payload.now ≤ self.old
+            → (Rose (D.meaning disk.old).faults (D.meaning disk.new).faults → ⊥) → IsOk result }
     {
         if payload.len() > self.slot as usize {
             return Err(SaveRefusal::Full);
@@ -98,17 +107,23 @@ impl Store {
         requires stores { IsTrue (D.meaning disk.old).tells → AllStores self.old (D.meaning disk.old) }
         ensures same { self.new ≡ self.old }
         ensures fits { IfOk result (λ len. len ≤ self.old) }
-        ensures opens { IsTrue (D.meaning disk.old).tells → IfOk result (λ len. Opens self.old (D.meaning disk.old).content (take len into.new)) }
+        ensures opens { IsTrue (D.meaning disk.old).tells
+            → IfOk result (λ len. Opens self.old (D.meaning disk.old).content (take len into.new)) }
 
         // a crash at any moment of the call, and after it
-        ensures moments { IsTrue (D.meaning disk.old).tells → During (D.meaning disk.old) (D.meaning disk.new) ((D.meaning disk.old).leaves (D.meaning disk.old).now) }
-        ensures opened { IsTrue (D.meaning disk.old).tells → IfOk result (λ len. AllOpen self.old (take len into.new) (D.meaning disk.new)) }
+        ensures moments { IsTrue (D.meaning disk.old).tells
+            → During (D.meaning disk.old) (D.meaning disk.new) ((D.meaning disk.old).leaves (D.meaning disk.old).now) }
+        ensures opened { IsTrue (D.meaning disk.old).tells
+            → IfOk result (λ len. AllOpen self.old (take len into.new) (D.meaning disk.new)) }
         ensures stores { IsTrue (D.meaning disk.old).tells → AllStores self.old (D.meaning disk.new) }
-        ensures content { IsTrue (D.meaning disk.old).tells → (IsErrOf result SaveRefusal.Device → ⊥) → (D.meaning disk.new).content ≡ (D.meaning disk.old).content }
+        ensures content { IsTrue (D.meaning disk.old).tells → (IsErrOf result SaveRefusal.Device → ⊥)
+            → (D.meaning disk.new).content ≡ (D.meaning disk.old).content }
         ensures time { Elapses (D.meaning disk.old) (D.meaning disk.new) }
         ensures marks { MarksUp (D.meaning disk.old) (D.meaning disk.new) 0 }
         ensures run { IsTrue (D.meaning disk.old).tells → IsTrue (D.meaning disk.old).tells_marks →
-            (start : D) (opened : List ℕ) (saves : Saves) → IsRun self.old opened saves (D.meaning start) (D.meaning disk.old) → IsRun self.old opened saves (D.meaning start) (D.meaning disk.new) }
+            (start : D) (opened : List ℕ) (saves : Saves)
+            → IsRun self.old opened saves (D.meaning start) (D.meaning disk.old)
+            → IsRun self.old opened saves (D.meaning start) (D.meaning disk.new) }
         ensures attached { (D.meaning disk.new).attached ≡ (D.meaning disk.old).attached }
 
         // its answers

@@ -1,5 +1,6 @@
 -- What has to hold of the rows and links of a file, so that they tell an application.
-use Rattle.std.specs.Prelude.{ℕ, ◌≡◌, ◌<◌, ◌≤◌, not, is_some, IsTrue, IfSome, List, [], length, codes, map as map_list, slice_get, Option, Some}
+use Rattle.std.specs.Prelude.{ℕ, ◌≡◌, ◌<◌, ◌≤◌, not, is_some, IsTrue, IfSome, List, [], length, codes, map as map_list}
+use Rattle.std.specs.Prelude.{slice_get, Option, Some}
 use Rattle.std.specs.List.{All, AllPairs, IsDistinct}
 use Rattle.std.specs.Option.{option_and_then, option_map_or}
 use Rattle.std.specs.Str.{bytes_eq}
@@ -24,7 +25,12 @@ use Rattle.app_front.specs.declared.rows.FileRows.{FileRows}
 
 -- what a row tells of the tree
 abbrev pub tree_row : FileRow → TreeRow
-tree_row r = record { id = r.id.0; parent = number_of_id r.parent; first_child = number_of_id r.first_child; next_sibling = number_of_id r.next_sibling }
+tree_row r = record {
+  id = r.id.0;
+  parent = number_of_id r.parent;
+  first_child = number_of_id r.first_child;
+  next_sibling = number_of_id r.next_sibling;
+}
 
 abbrev pub tree_rows : List FileRow → List TreeRow
 tree_rows rows = map_list tree_row rows
@@ -52,8 +58,8 @@ pub record IsOtherRow (m : Meaning) (r : FileRow) : Type 0 where
   pub component : IsTrue (is_for_components m r.kind.0)
   pub concrete : IsTrue (not (is_abstract_class m r.kind.0))
 
--- once the row's values are stored in a new object, in the order of the slots, each slot gives the value that the row gives
--- for it
+-- once the row's values are stored in a new object, in the order of the slots, each slot gives the value that the row
+-- gives for it
 abbrev pub GivesItsValues : Meaning → FileRow → Type 0
 GivesItsValues m r = values_in m (told_component m (told_row r) []) (config_slots m r.kind.0) ≡ r.config
 

@@ -24,7 +24,9 @@ pub fn end_of_ids<E: Engine>(tree: &Tree<E>) -> u16
 /// The sibling behind a component that has this parent, where there is one. It is sought from the first child of the
 /// parent on, of at most 200.
 pub fn sibling_of<E: Engine>(tree: &Tree<E>, id: Id, parent: Option<Id>) -> Option<Id>
-    ensures { option_map (λ (i : _). i.0) result ≡ sibling_behind (children_of (components_of E.Engine tree.now).by_id) id.0 (option_map (λ (i : _). i.0) parent) }
+    ensures { option_map (λ (i : _). i.0) result
+        ≡ sibling_behind (children_of (components_of E.Engine tree.now).by_id)
+        id.0 (option_map (λ (i : _). i.0) parent) }
 {
     match parent {
         Some(up) => next_child(tree, up, id),
@@ -34,7 +36,8 @@ pub fn sibling_of<E: Engine>(tree: &Tree<E>, id: Id, parent: Option<Id>) -> Opti
 
 // The child of a component behind the one with this id, where there is one.
 fn next_child<E: Engine>(tree: &Tree<E>, up: Id, id: Id) -> Option<Id>
-    ensures { option_map (λ (i : _). i.0) result ≡ behind id.0 (children_of (components_of E.Engine tree.now).by_id up.0) }
+    ensures { option_map (λ (i : _). i.0) result
+        ≡ behind id.0 (children_of (components_of E.Engine tree.now).by_id up.0) }
 {
     let count = child_count(tree, up);
     for n in 0..count {
@@ -58,7 +61,8 @@ fn child_count<E: Engine>(tree: &Tree<E>, id: Id) -> u8
 
 // Whether the n-th child of a component has this id.
 fn is_child<E: Engine>(tree: &Tree<E>, up: Id, n: u8, id: Id) -> bool
-    ensures { result ≡ option_map_or (λ child. child == id.0) (slice_get (children_of (components_of E.Engine tree.now).by_id up.0) n) false }
+    ensures { result ≡ option_map_or (λ child. child == id.0)
+        (slice_get (children_of (components_of E.Engine tree.now).by_id up.0) n) false }
 {
     match tree.child(up, n) {
         Some(child) => child.0 == id.0,

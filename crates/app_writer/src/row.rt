@@ -17,7 +17,8 @@ use sed_wire::Writer;
 /// Puts what a file has of the component with an id in front of `into`, and says how many bytes these are; what stood
 /// behind them stays. Of an id that is not live it has nothing.
 pub fn write_row<E: Engine>(tree: &Tree<E>, id: Id, into: &mut [u8; 443]) -> usize
-    ensures { Puts (row_at (E.meaning tree.now.engine) (components_of E.Engine tree.now).by_id id.0) result into.old into.new }
+    ensures { Puts (row_at (E.meaning tree.now.engine) (components_of E.Engine tree.now).by_id id.0)
+        result into.old into.new }
 {
     let mut writer = Writer::new(into);
     put_row(&mut writer, tree, id);
@@ -27,7 +28,8 @@ pub fn write_row<E: Engine>(tree: &Tree<E>, id: Id, into: &mut [u8; 443]) -> usi
 // Puts what a file has of the component with an id.
 fn put_row<E: Engine>(writer: &mut Writer, tree: &Tree<E>, id: Id)
     requires { 443 ≤ room writer.old }
-    ensures { Appends writer.old writer.new (row_at (E.meaning tree.now.engine) (components_of E.Engine tree.now).by_id id.0) }
+    ensures { Appends writer.old writer.new
+        (row_at (E.meaning tree.now.engine) (components_of E.Engine tree.now).by_id id.0) }
 {
     if let Some(entry) = tree.find(id) {
         put_entry(writer, tree, id, &entry);
@@ -36,9 +38,11 @@ fn put_row<E: Engine>(writer: &mut Writer, tree: &Tree<E>, id: Id)
 
 // Puts what a file has of a component of which this is told.
 fn put_entry<E: Engine>(writer: &mut Writer, tree: &Tree<E>, id: Id, entry: &Entry)
-    requires told { IsSomeAnd (map.get (components_of E.Engine tree.now).by_id id.0) (IsEntry (E.live tree.now.engine) entry.now) }
+    requires told { IsSomeAnd (map.get (components_of E.Engine tree.now).by_id id.0)
+        (IsEntry (E.live tree.now.engine) entry.now) }
     requires room { 443 ≤ room writer.old }
-    ensures { Appends writer.old writer.new (row_at (E.meaning tree.now.engine) (components_of E.Engine tree.now).by_id id.0) }
+    ensures { Appends writer.old writer.new
+        (row_at (E.meaning tree.now.engine) (components_of E.Engine tree.now).by_id id.0) }
 {
     let first_child = tree.child(id, 0);
     let next_sibling = sibling_of(tree, id, entry.parent);
@@ -55,9 +59,12 @@ fn put_found<E: Engine>(
     first_child: Option<Id>,
     next_sibling: Option<Id>,
 )
-    requires class { IsSomeAnd (map.get (components_of E.Engine tree.now).by_id id.0) (λ c. c.class ≡ entry.now.kind.0) }
+    requires class { IsSomeAnd (map.get (components_of E.Engine tree.now).by_id id.0)
+        (λ c. c.class ≡ entry.now.kind.0) }
     requires room { 443 ≤ room writer.old }
-    ensures { Appends writer.old writer.new (found_text (E.meaning tree.now.engine) (components_of E.Engine tree.now).by_id id.0 entry.now first_child next_sibling) }
+    ensures { Appends writer.old writer.new
+        (found_text (E.meaning tree.now.engine) (components_of E.Engine tree.now).by_id
+        id.0 entry.now first_child next_sibling) }
 {
     put_head(writer, tree, id, entry);
     put_ids(writer, entry.parent, first_child, next_sibling);

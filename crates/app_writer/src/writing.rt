@@ -47,7 +47,8 @@ pub fn write_app<E: Engine>(app: &App<E>, into: &mut [u8]) -> Result<usize, AppF
 // Puts the text of an application in front of `into`, which has room for it.
 fn put_app<E: Engine>(app: &App<E>, into: &mut [u8]) -> usize
     requires { length (app_text (E.meaning app.now.tree.engine) (application_of E.Engine app.now)) ≤ length into.old }
-    ensures { Puts (app_text (E.meaning app.now.tree.engine) (application_of E.Engine app.now)) result into.old into.new }
+    ensures { Puts (app_text (E.meaning app.now.tree.engine) (application_of E.Engine app.now))
+        result into.old into.new }
 {
     let mut writer = Writer::new(into);
     put_file(&mut writer, app);
@@ -57,7 +58,8 @@ fn put_app<E: Engine>(app: &App<E>, into: &mut [u8]) -> usize
 // Puts the text of an application.
 fn put_file<E: Engine>(writer: &mut Writer, app: &App<E>)
     requires { length (app_text (E.meaning app.now.tree.engine) (application_of E.Engine app.now)) ≤ room writer.old }
-    ensures { Appends writer.old writer.new (app_text (E.meaning app.now.tree.engine) (application_of E.Engine app.now)) }
+    ensures { Appends writer.old writer.new
+        (app_text (E.meaning app.now.tree.engine) (application_of E.Engine app.now)) }
 {
     put_tree(writer, app.tree());
     put_links(writer, app);
@@ -67,8 +69,10 @@ fn put_file<E: Engine>(writer: &mut Writer, app: &App<E>)
 
 // Puts the front, and the components.
 fn put_tree<E: Engine>(writer: &mut Writer, tree: &Tree<E>)
-    requires { length (tree_text (E.meaning tree.now.engine) (components_of E.Engine tree.now).by_id) ≤ room writer.old }
-    ensures { Appends writer.old writer.new (tree_text (E.meaning tree.now.engine) (components_of E.Engine tree.now).by_id) }
+    requires { length (tree_text (E.meaning tree.now.engine) (components_of E.Engine tree.now).by_id)
+        ≤ room writer.old }
+    ensures { Appends writer.old writer.new
+        (tree_text (E.meaning tree.now.engine) (components_of E.Engine tree.now).by_id) }
 {
     put_front(writer, tree.schema());
     put_components(writer, tree);
@@ -87,8 +91,10 @@ fn put_front(writer: &mut Writer, schema: &Schema)
 
 // Puts the greatest id, the components, and the number that ends them.
 fn put_components<E: Engine>(writer: &mut Writer, tree: &Tree<E>)
-    requires { length (components_text (E.meaning tree.now.engine) (components_of E.Engine tree.now).by_id) ≤ room writer.old }
-    ensures { Appends writer.old writer.new (components_text (E.meaning tree.now.engine) (components_of E.Engine tree.now).by_id) }
+    requires { length (components_text (E.meaning tree.now.engine) (components_of E.Engine tree.now).by_id)
+        ≤ room writer.old }
+    ensures { Appends writer.old writer.new
+        (components_text (E.meaning tree.now.engine) (components_of E.Engine tree.now).by_id) }
 {
     writer.put_u2(tree.greatest().0);
     put_rows(writer, tree);
@@ -97,8 +103,10 @@ fn put_components<E: Engine>(writer: &mut Writer, tree: &Tree<E>)
 
 // Puts the rows of all components, in ascending order of their ids.
 fn put_rows<E: Engine>(writer: &mut Writer, tree: &Tree<E>)
-    requires { length (rows_text (E.meaning tree.now.engine) (components_of E.Engine tree.now).by_id) ≤ room writer.old }
-    ensures { Appends writer.old writer.new (rows_text (E.meaning tree.now.engine) (components_of E.Engine tree.now).by_id) }
+    requires { length (rows_text (E.meaning tree.now.engine) (components_of E.Engine tree.now).by_id)
+        ≤ room writer.old }
+    ensures { Appends writer.old writer.new
+        (rows_text (E.meaning tree.now.engine) (components_of E.Engine tree.now).by_id) }
 {
     for id in 0..end_of_ids(tree) {
         put_row_at(writer, tree, Id(id));
@@ -107,8 +115,10 @@ fn put_rows<E: Engine>(writer: &mut Writer, tree: &Tree<E>)
 
 // Puts the row of the component with an id; nothing where it is not live.
 fn put_row_at<E: Engine>(writer: &mut Writer, tree: &Tree<E>, id: Id)
-    requires { length (row_at (E.meaning tree.now.engine) (components_of E.Engine tree.now).by_id id.0) ≤ room writer.old }
-    ensures { Appends writer.old writer.new (row_at (E.meaning tree.now.engine) (components_of E.Engine tree.now).by_id id.0) }
+    requires { length (row_at (E.meaning tree.now.engine) (components_of E.Engine tree.now).by_id id.0)
+        ≤ room writer.old }
+    ensures { Appends writer.old writer.new
+        (row_at (E.meaning tree.now.engine) (components_of E.Engine tree.now).by_id id.0) }
 {
     let mut bytes = [0; 443];
     let count = write_row(tree, id, &mut bytes);

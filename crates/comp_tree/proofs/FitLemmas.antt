@@ -1,10 +1,8 @@
 -- What a slot holds is of its type, and may be stored where the types go together.
-use Rattle.std.proofs.Common.{ℕ, ◌≡◌, Bool, true, false, refl, sym, ◌∙◌, ap, subst}
-use Rattle.std.specs.Prelude.{Option, Some, None, IsTrue, IsSome, IsSomeAnd, IfSome, is_some, [], ◌∷◌, map, ◌&&◌, ◌||◌, if◌then◌else◌}
+use Rattle.std.proofs.Common.{ℕ, ◌≡◌, Bool, true, false, refl, sym, subst}
+use Rattle.std.specs.Prelude.{Option, Some, None, IsTrue, IsSomeAnd, IfSome, ◌&&◌, ◌||◌}
 use Rattle.std.specs.Option.{option_and_then, option_map, option_map_or}
 use Rattle.std.specs.FinMap as finite
-use Rattle.std.specs.List.{list_any}
-use Rattle.std.specs.Str.{bytes_eq}
 use Rattle.std.proofs.lemmas.Bool.{eqb-true}
 use Rattle.sed_value.specs.SlotType.{goes_with, is_read_as_int, primitive_goes_with}
 use Rattle.sed_value.specs.Value.{goes_to, is_of_type, reads_as_int}
@@ -14,12 +12,9 @@ use Rattle.sed_value.specs.declared.slot_type.SlotType.{SlotType}
 use Rattle.sed_value.specs.declared.slot_type.SlotType.TheVariants.{Prim, Buf}
 use Rattle.sed_value.specs.declared.value.Value.{Value}
 use Rattle.sed_value.specs.declared.value.Value.TheVariants.{Nothing}
-use Rattle.sed_typed.specs.declared.program.FieldForm.{FieldForm}
-use Rattle.sed_typed.specs.Contents.{Contents, Path, value_at}
-use Rattle.sed_engine.specs.Code.{Meaning, Object, Places, may_store, property_type, slot_form, slot_path, slot_type, slot_value}
-use Rattle.sed_engine.specs.Fits.{Fits, form_at, form_of, is_kept, keeps}
-use Rattle.sed_engine.specs.Whole.{HasTables, IsObject, field_form}
-use Rattle.prop_values.proofs.StoredLemmas.{kept_at}
+use Rattle.sed_engine.specs.Code.{Meaning, Object, Places, may_store, property_type, slot_form, slot_type, slot_value}
+use Rattle.sed_engine.specs.Whole.{HasTables, IsObject}
+use Rattle.sed_engine.proofs.KeptSlots.{property_is_of_type}
 use Rattle.node_table.specs.declared.node.Node.{Node}
 use Rattle.comp_tree.specs.Application.{ById, Component, object_of, type_at, value_at as component_value}
 use Rattle.comp_tree.specs.Held.{IsPlaced, Nodes, by_id_of, component_of}
@@ -27,63 +22,6 @@ use Rattle.comp_tree.proofs.MapLemmas.{get-map_values}
 use Rattle.comp_tree.proofs.TreeLemmas.{kept_here}
 use Rattle.comp_tree.specs.Links.{go_together_if_there}
 pub use Rattle.sed_value.proofs.Options.{some_and}
-
--- ---- contents that fit
-
-some_is : {A : Type 0} (o : Option A) → IsSome o → (x : A) × (◌≡◌ {A = Option A} o (Some x))
-some_is None h = absurd (let no : false ≡ true = h in cc)
-some_is (Some x) h = (x, refl)
-
-has_path : (es : Contents) (p : Path) → is_some (value_at es p) ≡ list_any (λ q. bytes_eq q p) (map (λ e. e.0) es)
-has_path [] p = refl
-has_path (e ∷ es) p = by_test (bytes_eq e.0 p) (has_path es p)
-  where
-    by_test : (b : Bool) → is_some (value_at es p) ≡ list_any (λ q. bytes_eq q p) (map (λ e. e.0) es)
-        → is_some (if b then Some e.1 else value_at es p) ≡ (b || list_any (λ q. bytes_eq q p) (map (λ e. e.0) es))
-    by_test true rest = refl
-    by_test false rest = rest
-
-module _ (m : Meaning) (o : Object) (slot : ℕ) (t : SlotType) (tables : HasTables m) (fits : Fits m.fields (m.fields o.class) (m.initial o.class) o.contents) (is : slot_type m o.class slot ≡ Some t) where
-  field : (i : ℕ) × (m.slot_field o.class slot ≡ Some i) × (form_at (m.fields o.class) i ≡ Some (field_form t))
-  field = some_and (m.slot_field o.class slot) (subst (λ (s : Option SlotType). IfSome s (λ t. IsSomeAnd (m.slot_field o.class slot) (λ i. form_at (m.fields o.class) i ≡ Some (field_form t)))) is (tables.slot_fields o.class slot))
-
-  path_is : slot_path m o.class slot ≡ field.0 ∷ []
-  path_is = ap (λ s. option_map_or (λ i. i ∷ []) s []) field.1
-
-  first : IsSome (value_at (m.initial o.class) (slot_path m o.class slot))
-  first = subst (λ (s : Option SlotType). IfSome s (λ t. IsSome (value_at (m.initial o.class) (slot_path m o.class slot)))) is (tables.values o.class slot)
-
-  there : is_some (value_at o.contents (slot_path m o.class slot)) ≡ is_some (value_at (m.initial o.class) (slot_path m o.class slot))
-  there =
-      has_path o.contents (slot_path m o.class slot)
-      ∙ ap (λ paths. list_any (λ q. bytes_eq q (slot_path m o.class slot)) paths) fits.paths
-      ∙ sym (has_path (m.initial o.class) (slot_path m o.class slot))
-
-  value : (v : Value) × (value_at o.contents (slot_path m o.class slot) ≡ Some v)
-  value = found (value_at o.contents (slot_path m o.class slot)) refl (value_at (m.initial o.class) (slot_path m o.class slot)) first there
-    where
-      found : (s : Option Value) → value_at o.contents (slot_path m o.class slot) ≡ s → (f : Option Value) → IsSome f → is_some s ≡ is_some f
-          → (v : Value) × (value_at o.contents (slot_path m o.class slot) ≡ Some v)
-      found (Some v) at f some same = (v, at)
-      found None at (Some v) some same = absurd (let no : false ≡ true = same in cc)
-      found None at None some same = absurd (let no : false ≡ true = some in cc)
-
-  of_form : (t : SlotType) (v : Value) → IsTrue (keeps (field_form t) v) → IsTrue (is_of_type t v)
-  of_form (Prim p) v h = h
-  of_form (Buf n) v h = h
-
-  form_is : form_of m.fields (m.fields o.class) (slot_path m o.class slot) ≡ Some (field_form t)
-  form_is = ap (form_of m.fields (m.fields o.class)) path_is ∙ below (form_at (m.fields o.class) field.0) field.2
-    where
-      below : (f : Option FieldForm) → f ≡ Some (field_form t) → form_of m.fields (m.fields o.class) (field.0 ∷ []) ≡ Some (field_form t)
-      below f e = rw (field.2) refl
-
-  pub slot_is_of_type : IsTrue (is_of_type t (slot_value m o slot))
-  slot_is_of_type =
-      subst (λ v. IsTrue (is_of_type t v)) (sym (ap (λ s. option_map_or (λ v. v) s Nothing) value.1))
-      (of_form t value.0
-      (subst (λ f. IsTrue (is_kept f value.0)) form_is
-      (kept_at (form_of m.fields (m.fields o.class)) o.contents (slot_path m o.class slot) value.0 fits.values value.1)))
 
 -- ---- types that go together
 
@@ -159,7 +97,7 @@ slot_may_be_stored m o slot class other tables object go = by_types (slot_type m
         → IsTrue (go_together_if_there s t) → IsTrue (may_store m class other (slot_value m o slot))
     by_types (Some s) is (Some t) to go =
         subst (λ (t : Option SlotType). IsTrue (option_map_or (λ t. goes_to t (slot_value m o slot)) t false)) (sym to)
-        (goes_where s t (slot_value m o slot) go (slot_is_of_type m o slot s tables object.fits is))
+        (goes_where s t (slot_value m o slot) go (property_is_of_type m o slot s tables object.fits is))
     by_types (Some s) is None to go = absurd (let no : false ≡ true = go in cc)
     by_types None is t to go = absurd (let no : false ≡ true = go in cc)
 
@@ -177,7 +115,7 @@ read_is_of_type m all live id slot place out tables objects there value =
     by_type : (c : Component) → IsObject m (object_of c) → (s : Option SlotType) → slot_type m c.class slot ≡ s → (v : Value) → v ≡ slot_value m (object_of c) slot
         → IfSome s (λ t. IsTrue (is_of_type t v))
     by_type c object None type v e = tt {0}
-    by_type c object (Some t) type v e = subst (λ (v : Value). IsTrue (is_of_type t v)) (sym e) (slot_is_of_type m (object_of c) slot t tables object.fits type)
+    by_type c object (Some t) type v e = subst (λ (v : Value). IsTrue (is_of_type t v)) (sym e) (property_is_of_type m (object_of c) slot t tables object.fits type)
 
     by_component : (o : Object) → IsObject m o → out ≡ slot_value m o slot → (r : Option Component) → option_map object_of r ≡ Some o
         → IfSome (property_type (option_and_then (λ (c : Component). slot_form m c.class slot) r)) (λ t. IsTrue (is_of_type t out))

@@ -12,7 +12,7 @@ use Rattle.node_table.specs.declared.node.Node.{Node}
 use Rattle.comp_tree.specs.Application.{Component, data_size_of}
 use Rattle.comp_tree.specs.Held.{Nodes, IsPlaced, by_id_of, component_of}
 use Rattle.comp_tree.proofs.MapLemmas.{get_put, get_beside, kept_beside, len_less, taken_out, len_over, len_more, some_is, get-map_values}
-use Rattle.comp_tree.proofs.SumLemmas.{total_less, total_more, total_over}
+use Rattle.sed_value.proofs.Maps.{total_less, total_more, total_over}
 
 -- the component with an id
 pub get-by_id : (live : Places) (nodes : Nodes) (id : ℕ) → map.get (by_id_of live nodes) id ≡ option_map (component_of live) (map.get nodes id)

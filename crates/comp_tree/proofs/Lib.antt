@@ -1,5 +1,4 @@
 pub mod MapLemmas
-pub mod SumLemmas
 pub mod ShapeLemmas
 pub mod ShapeSteps
 pub mod SubtreeLemmas

@@ -30,7 +30,7 @@ use Rattle.comp_tree.proofs.EditLemmas.{children_is, live_same}
 use Rattle.comp_tree.proofs.HeldLemmas.{apart_from_new, by_id-put, component_with, get-by_id, placed_add}
 use Rattle.comp_tree.proofs.MapLemmas.{len-map_values, tied_apart}
 use Rattle.comp_tree.proofs.ShapeLemmas.{In, Once, once_from}
-use Rattle.comp_tree.proofs.SumLemmas.{total_more}
+use Rattle.sed_value.proofs.Maps.{total_more}
 
 -- ---- the entry at a place
 

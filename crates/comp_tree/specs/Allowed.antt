@@ -3,14 +3,17 @@ use Rattle.std.specs.Prelude.{ℕ, ◌≡◌, ◌<◌, Bool, not, nat_le, IsTrue
 use Rattle.std.specs.FinMap as map
 use Rattle.sed_value.specs.Names.{is_name}
 use Rattle.sed_value.specs.declared.refusal.Refusal.{Refusal}
-use Rattle.sed_value.specs.declared.refusal.Refusal.TheVariants.{AbstractType, BadName, ComponentLimit, DataFull, NameTaken, NoType, TooDeep, TooManyChildren}
+use Rattle.sed_value.specs.declared.refusal.Refusal.TheVariants.{AbstractType, BadName, ComponentLimit, DataFull}
+use Rattle.sed_value.specs.declared.refusal.Refusal.TheVariants.{NameTaken, NoType, TooDeep, TooManyChildren}
 use Rattle.sed_typed.specs.Schemas.{type_at as class_numbered}
 use Rattle.sed_engine.specs.Code.{Meaning, is_creatable}
-use Rattle.comp_tree.specs.Application.{ById, Components, children_of, greatest_depth, is_live, most_children, most_components}
+use Rattle.comp_tree.specs.Application.{ById, Components, children_of, greatest_depth, is_live, most_children}
+use Rattle.comp_tree.specs.Application.{most_components}
 use Rattle.comp_tree.specs.Order.{depth}
 use Rattle.prop_values.specs.Properties.{config_types}
 use Rattle.prop_values.specs.Read.{refusal_of_values}
-use Rattle.comp_tree.specs.Refusals.{first_refusal, has_no_type, is_abstract_type, is_child_named, passes_limit, refusals_of_add}
+use Rattle.comp_tree.specs.Refusals.{first_refusal, has_no_type, is_abstract_type, is_child_named, passes_limit}
+use Rattle.comp_tree.specs.Refusals.{refusals_of_add}
 
 -- the rows of an add that ask for the type
 abbrev pub kind_rows : Meaning → ℕ → ℕ → List (Bool × Refusal)
@@ -45,9 +48,11 @@ pub record IsNewChild (all : ById) (parent : ℕ) (name new : List ℕ) : Type 0
   pub allowed : first_refusal (child_rows all parent name) ≡ None
 
 -- only the data limit may still refuse an add
-pub record MayAdd (m : Meaning) (a : Components) (parent kit number : ℕ) (name config : List ℕ) (class : ℕ) (new : List ℕ) : Type 0 where
+pub record MayAdd (m : Meaning) (a : Components) (parent kit number : ℕ)
+    (name config : List ℕ) (class : ℕ) (new : List ℕ) : Type 0 where
   pub kind : IsKindToAdd m kit number class
   pub live : IsTrue (is_live a.by_id parent)
   pub child : IsNewChild a.by_id parent name new
   pub good : refusal_of_values (config_types m class) config ≡ None
-  pub refused : first_refusal (refusals_of_add m a parent kit number name config) ≡ first_refusal ((passes_limit m a kit number, DataFull) ∷ [])
+  pub refused : first_refusal (refusals_of_add m a parent kit number name config)
+      ≡ first_refusal ((passes_limit m a kit number, DataFull) ∷ [])

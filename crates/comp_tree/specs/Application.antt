@@ -12,8 +12,8 @@ pub use Rattle.node_table.specs.Limits.{most_children, most_components}
 use Rattle.sed_engine.specs.Code.{Meaning, Object, property_type, slot_form, slot_value}
 pub use Rattle.link_table.specs.Link.{Link, most_links}
 
--- a component: its class, its name, its parent, which the App alone has not, its children in their order, its values by path,
--- and its fault, 0 where it has none
+-- a component: its class, its name, its parent, which the App alone has not, its children in their order, its values by
+-- path, and its fault, 0 where it has none
 pub record Component : Type 0 where
   pub class : ℕ
   pub name : List ℕ

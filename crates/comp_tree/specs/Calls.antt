@@ -45,12 +45,13 @@ ended a id c e = record {
 abbrev pub not_run : Components → ℕ → Ran
 not_run a turns = record { left = a; end = Done turns }
 
--- a root call on a component with so many turns at a moment: a trap becomes its fault, and what was written before it stands;
--- while its fault is not 0 nothing is run
+-- a root call on a component with so many turns at a moment: a trap becomes its fault, and what was written before it
+-- stands; while its fault is not 0 nothing is run
 abbrev pub run_at : Meaning → Components → ℕ → Root → Value → ℕ → ℤ → Ran
 run_at m a id which argument turns moment =
     option_map_or
-    (λ c. if c.fault == 0 then ended a id c (root_of m (object_of c) a.statics which argument turns moment) else not_run a turns)
+    (λ c. if c.fault == 0 then ended a id c (root_of m (object_of c) a.statics which argument turns moment)
+    else not_run a turns)
     (map.get a.by_id id)
     (not_run a turns)
 
@@ -84,4 +85,5 @@ then_run s call = record { left = (call s.left).left; traps = s.traps + traps_of
 
 -- the same callback of several components, one after another
 abbrev pub call_each : Meaning → Callback-type → ℕ → ℤ → Components → List ℕ → Counted
-call_each m c turns moment a ids = fold (λ s id. then_run s (λ a. Call m a id c 0 turns moment)) (record { left = a; traps = 0 }) ids
+call_each m c turns moment a ids =
+    fold (λ s id. then_run s (λ a. Call m a id c 0 turns moment)) (record { left = a; traps = 0 }) ids

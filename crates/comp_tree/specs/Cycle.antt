@@ -28,4 +28,5 @@ Cycle m a turns moment =
 
 -- `start` of each component, depth first
 abbrev pub Begin : Meaning → Application → ℕ → ℤ → Cycled
-Begin m a turns moment = with_links a.links (call_each m Start turns moment a.components (depth_first a.components.by_id))
+Begin m a turns moment =
+    with_links a.links (call_each m Start turns moment a.components (depth_first a.components.by_id))

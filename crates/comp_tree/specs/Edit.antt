@@ -1,5 +1,6 @@
 -- One command to an application: the number of a refusal, or the application after it and the reply.
-use Rattle.std.specs.Prelude.{ℕ, ℤ, ◌==◌, ◌&&◌, Bool, if◌then◌else◌, List, [], ◌++◌, length, Option, Some, None, Result, Ok, Err}
+use Rattle.std.specs.Prelude.{ℕ, ℤ, ◌==◌, ◌&&◌, Bool, if◌then◌else◌, List, [], ◌++◌, length, Option, Some, None, Result}
+use Rattle.std.specs.Prelude.{Ok, Err}
 use Rattle.std.specs.Option.{option_and_then, option_map_or}
 use Rattle.std.specs.List.{flat_map}
 use Rattle.std.specs.Int.{w32, bytes_high_first, cast_unsigned}
@@ -10,11 +11,14 @@ use Rattle.sed_value.specs.Refusal.{number_of_refusal}
 use Rattle.sed_typed.specs.Schemas.{type_at as class_numbered}
 use Rattle.sed_engine.specs.Code.{Meaning}
 use Rattle.comp_tree.specs.Application.{Application, Component, Components, Link, value_at}
-use Rattle.comp_tree.specs.Edits.{after_add, after_clear, after_delete, after_invoke, after_rename, after_reorder, after_write}
+use Rattle.comp_tree.specs.Edits.{after_add, after_clear, after_delete, after_invoke, after_rename, after_reorder}
+use Rattle.comp_tree.specs.Edits.{after_write}
 use Rattle.comp_tree.specs.Links.{with_link, without_link, without_links_at}
 use Rattle.comp_tree.specs.Order.{least_free, subtree}
 use Rattle.comp_tree.specs.Parts.{part_of, text, u1}
-use Rattle.comp_tree.specs.Refusals.{first_refusal, refusals_of_add, refusals_of_clear, refusals_of_delete, refusals_of_invoke, refusals_of_link, refusals_of_part, refusals_of_read, refusals_of_rename, refusals_of_reorder, refusals_of_unlink, refusals_of_write}
+use Rattle.comp_tree.specs.Refusals.{first_refusal, refusals_of_add, refusals_of_clear, refusals_of_delete}
+use Rattle.comp_tree.specs.Refusals.{refusals_of_invoke, refusals_of_link, refusals_of_part, refusals_of_read}
+use Rattle.comp_tree.specs.Refusals.{refusals_of_rename, refusals_of_reorder, refusals_of_unlink, refusals_of_write}
 use Rattle.prop_values.specs.Values.{spelling_of}
 
 pub data Command : Type 0 where
@@ -75,7 +79,8 @@ class_or_none m kit number = option_map_or (λ class. class) (class_numbered m.s
 
 abbrev pub part_bytes : Meaning → Application → ℕ → ℕ → List ℕ
 part_bytes m a id letter =
-    option_map_or (λ bytes. bytes) (option_and_then (λ (c : Component). part_of m a.links id c letter) (map.get a.components.by_id id)) []
+    option_map_or (λ bytes. bytes)
+    (option_and_then (λ (c : Component). part_of m a.links id c letter) (map.get a.components.by_id id)) []
 
 abbrev pub Edit : Meaning → Application → Command → ℕ → ℤ → Result Edited ℕ
 Edit m a (Add parent kit number name config) turns moment =
@@ -94,7 +99,8 @@ Edit m a (Delete id) turns moment =
     }))
 Edit m a (Invoke id slot argument) turns moment =
     unless_refused (first_refusal (refusals_of_invoke m a.components.by_id id slot argument))
-    (done (if is_save id slot then a else over a (after_invoke m a.components id (record { 0 = slot }) argument turns moment).left))
+    (done (if is_save id slot then a
+    else over a (after_invoke m a.components id (record { 0 = slot }) argument turns moment).left))
 Edit m a (Connect link) turns moment =
     unless_refused (first_refusal (refusals_of_link m a.components.by_id a.links link))
     (done (record { components = a.components; links = with_link link a.links }))
@@ -102,15 +108,21 @@ Edit m a (Disconnect link) turns moment =
     unless_refused (first_refusal (refusals_of_unlink a.links link))
     (done (record { components = a.components; links = without_link link a.links }))
 Edit m a (Rename id name) turns moment =
-    unless_refused (first_refusal (refusals_of_rename a.components.by_id id name)) (done (over a (after_rename a.components id name)))
+    unless_refused (first_refusal (refusals_of_rename a.components.by_id id name))
+    (done (over a (after_rename a.components id name)))
 Edit m a (Reorder id children) turns moment =
-    unless_refused (first_refusal (refusals_of_reorder a.components.by_id id children)) (done (over a (after_reorder a.components id children)))
+    unless_refused (first_refusal (refusals_of_reorder a.components.by_id id children))
+    (done (over a (after_reorder a.components id children)))
 Edit m a (ReadSlot id slot) turns moment =
-    unless_refused (first_refusal (refusals_of_read m a.components.by_id id slot)) (told a (spelling_of (value_at m a.components.by_id id slot)))
+    unless_refused (first_refusal (refusals_of_read m a.components.by_id id slot))
+    (told a (spelling_of (value_at m a.components.by_id id slot)))
 Edit m a (Subscribe id) turns moment = unless_refused (first_refusal (refusals_of_clear a.components.by_id id)) (done a)
-Edit m a (Unsubscribe id) turns moment = unless_refused (first_refusal (refusals_of_clear a.components.by_id id)) (done a)
+Edit m a (Unsubscribe id) turns moment =
+    unless_refused (first_refusal (refusals_of_clear a.components.by_id id)) (done a)
 Edit m a Version turns moment = Ok (told a (schema_bytes m))
 Edit m a (Write id slot value) turns moment =
-    unless_refused (first_refusal (refusals_of_write m a.components.by_id id slot value)) (done (over a (after_write m a.components id slot value turns moment)))
+    unless_refused (first_refusal (refusals_of_write m a.components.by_id id slot value))
+    (done (over a (after_write m a.components id slot value turns moment)))
 Edit m a (Clear id) turns moment =
-    unless_refused (first_refusal (refusals_of_clear a.components.by_id id)) (done (over a (after_clear a.components id)))
+    unless_refused (first_refusal (refusals_of_clear a.components.by_id id))
+    (done (over a (after_clear a.components id)))

@@ -24,10 +24,24 @@ use Rattle.comp_tree.specs.Refusals.{ids_of, invoke_types, write_types}
 -- ---- parts of a component that change
 
 abbrev pub with_name : List ℕ → Component → Component
-with_name name c = record { class = c.class; name = name; parent = c.parent; children = c.children; contents = c.contents; fault = c.fault }
+with_name name c = record {
+  class = c.class;
+  name = name;
+  parent = c.parent;
+  children = c.children;
+  contents = c.contents;
+  fault = c.fault;
+}
 
 abbrev pub with_children : List ℕ → Component → Component
-with_children children c = record { class = c.class; name = c.name; parent = c.parent; children = children; contents = c.contents; fault = c.fault }
+with_children children c = record {
+  class = c.class;
+  name = c.name;
+  parent = c.parent;
+  children = children;
+  contents = c.contents;
+  fault = c.fault;
+}
 
 abbrev pub with_child : ℕ → Component → Component
 with_child id c = with_children (c.children ++ id ∷ []) c
@@ -36,11 +50,19 @@ abbrev pub without_child : ℕ → Component → Component
 without_child id c = with_children (filter (λ child. not (child == id)) c.children) c
 
 abbrev pub without_fault : Component → Component
-without_fault c = record { class = c.class; name = c.name; parent = c.parent; children = c.children; contents = c.contents; fault = 0 }
+without_fault c = record {
+  class = c.class;
+  name = c.name;
+  parent = c.parent;
+  children = c.children;
+  contents = c.contents;
+  fault = 0;
+}
 
 -- ---- add
 
--- a new component: its config properties have these values, stored in the order of the slots, and the rest is as it begins
+-- a new component: its config properties have these values, stored in the order of the slots, and the rest is as it
+-- begins
 abbrev pub new_component : Meaning → Option ℕ → ℕ → List ℕ → List Value → Component
 new_component m parent class name values = record {
   class = class;
@@ -60,7 +82,8 @@ added m all id parent class name values =
 abbrev pub after_add : Meaning → Components → ℕ → ℕ → List ℕ → List ℕ → ℕ → ℤ → Ran
 after_add m a parent class name config turns moment =
     let id : ℕ = least_free a.by_id in
-    Call m (with_components a (added m a.by_id id parent class name (taken (config_types m class) config))) id Start 0 turns moment
+    Call m (with_components a (added m a.by_id id parent class name (taken (config_types m class) config)))
+    id Start 0 turns moment
 
 -- ---- delete
 
@@ -71,7 +94,8 @@ without_all ids all = map.retain_keys all (λ id. not (list_any (λ other. other
 -- without a component and those below it: its parent has one child less
 abbrev pub removed : ById → ℕ → ById
 removed all id =
-    without_all (subtree all id) (option_map_or (λ parent. change_at all parent (without_child id)) (parent_of all id) all)
+    without_all (subtree all id)
+    (option_map_or (λ parent. change_at all parent (without_child id)) (parent_of all id) all)
 
 -- first the `stop` of each is called, depth first
 abbrev pub after_delete : Meaning → Components → ℕ → ℕ → ℤ → Components
@@ -118,4 +142,5 @@ app_component m = record {
 }
 
 abbrev pub first_components : Meaning → Contents → ℕ → Components
-first_components m statics limit = record { by_id = map.insert map.empty 0 (app_component m); statics = statics; limit = limit }
+first_components m statics limit =
+    record { by_id = map.insert map.empty 0 (app_component m); statics = statics; limit = limit }

@@ -1,4 +1,3 @@
-pub mod Mapped
 pub mod Application
 pub mod Order
 pub mod Values

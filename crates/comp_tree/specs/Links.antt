@@ -4,7 +4,8 @@ use Rattle.std.specs.List.{fold}
 use Rattle.sed_value.specs.SlotType.{goes_with}
 use Rattle.sed_value.specs.declared.slot_type.SlotType.{SlotType}
 use Rattle.sed_value.specs.declared.value.Value.{Value}
-pub use Rattle.link_table.specs.Links.{is_same_link, has_target, is_before, with_link, without_link, without_links_at, links_into}
+pub use Rattle.link_table.specs.Links.{is_same_link, has_target, is_before, with_link, without_link, without_links_at}
+pub use Rattle.link_table.specs.Links.{links_into}
 use Rattle.sed_engine.specs.declared.call.Callback.TheVariants.{Changed}
 use Rattle.sed_engine.specs.Code.{Meaning, with_slot}
 use Rattle.comp_tree.specs.Application.{Component, Components, Link, change_at, object_of, value_at, with_components}
@@ -36,7 +37,8 @@ store m a id slot v = with_components a (change_at a.by_id id (with_value m slot
 
 -- the stored value differs from the one before
 abbrev pub has_changed : Meaning → Components → Components → ℕ → ℕ → Bool
-has_changed m before after id slot = not (is_same_value (value_at m before.by_id id slot) (value_at m after.by_id id slot))
+has_changed m before after id slot =
+    not (is_same_value (value_at m before.by_id id slot) (value_at m after.by_id id slot))
 
 -- what is copied along a link: the source's value, stored in the target
 abbrev pub copy : Meaning → Components → Link → Components

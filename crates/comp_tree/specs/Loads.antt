@@ -9,11 +9,12 @@ use Rattle.sed_engine.specs.Code.{Meaning, is_creatable, new_object}
 use Rattle.prop_values.specs.Properties.{config_slots, config_types, with_slots}
 use Rattle.prop_values.specs.Values.{AreOfTypes}
 use Rattle.comp_tree.specs.declared.loaded.Loaded.{Loaded}
-use Rattle.comp_tree.specs.Application.{ById, Component, Components, children_of, is_live, most_children, most_components, parent_of}
+use Rattle.comp_tree.specs.Application.{ById, Component, Components, children_of, is_live, most_children}
+use Rattle.comp_tree.specs.Application.{most_components, parent_of}
 use Rattle.comp_tree.specs.Shape.{IsTree}
 
--- the component of an entry: its config properties have the values that the entry gives, stored in the order of the slots,
--- and the rest is as it begins
+-- the component of an entry: its config properties have the values that the entry gives, stored in the order of the
+-- slots, and the rest is as it begins
 abbrev pub loaded_component : Meaning → Loaded → Component
 loaded_component m l = record {
   class = l.kind.0;

@@ -1,5 +1,5 @@
--- Marks of a tree: which of the parts t, c and r of a component may have changed since they were settled for a session place;
--- and the table of the marks that each call may set.
+-- Marks of a tree: which of the parts t, c and r of a component may have changed since they were settled for a session
+-- place; and the table of the marks that each call may set.
 use Rattle.std.specs.Prelude.{ℕ, ◌≡◌, ◌⊎◌, ◌==◌, Bool, true, false, if◌then◌else◌, IsTrue, List, []}
 use Rattle.std.specs.List.{list_any}
 use Rattle.std.specs.Option.{option_map_or}
@@ -8,7 +8,8 @@ use Rattle.sed_engine.specs.declared.engine.Engine.{Ghosts}
 use Rattle.sed_engine.specs.Code.{Meaning}
 use Rattle.node_table.specs.declared.marks.Parts.{Parts}
 use Rattle.node_table.specs.declared.node.Node.{Node}
-pub use Rattle.node_table.specs.Marks.{all_parts, tree_parts, value_parts, with_parts, without_parts, parts_at, mask_of, parts_in}
+pub use Rattle.node_table.specs.Marks.{all_parts, tree_parts, value_parts, with_parts, without_parts, parts_at, mask_of}
+pub use Rattle.node_table.specs.Marks.{parts_in}
 use Rattle.comp_tree.specs.Application.{ById, Component, is_live, parent_of}
 use Rattle.comp_tree.specs.Held.{Held, Nodes, components_of}
 use Rattle.comp_tree.specs.Parts.{config_part, runtime_part, tree_part}
@@ -51,15 +52,18 @@ no_parts = record { tree = false; config = false; runtime = false }
 abbrev pub only : ℕ → Parts → ℕ → Parts
 only at parts id = if id == at then parts else no_parts
 
--- what a call does to the marks, where it may set those of a row: a mark that is clear after it was clear before, and the
--- bytes of its part are the same; of what is live after, at most the row's marks are set and none is cleared
+-- what a call does to the marks, where it may set those of a row: a mark that is clear after it was clear before, and
+-- the bytes of its part are the same; of what is live after, at most the row's marks are set and none is cleared
 pub record KeepsMarks {E : Type 0} (g : Ghosts E) (row : ℕ → Parts) (before after : Held E) : Type 0 where
   pub tells : (id place : ℕ) (part : Part) → is_among part (marks_at after id place) ≡ false →
       (is_among part (marks_at before id place) ≡ false)
-      × (part_at (g.meaning before.engine) (components_of g before).by_id id part ≡ part_at (g.meaning after.engine) (components_of g after).by_id id part)
-  pub sets : (id place : ℕ) (part : Part) → IsTrue (is_live (components_of g after).by_id id) → is_among part (marks_at after id place) ≡ true →
+      × (part_at (g.meaning before.engine) (components_of g before).by_id id part
+      ≡ part_at (g.meaning after.engine) (components_of g after).by_id id part)
+  pub sets : (id place : ℕ) (part : Part) → IsTrue (is_live (components_of g after).by_id id)
+      → is_among part (marks_at after id place) ≡ true →
       (is_among part (marks_at before id place) ≡ true) ⊎ (is_among part (row id) ≡ true)
-  pub clears_none : (id place : ℕ) (part : Part) → IsTrue (is_live (components_of g after).by_id id) → is_among part (marks_at before id place) ≡ true →
+  pub clears_none : (id place : ℕ) (part : Part) → IsTrue (is_live (components_of g after).by_id id)
+      → is_among part (marks_at before id place) ≡ true →
       is_among part (marks_at after id place) ≡ true
 
 -- ---- the table: the marks that each call may set, for every place

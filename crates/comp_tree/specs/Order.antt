@@ -8,7 +8,8 @@ use Rattle.comp_tree.specs.Application.{ById, children_of, greatest_depth, is_li
 abbrev pub most_levels : ℕ
 most_levels = suc greatest_depth
 
--- the components at and below one, depth first: a parent before its children, and these in their order; down to so many levels
+-- the components at and below one, depth first: a parent before its children, and these in their order; down to so many
+-- levels
 unfoldable pub down_from : ById → ℕ → ℕ → List ℕ
 down_from all zero id = []
 down_from all (suc levels) id = id ∷ flat_map (down_from all levels) (children_of all id)

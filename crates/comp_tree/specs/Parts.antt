@@ -7,9 +7,10 @@ use Rattle.sed_typed.specs.declared.schema.ClassInfo.{ClassInfo}
 use Rattle.sed_typed.specs.Contents.{Contents}
 use Rattle.sed_engine.specs.Code.{Meaning, new_object, slot_value}
 pub use Rattle.link_table.specs.Links.{links_at}
-pub use Rattle.prop_values.specs.Properties.{is_property_form, is_config, is_runtime, slots_that, config_slots, runtime_slots, with_slots}
+pub use Rattle.prop_values.specs.Properties.{is_property_form, is_config, is_runtime, slots_that, config_slots}
+pub use Rattle.prop_values.specs.Properties.{runtime_slots, with_slots}
 pub use Rattle.sed_wire.specs.Number.{u1, u2}
-use Rattle.comp_tree.specs.Mapped.{map_values}
+use Rattle.sed_value.specs.Mapped.{map_values}
 use Rattle.comp_tree.specs.Application.{Application, ById, Component, Link, object_of}
 use Rattle.prop_values.specs.Values.{spelling_of_all}
 
@@ -71,7 +72,8 @@ part_of m links id c letter =
 -- the contents of a new object, but with a component's values in the config slots
 abbrev pub kept_contents : Meaning → Component → Contents
 kept_contents m c =
-    (with_slots m (map (λ slot. (slot, slot_value m (object_of c) slot)) (config_slots m c.class)) (new_object m c.class)).contents
+    (with_slots m (map (λ slot. (slot, slot_value m (object_of c) slot)) (config_slots m c.class))
+    (new_object m c.class)).contents
 
 abbrev pub kept_component : Meaning → Component → Component
 kept_component m c = record {
@@ -89,6 +91,10 @@ kept_by_id m all = map_values (kept_component m) all
 -- the application with runtime slots, other fields, statics and faults as they begin
 abbrev pub Kept : Meaning → Application → Application
 Kept m a = record {
-  components = record { by_id = kept_by_id m a.components.by_id; statics = m.initial_statics; limit = a.components.limit };
+  components = record {
+    by_id = kept_by_id m a.components.by_id;
+    statics = m.initial_statics;
+    limit = a.components.limit;
+  };
   links = a.links;
 }

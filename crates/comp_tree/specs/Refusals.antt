@@ -1,14 +1,20 @@
--- When a command is refused. Each table has a row for each refusal: its condition, and its name. The refusals stand in the
--- order of their rows, and the first whose condition holds is given. Want of memory stands in none, for it may come
+-- When a command is refused. Each table has a row for each refusal: its condition, and its name. The refusals stand in
+-- the order of their rows, and the first whose condition holds is given. Want of memory stands in none, for it may come
 -- wherever no refusal of an add or of a new link does.
-use Rattle.std.specs.Prelude.{ℕ, ◌==◌, ◌||◌, ◌&&◌, ◌+◌, ◌*◌, Bool, true, false, not, is_none, nat_le, nat_lt, List, [], ◌∷◌, length, Option, Some, None, count_by}
+use Rattle.std.specs.Prelude.{ℕ, ◌==◌, ◌||◌, ◌&&◌, ◌+◌, ◌*◌, Bool, true, false, not, is_none, nat_le, nat_lt, List, []}
+use Rattle.std.specs.Prelude.{◌∷◌, length, Option, Some, None, count_by}
 use Rattle.std.specs.List.{list_all, list_any}
 use Rattle.std.specs.Option.{option_map, option_map_or, option_to_list}
 use Rattle.std.specs.FinMap as map
 use Rattle.std.specs.Str.{bytes_eq}
 use Rattle.sed_value.specs.Names.{is_name}
 use Rattle.sed_value.specs.declared.refusal.Refusal.{Refusal}
-use Rattle.sed_value.specs.declared.refusal.Refusal.TheVariants.{AbstractType, AppItself, BadName, BadValue, BufferTooLong, ComponentLimit, DataFull, Faulted, LinkLimit, LinksAtComponent, LinkTypesDiffer, NameTaken, NoComponent, NoLink, NoSlot, NotTheChildren, NoType, TargetLinked, TooDeep, TooManyChildren, WrongKindOfSlot}
+use Rattle.sed_value.specs.declared.refusal.Refusal.TheVariants.{AbstractType, AppItself, BadName, BadValue}
+use Rattle.sed_value.specs.declared.refusal.Refusal.TheVariants.{BufferTooLong, ComponentLimit, DataFull, Faulted}
+use Rattle.sed_value.specs.declared.refusal.Refusal.TheVariants.{LinkLimit, LinksAtComponent, LinkTypesDiffer}
+use Rattle.sed_value.specs.declared.refusal.Refusal.TheVariants.{NameTaken, NoComponent, NoLink, NoSlot, NotTheChildren}
+use Rattle.sed_value.specs.declared.refusal.Refusal.TheVariants.{NoType, TargetLinked, TooDeep, TooManyChildren}
+use Rattle.sed_value.specs.declared.refusal.Refusal.TheVariants.{WrongKindOfSlot}
 use Rattle.sed_value.specs.declared.slot_type.SlotType.{SlotType}
 use Rattle.sed_typed.specs.declared.schema.ActionArg.{ActionArg}
 use Rattle.sed_typed.specs.declared.schema.SlotForm.{SlotForm}
@@ -19,7 +25,9 @@ use Rattle.sed_typed.specs.TypedSchema.{is_abstract}
 use Rattle.sed_engine.specs.Code.{Meaning}
 pub use Rattle.prop_values.specs.Properties.{config_types, argument_types}
 pub use Rattle.prop_values.specs.Rows.{first_refusal}
-use Rattle.comp_tree.specs.Application.{ById, Components, Link, children_of, data_size_of, fault_of, form_at, greatest_depth, is_live, most_children, most_components, most_links, most_links_at_component, name_of, parent_of, type_at}
+use Rattle.comp_tree.specs.Application.{ById, Components, Link, children_of, data_size_of, fault_of, form_at}
+use Rattle.comp_tree.specs.Application.{greatest_depth, is_live, most_children, most_components, most_links}
+use Rattle.comp_tree.specs.Application.{most_links_at_component, name_of, parent_of, type_at}
 use Rattle.comp_tree.specs.Links.{go_together_if_there, has_target, is_same_link}
 use Rattle.comp_tree.specs.Order.{depth}
 use Rattle.comp_tree.specs.Parts.{links_at}
@@ -36,7 +44,8 @@ abbrev pub is_for_components : Meaning → ℕ → Bool
 is_for_components m class = typed.is_for_components m.schema.classes class
 
 abbrev pub has_no_type : Meaning → ℕ → ℕ → Bool
-has_no_type m kit number = option_map_or (λ class. not (is_for_components m class)) (class_numbered m.schema.classes kit number) true
+has_no_type m kit number =
+    option_map_or (λ class. not (is_for_components m class)) (class_numbered m.schema.classes kit number) true
 
 abbrev pub is_abstract_class : Meaning → ℕ → Bool
 is_abstract_class m class = is_abstract m.schema.classes class
@@ -51,7 +60,8 @@ is_child_named all parent name = list_any (λ child. bytes_eq (name_of all child
 -- a child of a component's parent has the name, and is another one
 abbrev pub is_other_child_named : ById → ℕ → List ℕ → Bool
 is_other_child_named all id name =
-    option_map_or (λ parent. list_any (λ child. not (child == id) && bytes_eq (name_of all child) name) (children_of all parent)) (parent_of all id) false
+    option_map_or (λ parent. list_any (λ child. not (child == id) && bytes_eq (name_of all child) name)
+    (children_of all parent)) (parent_of all id) false
 
 -- the types of the values that an add gives
 abbrev pub config_types_of : Meaning → ℕ → ℕ → List SlotType
@@ -59,7 +69,8 @@ config_types_of m kit number = option_map_or (config_types m) (class_numbered m.
 
 abbrev pub passes_limit : Meaning → Components → ℕ → ℕ → Bool
 passes_limit m a kit number =
-    option_map_or (λ class. nat_lt a.limit (data_size_of m a.by_id + m.data_size class)) (class_numbered m.schema.classes kit number) false
+    option_map_or (λ class. nat_lt a.limit (data_size_of m a.by_id + m.data_size class))
+    (class_numbered m.schema.classes kit number) false
 
 abbrev pub action_argument : Option SlotForm → Option ActionArg
 action_argument None = None
@@ -84,7 +95,8 @@ ids_of (high ∷ low ∷ bytes) = option_map (λ ids. (high * 256 + low) ∷ ids
 
 -- they are these, each once
 abbrev pub are_each_once : List ℕ → List ℕ → Bool
-are_each_once children ids = (length ids == length children) && list_all (λ child. count_by (λ id. id == child) ids == 1) children
+are_each_once children ids = (length ids == length children)
+    && list_all (λ child. count_by (λ id. id == child) ids == 1) children
 
 abbrev pub are_the_children : ById → ℕ → List ℕ → Bool
 are_the_children all id bytes = option_map_or (are_each_once (children_of all id)) (ids_of bytes) false
@@ -136,7 +148,11 @@ refusals_of_link m all links l =
     ∷ (is_none (type_at m all l.from l.from_slot) || is_none (type_at m all l.to l.to_slot), WrongKindOfSlot)
     ∷ (not (go_together_if_there (type_at m all l.from l.from_slot) (type_at m all l.to l.to_slot)), LinkTypesDiffer)
     ∷ (list_any (has_target l.to l.to_slot) links, TargetLinked)
-    ∷ (nat_le most_links_at_component (length (links_at l.from links)) || nat_le most_links_at_component (length (links_at l.to links)), LinksAtComponent)
+    ∷ (
+      nat_le most_links_at_component (length (links_at l.from links))
+          || nat_le most_links_at_component (length (links_at l.to links)),
+      LinksAtComponent,
+    )
     ∷ (nat_le most_links (length links), LinkLimit)
     ∷ []
 

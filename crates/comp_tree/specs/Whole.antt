@@ -1,5 +1,6 @@
 -- What holds of every application.
-use Rattle.std.specs.Prelude.{ℕ, ◌≡◌, ◌↔◌, ◌<◌, ◌≤◌, not, IsTrue, IfSome, IsSomeAnd, length, codes, map as map_list, Some, None, nat_eq}
+use Rattle.std.specs.Prelude.{ℕ, ◌≡◌, ◌↔◌, ◌<◌, ◌≤◌, not, IsTrue, IfSome, IsSomeAnd, length, codes, map as map_list}
+use Rattle.std.specs.Prelude.{Some, None, nat_eq}
 use Rattle.std.specs.List.{All, AllPairs, Contains, IsDistinct}
 use Rattle.std.specs.Str.{bytes_eq}
 use Rattle.std.specs.FinMap as map
@@ -8,7 +9,9 @@ use Rattle.sed_typed.specs.Schemas.{type_at as class_numbered}
 use Rattle.sed_typed.specs.SysTypes.{app_type}
 use Rattle.sed_engine.specs.Code.{Meaning}
 use Rattle.sed_engine.specs.Fits.{Fits}
-use Rattle.comp_tree.specs.Application.{Application, ById, Component, Link, children_of, data_size_of, is_live, most_children, most_components, most_links, most_links_at_component, name_of, parent_of, type_at}
+use Rattle.comp_tree.specs.Application.{Application, ById, Component, Link, children_of, data_size_of, is_live}
+use Rattle.comp_tree.specs.Application.{most_children, most_components, most_links, most_links_at_component, name_of}
+use Rattle.comp_tree.specs.Application.{parent_of, type_at}
 use Rattle.comp_tree.specs.Links.{go_together_if_there, is_before}
 use Rattle.comp_tree.specs.Order.{depth_first}
 use Rattle.comp_tree.specs.Parts.{links_at}
@@ -40,11 +43,13 @@ pub record Whole (m : Meaning) (a : Application) : Type 0 where
   pub reached : (id : ℕ) → IsTrue (is_live a.components.by_id id) ↔ Contains (depth_first a.components.by_id) id
   pub once : IsDistinct nat_eq (depth_first a.components.by_id)
   -- a component is among the children of its parent, and of no other; nothing else is among anybody's children
-  pub parents : (id up : ℕ) → (parent_of a.components.by_id id ≡ Some up) ↔ Contains (children_of a.components.by_id up) id
+  pub parents : (id up : ℕ)
+      → (parent_of a.components.by_id id ≡ Some up) ↔ Contains (children_of a.components.by_id up) id
   pub app : IsSomeAnd (map.get a.components.by_id 0) (IsApp m)
   pub others : Each a.components.by_id (λ id c. 0 < id → IsOther m c)
   pub names : Each a.components.by_id (λ id c. IsTrue (is_name c.name))
-  pub siblings : Each a.components.by_id (λ id c. IsDistinct bytes_eq (map_list (name_of a.components.by_id) c.children))
+  pub siblings : Each a.components.by_id (λ id c.
+      IsDistinct bytes_eq (map_list (name_of a.components.by_id) c.children))
   pub links : All (IsLink m a.components.by_id) a.links
   -- so no two have one target
   pub order : AllPairs (λ k l. IsTrue (is_before k l)) a.links
@@ -52,8 +57,8 @@ pub record Whole (m : Meaning) (a : Application) : Type 0 where
   -- 0, or the number of a trap
   pub faults : Each a.components.by_id (λ id c. c.fault ≤ 5)
   pub statics : Fits m.fields m.static_fields m.initial_statics a.components.statics
-  -- the limits; that of depth is within `reached`. As ids are below 4,096, no more components than that are live, and where
-  -- fewer are there is a least free id
+  -- the limits; that of depth is within `reached`. As ids are below 4,096, no more components than that are live, and
+  -- where fewer are there is a least free id
   pub ids : Each a.components.by_id (λ id c. id < most_components)
   pub children : Each a.components.by_id (λ id c. length c.children ≤ most_children)
   pub link_count : length a.links ≤ most_links

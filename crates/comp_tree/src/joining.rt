@@ -19,7 +19,9 @@ use sed_value::{Id, Name, Refusal};
 
 /// The class of which a component is to be made, or why there may be none.
 pub fn kind_to_add(schema: &Schema, kit: u8, number: u8) -> Result<TypeNo, Refusal>
-    ensures { (m : Meaning) → m.schema ≡ schema.now → MatchResult result (λ kind. IsKindToAdd m kit number kind.0) (λ refusal. first_refusal (kind_rows m kit number) ≡ Some refusal) }
+    ensures { (m : Meaning) → m.schema ≡ schema.now
+        → MatchResult result (λ kind. IsKindToAdd m kit number kind.0)
+        (λ refusal. first_refusal (kind_rows m kit number) ≡ Some refusal) }
 {
     let Some(kind) = schema.type_of(kit, number) else {
         return Err(Refusal::NoType);
@@ -36,7 +38,9 @@ pub fn kind_to_add(schema: &Schema, kit: u8, number: u8) -> Result<TypeNo, Refus
 /// The name that a new child of a parent is to have, or why there may be none.
 pub fn new_child(nodes: &Nodes, parent: Id, name: &[u8]) -> Result<Name, Refusal>
     requires { IsSome (map.get nodes.now parent.0) }
-    ensures { (live : Places) → MatchResult result (λ new. IsNewChild (by_id_of live nodes.now) parent.0 name.now new) (λ refusal. first_refusal (child_rows (by_id_of live nodes.now) parent.0 name.now) ≡ Some refusal) }
+    ensures { (live : Places)
+        → MatchResult result (λ new. IsNewChild (by_id_of live nodes.now) parent.0 name.now new)
+        (λ refusal. first_refusal (child_rows (by_id_of live nodes.now) parent.0 name.now) ≡ Some refusal) }
 {
     let Some(node) = nodes.get(parent) else {
         return Err(Refusal::NoComponent);

@@ -9,13 +9,15 @@ ghost use Rattle.comp_tree.specs.Shape.{IsTree, up_by};
 pub fn trees_are_walked_once()
     ensures reached { (all : ById) → IsTree (is_live all) (parent_of all) (children_of all)
         → (id : ℕ) → IsTrue (is_live all id) ↔ Contains (depth_first all) id }
-    ensures once { (all : ById) → IsTree (is_live all) (parent_of all) (children_of all) → IsDistinct nat_eq (depth_first all) }
+    ensures once { (all : ById) → IsTree (is_live all) (parent_of all) (children_of all)
+        → IsDistinct nat_eq (depth_first all) }
 {}
 
-/// Where whatever stands among the children of a component names it as its parent, what the depth-first list has comes up to the App
-/// in as many steps as it stands deep, which are at most 16.
+/// Where whatever stands among the children of a component names it as its parent, what the depth-first list has comes
+/// up to the App in as many steps as it stands deep, which are at most 16.
 pub fn walked_ids_are_shallow()
-    ensures { (all : ById) → parent_of all 0 ≡ None → ((id up : ℕ) → Contains (children_of all up) id → parent_of all id ≡ Some up)
+    ensures { (all : ById) → parent_of all 0 ≡ None
+        → ((id up : ℕ) → Contains (children_of all up) id → parent_of all id ≡ Some up)
         → (id : ℕ) → Contains (depth_first all) id
         → (n : ℕ) × (n ≤ 16) × (up_by (parent_of all) n id ≡ Some 0) × (depth all id ≡ n) }
 {}

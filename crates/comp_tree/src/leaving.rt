@@ -67,7 +67,8 @@ pub fn remove_each<E: Engine>(engine: &mut E, nodes: &mut Nodes, ids: &[u16])
     requires once { IsDistinct nat_eq ids.now }
     ensures placed { IsPlaced (E.meaning engine.new) (E.live engine.new) nodes.new }
     ensures nodes { nodes.new ≡ without_all ids.now nodes.old }
-    ensures by_id { by_id_of (E.live engine.new) nodes.new ≡ without_all ids.now (by_id_of (E.live engine.old) nodes.old) }
+    ensures by_id { by_id_of (E.live engine.new) nodes.new
+        ≡ without_all ids.now (by_id_of (E.live engine.old) nodes.old) }
     ensures meaning { E.meaning engine.new ≡ E.meaning engine.old }
     ensures statics { E.statics engine.new ≡ E.statics engine.old }
     ensures limit { E.limit engine.new ≡ E.limit engine.old }

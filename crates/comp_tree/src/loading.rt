@@ -26,8 +26,10 @@ pub fn load_each<E: Engine>(
     ensures placed { OnOk result (IsPlaced (E.meaning engine.new) (E.live engine.new) nodes.new) }
     ensures marks { OnOk result ((id at : ℕ) → marks_in nodes.new id at ≡ all_parts) }
     ensures by_id { OnOk result (by_id_of (E.live engine.new) nodes.new ≡ loaded (E.meaning engine.old) entries.now) }
-    ensures full { result ≡ Err AddRefusal.DataFull → E.limit engine.old < data_size_of (E.meaning engine.old) (loaded (E.meaning engine.old) entries.now) }
-    ensures fits { OnOk result (data_size_of (E.meaning engine.old) (loaded (E.meaning engine.old) entries.now) ≤ E.limit engine.old) }
+    ensures full { result ≡ Err AddRefusal.DataFull
+        → E.limit engine.old < data_size_of (E.meaning engine.old) (loaded (E.meaning engine.old) entries.now) }
+    ensures fits { OnOk result (data_size_of (E.meaning engine.old) (loaded (E.meaning engine.old) entries.now)
+        ≤ E.limit engine.old) }
     ensures meaning { OnOk result (E.meaning engine.new ≡ E.meaning engine.old) }
     ensures statics { OnOk result (E.statics engine.new ≡ E.statics engine.old) }
     ensures limit { OnOk result (E.limit engine.new ≡ E.limit engine.old) }
@@ -49,9 +51,14 @@ fn load_one<E: Engine>(engine: &mut E, nodes: &mut Nodes, entry: &Loaded) -> Res
     requires free { map.get nodes.old entry.now.id.0 ≡ None }
     requires few { map.len nodes.old < 4096 }
     ensures placed { OnOk result (IsPlaced (E.meaning engine.new) (E.live engine.new) nodes.new) }
-    ensures marks { OnOk result (((id at : ℕ) → marks_in nodes.old id at ≡ all_parts) → (id at : ℕ) → marks_in nodes.new id at ≡ all_parts) }
-    ensures by_id { OnOk result (by_id_of (E.live engine.new) nodes.new ≡ map.insert (by_id_of (E.live engine.old) nodes.old) entry.now.id.0 (loaded_component (E.meaning engine.old) entry.now)) }
-    ensures full { (result ≡ Err AddRefusal.DataFull) ↔ (E.limit engine.old < data_size_of (E.meaning engine.old) (by_id_of (E.live engine.old) nodes.old) + (E.meaning engine.old).data_size entry.now.kind.0) }
+    ensures marks { OnOk result (((id at : ℕ) → marks_in nodes.old id at ≡ all_parts)
+        → (id at : ℕ) → marks_in nodes.new id at ≡ all_parts) }
+    ensures by_id { OnOk result (by_id_of (E.live engine.new) nodes.new
+        ≡ map.insert (by_id_of (E.live engine.old) nodes.old) entry.now.id.0
+        (loaded_component (E.meaning engine.old) entry.now)) }
+    ensures full { (result ≡ Err AddRefusal.DataFull) ↔ (E.limit engine.old
+        < data_size_of (E.meaning engine.old) (by_id_of (E.live engine.old) nodes.old)
+        + (E.meaning engine.old).data_size entry.now.kind.0) }
     ensures meaning { OnOk result (E.meaning engine.new ≡ E.meaning engine.old) }
     ensures statics { OnOk result (E.statics engine.new ≡ E.statics engine.old) }
     ensures limit { OnOk result (E.limit engine.new ≡ E.limit engine.old) }

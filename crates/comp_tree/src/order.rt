@@ -1,5 +1,6 @@
 //! The order of a component's children.
-ghost use Rattle.std.specs.Prelude.{◌≡◌, ◌==◌, ◌<◌, ℕ, List, count_by, length, IfSome, IsSome, IsTrue, MatchOption, MatchResult, Some, None};
+ghost use Rattle.std.specs.Prelude.{◌≡◌, ◌==◌, ◌<◌, ℕ, List, count_by, length, IfSome, IsSome, IsTrue, MatchOption};
+ghost use Rattle.std.specs.Prelude.{MatchResult, Some, None};
 ghost use Rattle.std.specs.FinMap as map;
 ghost use Rattle.std.specs.List.{list_all};
 ghost use Rattle.sed_engine.specs.Code.{Places};
@@ -17,8 +18,10 @@ use sed_wire::Reader;
 pub fn new_order(nodes: &Nodes, id: Id, bytes: &[u8]) -> Result<Children, Refusal>
     ensures same { MatchResult result (λ ids. ids_of bytes.now ≡ Some ids) (λ _. Unit) }
     ensures live { MatchResult result (λ _. IsSome (map.get nodes.now id.0)) (λ _. Unit) }
-    ensures each { MatchResult result (λ ids. IfSome (map.get nodes.now id.0) (λ node. IsTrue (each_once node.children ids))) (λ _. Unit) }
-    ensures first { (live : Places) → MatchResult result (λ _. first_refusal (refusals_of_reorder (by_id_of live nodes.now) id.0 bytes.now) ≡ None)
+    ensures each { MatchResult result (λ ids.
+        IfSome (map.get nodes.now id.0) (λ node. IsTrue (each_once node.children ids))) (λ _. Unit) }
+    ensures first { (live : Places)
+        → MatchResult result (λ _. first_refusal (refusals_of_reorder (by_id_of live nodes.now) id.0 bytes.now) ≡ None)
         (λ refusal. first_refusal (refusals_of_reorder (by_id_of live nodes.now) id.0 bytes.now) ≡ Some refusal) }
 {
     let Some(node) = nodes.get(id) else {
@@ -37,7 +40,8 @@ pub fn new_order(nodes: &Nodes, id: Id, bytes: &[u8]) -> Result<Children, Refusa
 /// Gives a node other children.
 pub fn reorder_node(nodes: &mut Nodes, id: Id, children: Children)
     requires { IsSome (map.get nodes.old id.0) }
-    ensures { IfSome (map.get nodes.old id.0) (λ node. nodes.new ≡ map.insert nodes.old id.0 (with_children children node)) }
+    ensures { IfSome (map.get nodes.old id.0) (λ node. nodes.new
+        ≡ map.insert nodes.old id.0 (with_children children node)) }
 {
     if let Some(mut node) = nodes.remove(id) {
         node.children = children;
@@ -48,7 +52,8 @@ pub fn reorder_node(nodes: &mut Nodes, id: Id, children: Children)
 
 // The ids that these bytes are, where there are no more of them than a component has children.
 fn read_ids(bytes: &[u8]) -> Option<Children>
-    ensures { MatchOption result ((ids : List ℕ) → ids_of bytes.now ≡ Some ids → most_children < length ids) (λ ids. ids_of bytes.now ≡ Some ids) }
+    ensures { MatchOption result ((ids : List ℕ) → ids_of bytes.now ≡ Some ids
+        → most_children < length ids) (λ ids. ids_of bytes.now ≡ Some ids) }
 {
     let mut reader = Reader::new(bytes);
     let mut ids = Children::new();

@@ -16,7 +16,8 @@ use sed_value::{Id, Name, Refusal};
 pub fn new_name(nodes: &Nodes, id: Id, name: &[u8]) -> Result<Name, Refusal>
     ensures same { MatchResult result (λ new. new ≡ name.now) (λ _. Unit) }
     ensures live { MatchResult result (λ _. IsSome (map.get nodes.now id.0)) (λ _. Unit) }
-    ensures first { (live : Places) → MatchResult result (λ _. first_refusal (refusals_of_rename (by_id_of live nodes.now) id.0 name.now) ≡ None)
+    ensures first { (live : Places)
+        → MatchResult result (λ _. first_refusal (refusals_of_rename (by_id_of live nodes.now) id.0 name.now) ≡ None)
         (λ refusal. first_refusal (refusals_of_rename (by_id_of live nodes.now) id.0 name.now) ≡ Some refusal) }
 {
     let Some(node) = nodes.get(id) else {
@@ -48,7 +49,9 @@ pub fn rename_node(nodes: &mut Nodes, id: Id, name: Name)
 
 // Whether another child of the parent has the name.
 fn has_sibling_named(nodes: &Nodes, parent: Option<Id>, id: Id, name: &[u8]) -> bool
-    ensures { result ≡ option_map_or (λ parent. list_any (λ child. not (child == id.0) && bytes_eq (name_in nodes.now child) name.now) (children_in nodes.now parent.0)) parent false }
+    ensures { result ≡ option_map_or (λ parent.
+        list_any (λ child. not (child == id.0) && bytes_eq (name_in nodes.now child) name.now)
+        (children_in nodes.now parent.0)) parent false }
 {
     match parent {
         Some(parent) => match nodes.get(parent) {
@@ -61,7 +64,8 @@ fn has_sibling_named(nodes: &Nodes, parent: Option<Id>, id: Id, name: &[u8]) -> 
 
 // Whether one of the children but this has the name.
 fn is_other_named(nodes: &Nodes, children: &[u16], id: Id, name: &[u8]) -> bool
-    ensures { result ≡ list_any (λ child. not (child == id.0) && bytes_eq (name_in nodes.now child) name.now) children.now }
+    ensures { result ≡ list_any (λ child. not (child == id.0) && bytes_eq (name_in nodes.now child) name.now)
+        children.now }
 {
     children.iter().any(|child| *child != id.0 && is_named(nodes, Id(*child), name))
 }

@@ -1,5 +1,6 @@
 //! The tree.
-ghost use Rattle.std.specs.Prelude.{◌≡◌, ◌<◌, ◌≤◌, ℕ, IsTrue, IsSome, IsSomeAnd, IfOk, IfSome, OnOk, OnErr, MatchOption, MatchResult, Some, None, Ok, Err, length, slice_get, codes, []};
+ghost use Rattle.std.specs.Prelude.{◌≡◌, ◌<◌, ◌≤◌, ℕ, IsTrue, IsSome, IsSomeAnd, IfOk, IfSome, OnOk, OnErr};
+ghost use Rattle.std.specs.Prelude.{MatchOption, MatchResult, Some, None, Ok, Err, length, slice_get, codes, []};
 ghost use Rattle.std.specs.FinMap as map;
 ghost use Rattle.std.specs.Option.{option_map};
 ghost use Rattle.sed_typed.specs.Schemas.{type_at as class_numbered};
@@ -63,11 +64,13 @@ impl<E: Engine> Tree<E> {
     /// `DataFull` comes exactly where the App's data passes the engine's limit.
     pub fn new(alloc: Global, engine: E) -> Result<Tree<E>, AddRefusal>
         requires { E.live engine ≡ map.empty }
-        ensures made { IfOk result (λ t. components_of E.Engine t ≡ first_components (E.meaning engine) (E.statics engine) (E.limit engine)) }
+        ensures made { IfOk result (λ t. components_of E.Engine t
+            ≡ first_components (E.meaning engine) (E.statics engine) (E.limit engine)) }
         ensures meaning { IfOk result (λ t. E.meaning t.engine ≡ E.meaning engine) }
         ensures steady { IfOk result (λ t. E.fixed t.engine ≡ E.fixed engine) }
         ensures marks { IfOk result (λ t. (id at : ℕ) → marks_at t id at ≡ all_parts) }
-        ensures full { result ≡ Err AddRefusal.DataFull → E.limit engine < (E.meaning engine).data_size (app_class (E.meaning engine)) }
+        ensures full { result ≡ Err AddRefusal.DataFull
+            → E.limit engine < (E.meaning engine).data_size (app_class (E.meaning engine)) }
         ensures fits { OnOk result ((E.meaning engine).data_size (app_class (E.meaning engine)) ≤ E.limit engine) }
     {
         let mut nodes = match Nodes::new(alloc) {
@@ -96,7 +99,8 @@ impl<E: Engine> Tree<E> {
     /// children, and its id is below 4,096.
     pub fn find(&self, id: Id) -> Option<Entry>
         ensures told { MatchOption result (map.get (components_of E.Engine self.now).by_id id.0 ≡ None)
-            (λ entry. IsSomeAnd (map.get (components_of E.Engine self.now).by_id id.0) (IsEntry (E.live self.now.engine) entry)) }
+            (λ entry. IsSomeAnd (map.get (components_of E.Engine self.now).by_id id.0)
+            (IsEntry (E.live self.now.engine) entry)) }
         ensures few { IfSome result (λ entry. entry.children ≤ most_children) }
         ensures bound { IfSome result (λ _. id.0 < most_components) }
     {
@@ -117,7 +121,8 @@ impl<E: Engine> Tree<E> {
     /// A component's child by its place, counted from 0: none exactly where the id is not live or
     /// has no more children.
     pub fn child(&self, id: Id, n: u8) -> Option<Id>
-        ensures { option_map (λ child. child.0) result ≡ slice_get (children_of (components_of E.Engine self.now).by_id id.0) n }
+        ensures { option_map (λ child. child.0) result
+            ≡ slice_get (children_of (components_of E.Engine self.now).by_id id.0) n }
     {
         match self.nodes.get(id) {
             Some(node) => nth_child(&node.children, n),
@@ -128,10 +133,16 @@ impl<E: Engine> Tree<E> {
     /// Puts the value of a property into `out`, which is of the property's type. The first refusal
     /// of its row comes exactly where one holds, and then `out` is as it was.
     pub fn get(&self, id: Id, slot: u8, out: &mut SlotBuf) -> Result<(), Refusal>
-        ensures value { OnOk result (out.new ≡ value_at (E.meaning self.now.engine) (components_of E.Engine self.now).by_id id.0 slot) }
-        ensures of_type { OnOk result (IfSome (type_at (E.meaning self.now.engine) (components_of E.Engine self.now).by_id id.0 slot) (λ t. IsTrue (is_of_type t out.new))) }
-        ensures refused { MatchResult result (λ _. first_refusal (refusals_of_read (E.meaning self.now.engine) (components_of E.Engine self.now).by_id id.0 slot) ≡ None)
-            (λ refusal. first_refusal (refusals_of_read (E.meaning self.now.engine) (components_of E.Engine self.now).by_id id.0 slot) ≡ Some refusal) }
+        ensures value { OnOk result (out.new
+            ≡ value_at (E.meaning self.now.engine) (components_of E.Engine self.now).by_id id.0 slot) }
+        ensures of_type { OnOk result
+            (IfSome (type_at (E.meaning self.now.engine) (components_of E.Engine self.now).by_id id.0 slot)
+            (λ t. IsTrue (is_of_type t out.new))) }
+        ensures refused { MatchResult result (λ _.
+            first_refusal (refusals_of_read (E.meaning self.now.engine) (components_of E.Engine self.now).by_id
+            id.0 slot) ≡ None)
+            (λ refusal. first_refusal (refusals_of_read (E.meaning self.now.engine)
+            (components_of E.Engine self.now).by_id id.0 slot) ≡ Some refusal) }
         ensures stays { OnErr result (out.new ≡ out.old) }
     {
         match self.property(id, slot) {
@@ -147,7 +158,8 @@ impl<E: Engine> Tree<E> {
     // Where the values of a component with this property are kept.
     fn property(&self, id: Id, slot: u8) -> Result<Place, Refusal>
         ensures { MatchResult result (λ place. IsPropertyOf E.Engine self.now id.0 slot place.0)
-            (λ refusal. first_refusal (refusals_of_read (E.meaning self.now.engine) (components_of E.Engine self.now).by_id id.0 slot) ≡ Some refusal) }
+            (λ refusal. first_refusal (refusals_of_read (E.meaning self.now.engine)
+            (components_of E.Engine self.now).by_id id.0 slot) ≡ Some refusal) }
     {
         let Some(node) = self.nodes.get(id) else {
             return Err(Refusal::NoComponent);

@@ -60,4 +60,5 @@ slot_line m o e = form_line m o e.0 e.1.name e.1.form
 
 -- the properties in the order of the slots, and then the fault
 abbrev pub component_text : Meaning → Object → ℕ → List ℕ
-component_text m o fault = flat_map (slot_line m o) (enumerate_from 0 (slots m.schema.classes o.class)) ++ fault_line fault
+component_text m o fault = flat_map (slot_line m o) (enumerate_from 0 (slots m.schema.classes o.class))
+    ++ fault_line fault

@@ -1,7 +1,8 @@
 //! A component alone, over any engine: its cycles, and its printed form.
 //!
-//! `add_component` makes one, `run_cycles` executes it once a cycle while it is not faulted, as the code of the engine says, and
-//! `component_text` prints its properties and its fault. The command that runs the cycles of one component stands on it.
+//! `add_component` makes one, `run_cycles` executes it once a cycle while it is not faulted, as the code of the engine
+//! says, and `component_text` prints its properties and its fault. The command that runs the cycles of one component
+//! stands on it.
 #![tactic(auto)]
 
 mod component;

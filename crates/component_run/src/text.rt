@@ -23,8 +23,10 @@ fn put_slot_line<E: Engine, O: Sink>(
     slot: &SlotInfo,
     out: &mut O,
 ) -> Result<(), SinkFault>
-    requires live { IsSomeAnd (map.get (E.live engine.now) component.now.place.0) (λ o. o.class ≡ component.now.class.0) }
-    requires slot { slice_get (classes.slots (E.meaning engine.now).schema.classes component.now.class.0) number ≡ Some slot.now }
+    requires live { IsSomeAnd (map.get (E.live engine.now) component.now.place.0)
+        (λ o. o.class ≡ component.now.class.0) }
+    requires slot { slice_get (classes.slots (E.meaning engine.now).schema.classes component.now.class.0) number
+        ≡ Some slot.now }
     ensures { (o : Object) → map.get (E.live engine.now) component.now.place.0 ≡ Some o →
         Puts O.Sink out.old out.new (alone.slot_line (E.meaning engine.now) o (number, slot.now)) result }
 {
@@ -45,11 +47,13 @@ fn put_slot_lines<E: Engine, O: Sink>(
     slots: &[SlotInfo],
     out: &mut O,
 ) -> Result<(), SinkFault>
-    requires live { IsSomeAnd (map.get (E.live engine.now) component.now.place.0) (λ o. o.class ≡ component.now.class.0) }
+    requires live { IsSomeAnd (map.get (E.live engine.now) component.now.place.0)
+        (λ o. o.class ≡ component.now.class.0) }
     requires slots { slots.now ≡ classes.slots (E.meaning engine.now).schema.classes component.now.class.0 }
     requires few { length slots.now ≤ 64 }
     ensures { (o : Object) → map.get (E.live engine.now) component.now.place.0 ≡ Some o →
-        Puts O.Sink out.old out.new (flat_map (alone.slot_line (E.meaning engine.now) o) (enumerate_from 0 slots.now)) result }
+        Puts O.Sink out.old out.new
+        (flat_map (alone.slot_line (E.meaning engine.now) o) (enumerate_from 0 slots.now)) result }
 {
     for (number, slot) in slots.iter().enumerate() {
         put_slot_line(engine, component, number as u8, slot, out)?;
@@ -63,8 +67,10 @@ fn put_component<E: Engine, O: Sink>(
     component: &Component,
     out: &mut O,
 ) -> Result<(), SinkFault>
-    requires live { IsSomeAnd (map.get (E.live engine.now) component.now.place.0) (λ o. o.class ≡ component.now.class.0) }
-    ensures { (o : Object) → map.get (E.live engine.now) component.now.place.0 ≡ Some o → o.class ≡ component.now.class.0 →
+    requires live { IsSomeAnd (map.get (E.live engine.now) component.now.place.0)
+        (λ o. o.class ≡ component.now.class.0) }
+    ensures { (o : Object) → map.get (E.live engine.now) component.now.place.0 ≡ Some o
+        → o.class ≡ component.now.class.0 →
         Puts O.Sink out.old out.new (alone.component_text (E.meaning engine.now) o component.now.fault) result }
 {
     let slots = engine.schema().slots_of(component.class);
@@ -80,8 +86,10 @@ pub fn component_text<E: Engine>(
     engine: &E,
     component: &Component,
 ) -> Result<Vec<u8>, AllocError>
-    requires live { IsSomeAnd (map.get (E.live engine.now) component.now.place.0) (λ o. o.class ≡ component.now.class.0) }
-    ensures { (o : Object) → map.get (E.live engine.now) component.now.place.0 ≡ Some o → o.class ≡ component.now.class.0 →
+    requires live { IsSomeAnd (map.get (E.live engine.now) component.now.place.0)
+        (λ o. o.class ≡ component.now.class.0) }
+    ensures { (o : Object) → map.get (E.live engine.now) component.now.place.0 ≡ Some o
+        → o.class ≡ component.now.class.0 →
         IfOk result (λ text. text.items ≡ alone.component_text (E.meaning engine.now) o component.now.fault) }
 {
     let mut text = Collected::new(alloc);

@@ -5,7 +5,7 @@ use Rattle.std.specs.Option.{option_and_then, option_or}
 use Rattle.dasp_msg.specs.declared.header.Header.{Header}
 use Rattle.dasp_msg.specs.Field.{Content, nil, number, text, run, Part, form_of, SpellsFields}
 use Rattle.dasp_msg.specs.Noting.{noted}
-use Rattle.dasp_msg.specs.Shown.{as_number, as_text, as_run, first_of, number_of_first, text_of_first, run_of_first, shown_by}
+use Rattle.dasp_msg.specs.Shown.{as_number, as_text, as_run, first_of, number_of_first, text_of_first, run_of_first, shown_by, without_fields}
 
 either : (t : Bool) → (t ≡ true) ⊎ (t ≡ false)
 either true = inl refl
@@ -105,3 +105,8 @@ shown-push h fs f spelling spelled =
       number-push 53 refl fs f spelling spelled,
       text-push 58 refl fs f spelling spelled,
     ) refl
+
+-- a header alone
+pub shown_bare : (header : Header) → shown_by header [] [] ≡ without_fields header.to header.sequence header.kind
+unfolding number_of_first text_of_first run_of_first
+shown_bare header = refl

@@ -1,7 +1,8 @@
 -- The numbers of the kinds.
 use Rattle.std.specs.Prelude.{ℕ}
 use Rattle.dasp_msg.specs.declared.kind.MsgKind.{MsgKind}
-use Rattle.dasp_msg.specs.declared.kind.MsgKind.TheVariants.{Hello, Challenge, Authenticate, Welcome, KeepAlive, Datagram, Close}
+use Rattle.dasp_msg.specs.declared.kind.MsgKind.TheVariants.{Hello, Challenge, Authenticate, Welcome, KeepAlive}
+use Rattle.dasp_msg.specs.declared.kind.MsgKind.TheVariants.{Datagram, Close}
 
 abbrev pub number_of_kind : MsgKind → ℕ
 number_of_kind Hello = 1

@@ -4,7 +4,8 @@ use Rattle.std.specs.Option.{ForSome}
 use Rattle.sed_wire.specs.Text.{is_text}
 use Rattle.dasp_msg.specs.declared.header.Header.{Header}
 use Rattle.dasp_msg.specs.declared.kind.MsgKind.{MsgKind}
-use Rattle.dasp_msg.specs.declared.kind.MsgKind.TheVariants.{Hello, Challenge, Authenticate, Welcome, KeepAlive, Datagram, Close}
+use Rattle.dasp_msg.specs.declared.kind.MsgKind.TheVariants.{Hello, Challenge, Authenticate, Welcome, KeepAlive}
+use Rattle.dasp_msg.specs.declared.kind.MsgKind.TheVariants.{Datagram, Close}
 use Rattle.dasp_msg.specs.Field.{Content, nil, number, text, run, Part}
 use Rattle.dasp_msg.specs.Message.{MayFollow, SpellsDatagram}
 use Rattle.dasp_msg.specs.Shown.{Message, shown_by}

@@ -26,6 +26,7 @@ pub record Message : Type 0 where
   pub platform_id : Option (List ℕ)
   pub payload : List ℕ
 
+-- a message of a kind that has no field and no payload
 abbrev pub without_fields : ℕ → ℕ → MsgKind → Message
 without_fields to sequence kind = record {
   to = to;

@@ -78,7 +78,6 @@ impl<'a> Msg<'a> {
     }
 
     // A message with this header, and without fields and payload.
-    #[tactic(auto, unfolding(crate::specs::Shown::number_of_first, crate::specs::Shown::text_of_first, crate::specs::Shown::run_of_first))]
     pub(crate) fn bare(header: &Header) -> Msg<'a>
         ensures { message_of result ≡ shown_by header.now [] [] }
     {

@@ -17,7 +17,8 @@ use sed_wire::Reader;
 /// The message that the bytes are. `Malformed` comes exactly where they are none.
 pub fn read_msg<'a>(bytes: &'a [u8]) -> Result<Msg<'a>, Malformed>
     ensures found { IfOk result (λ msg. IsMessage bytes.now (message_of msg)) }
-    ensures only { (message : Message) → IsMessage bytes.now message → IsOkAnd result (λ msg. message_of msg ≡ message) }
+    ensures only { (message : Message) → IsMessage bytes.now message
+        → IsOkAnd result (λ msg. message_of msg ≡ message) }
     ensures malformed { IsErr result ↔ IsMalformed bytes.now }
 {
     message_or_none(bytes)

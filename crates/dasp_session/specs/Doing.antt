@@ -6,7 +6,8 @@ use Rattle.dasp_msg.specs.Shown.{Message}
 use Rattle.dasp_session.specs.declared.handed.Effect.{Effect as Kept}
 use Rattle.dasp_session.specs.declared.handed.Effect.TheVariants.{Nothing, Ended, Payload}
 use Rattle.dasp_session.specs.declared.handed.Handed.{Handed}
-use Rattle.dasp_session.specs.declared.handed.Handed.TheVariants.{Nothing as NothingAt, Ended as EndedAt, Payload as PayloadAt}
+use Rattle.dasp_session.specs.declared.handed.Handed.TheVariants.{Nothing as NothingAt, Ended as EndedAt}
+use Rattle.dasp_session.specs.declared.handed.Handed.TheVariants.{Payload as PayloadAt}
 use Rattle.dasp_session.specs.declared.place.Place.{Place}
 use Rattle.dasp_session.specs.Hearing.{Effect, nothing, ended, delivers, Step}
 use Rattle.dasp_session.specs.Keeping.{Holds, Like}

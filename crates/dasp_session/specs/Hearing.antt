@@ -1,5 +1,6 @@
 -- What a message does in its session.
-use Rattle.std.specs.Prelude.{ℕ, ℤ, Bool, true, false, ◌&&◌, ◌||◌, nat_eq, is_some, Option, Some, None, List, [], ◌∷◌, slice_index, if◌then◌else◌}
+use Rattle.std.specs.Prelude.{ℕ, ℤ, Bool, true, false, ◌&&◌, ◌||◌, nat_eq, is_some, Option, Some, None, List, [], ◌∷◌}
+use Rattle.std.specs.Prelude.{slice_index, if◌then◌else◌}
 use Rattle.std.specs.Option.{option_map, option_map_or}
 use Rattle.std.specs.Cmp.Lexicographic.{pointwise}
 use Rattle.dasp_users.specs.declared.user.User.{User}
@@ -11,7 +12,8 @@ use Rattle.dasp_window.specs.declared.receiver.Taken.TheVariants.{New, Repeat, O
 use Rattle.dasp_window.specs.Posted.{has_room, after_ack}
 use Rattle.dasp_window.specs.TakenIndexes.{taken_as, after_take}
 use Rattle.dasp_msg.specs.declared.kind.MsgKind.{MsgKind}
-use Rattle.dasp_msg.specs.declared.kind.MsgKind.TheVariants.{Hello, Challenge, Authenticate, Welcome, KeepAlive, Datagram, Close}
+use Rattle.dasp_msg.specs.declared.kind.MsgKind.TheVariants.{Hello, Challenge, Authenticate, Welcome, KeepAlive}
+use Rattle.dasp_msg.specs.declared.kind.MsgKind.TheVariants.{Datagram, Close}
 use Rattle.dasp_msg.specs.Shown.{Message}
 use Rattle.dasp_session.specs.Closing.{not_known}
 use Rattle.dasp_session.specs.Letters.{welcome, close}

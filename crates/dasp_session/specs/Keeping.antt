@@ -1,5 +1,6 @@
 -- What the node keeps of a session, and what it stands for.
-use Rattle.std.specs.Prelude.{◌≡◌, ℕ, suc, ◌%◌, Bool, true, false, ◌&&◌, ◌==◌, is_none, Option, Some, None, List, [], ◌∷◌, ⊤}
+use Rattle.std.specs.Prelude.{◌≡◌, ℕ, suc, ◌%◌, Bool, true, false, ◌&&◌, ◌==◌, is_none, Option, Some, None, List, []}
+use Rattle.std.specs.Prelude.{◌∷◌, ⊤}
 use Rattle.sed_outside.specs.declared.addr.Addr.{Addr}
 use Rattle.dasp_window.specs.declared.message.Message.{Message as Posted}
 use Rattle.dasp_window.specs.Receiving.{ReceivesLike}

@@ -1,5 +1,6 @@
 -- Finding a session, and a place for one.
-use Rattle.std.specs.Prelude.{ℕ, suc, Bool, ◌&&◌, ◌==◌, nat_eq, is_none, Option, Some, None, List, [], ◌∷◌, slice_index_or, if◌then◌else◌}
+use Rattle.std.specs.Prelude.{ℕ, suc, Bool, ◌&&◌, ◌==◌, nat_eq, is_none, Option, Some, None, List, [], ◌∷◌}
+use Rattle.std.specs.Prelude.{slice_index_or, if◌then◌else◌}
 use Rattle.std.specs.Cmp.Lexicographic.{pointwise}
 use Rattle.sed_outside.specs.declared.addr.Addr.{Addr}
 use Rattle.dasp_session.specs.Session.{Session, State}

@@ -1,5 +1,6 @@
 -- What the calls of the sessions do: to the sessions, to the outside, and what they hand on.
-use Rattle.std.specs.Prelude.{ℕ, ◌+◌, ◌*◌, ◌%◌, ℤ, Bool, true, false, ◌==◌, not, nat_eq, Option, Some, None, List, [], ◌∷◌, slice_set, replicate, codes, if◌then◌else◌}
+use Rattle.std.specs.Prelude.{ℕ, ◌+◌, ◌*◌, ◌%◌, ℤ, Bool, true, false, ◌==◌, not, nat_eq, Option, Some, None, List, []}
+use Rattle.std.specs.Prelude.{◌∷◌, slice_set, replicate, codes, if◌then◌else◌}
 use Rattle.std.specs.Int.{int_max}
 use Rattle.std.specs.Option.{option_map_or}
 use Rattle.std.specs.Cmp.Lexicographic.{pointwise}

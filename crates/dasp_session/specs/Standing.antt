@@ -1,5 +1,6 @@
 -- What the sessions of a node stand for, and what may be asked of them.
-use Rattle.std.specs.Prelude.{◌≡◌, ◌≤◌, ℕ, Bool, true, false, ◌&&◌, is_some, nat_lt, List, length, slice_get, drop, Option, Some, None}
+use Rattle.std.specs.Prelude.{◌≡◌, ◌≤◌, ℕ, Bool, true, false, ◌&&◌, is_some, nat_lt, List, length, slice_get, drop}
+use Rattle.std.specs.Prelude.{Option, Some, None}
 use Rattle.std.specs.Option.{option_map_or}
 use Rattle.dasp_msg.specs.Message.{IsMessage, IsMalformed}
 use Rattle.dasp_msg.specs.Shown.{Message}

@@ -1,5 +1,6 @@
 -- What a tick does in a session, and what is posted in it.
-use Rattle.std.specs.Prelude.{ℕ, suc, ℤ, pos, ◌+ℤ◌, int_le, Bool, false, ◌&&◌, ◌||◌, not, Some, List, [], ◌∷◌, length, map, if◌then◌else◌}
+use Rattle.std.specs.Prelude.{ℕ, suc, ℤ, pos, ◌+ℤ◌, int_le, Bool, false, ◌&&◌, ◌||◌, not, Some, List, [], ◌∷◌, length}
+use Rattle.std.specs.Prelude.{map, if◌then◌else◌}
 use Rattle.std.specs.List.{list_any}
 use Rattle.dasp_window.specs.declared.message.Message.{Message as Posted}
 use Rattle.dasp_window.specs.Numbers.{wire_number}

@@ -1,5 +1,6 @@
 -- A users file, and who is in it.
-use Rattle.std.specs.Prelude.{◌≡◌, ◌≢◌, ℕ, ◌≤◌, nat_eq, Option, Some, None, List, [], ◌∷◌, ◌++◌, length, All, AllPairs, if◌then◌else◌}
+use Rattle.std.specs.Prelude.{◌≡◌, ◌≢◌, ℕ, ◌≤◌, nat_eq, Option, Some, None, List, [], ◌∷◌, ◌++◌, length, All, AllPairs}
+use Rattle.std.specs.Prelude.{if◌then◌else◌}
 use Rattle.std.specs.Cmp.Lexicographic.{pointwise}
 use Rattle.dasp_users.specs.declared.user.User.{User}
 use Rattle.dasp_users.specs.Line.{IsUser, line_of}
@@ -22,4 +23,5 @@ pub record IsUsersFile (users : List User) (text : List ℕ) : Type 0 where
 -- the credential of the user of this name
 abbrev pub credential_of : List User → List ℕ → Option (List ℕ)
 credential_of [] name = None
-credential_of (user ∷ later) name = if pointwise nat_eq user.name name then Some user.credential else credential_of later name
+credential_of (user ∷ later) name = if pointwise nat_eq user.name name
+    then Some user.credential else credential_of later name

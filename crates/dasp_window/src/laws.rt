@@ -28,7 +28,8 @@ pub fn acks_stand_for_counts()
 
 /// All indexes below the first gap were taken, and it was not.
 pub fn first_gap_is_the_least()
-    ensures below { (taken : List ℕ) (index : ℕ) → IsTakenList taken → index < first_gap taken → is_taken taken index ≡ true }
+    ensures below { (taken : List ℕ) (index : ℕ) → IsTakenList taken
+        → index < first_gap taken → is_taken taken index ≡ true }
     ensures gap { (taken : List ℕ) → IsTakenList taken → is_taken taken (first_gap taken) ≡ false }
 {}
 

@@ -62,7 +62,8 @@ impl Receiver {
     /// Takes the message of this number if it is new, and says what it is. Each index is new once.
     pub fn take(&mut self, number: u16) -> Taken
         ensures answer { (taken : List ℕ) → ReceivesLike self.old taken → result ≡ taken_as taken number }
-        ensures after { (taken : List ℕ) → ReceivesLike self.old taken → ReceivesLike self.new (after_take taken number) }
+        ensures after { (taken : List ℕ) → ReceivesLike self.old taken
+            → ReceivesLike self.new (after_take taken number) }
     {
         let ahead = number.wrapping_sub(self.gap);
         if ahead < WINDOW {

@@ -65,7 +65,8 @@ impl Sender {
         requires room { length self.old.messages < 31 }
         requires short { length bytes.now ≤ 498 }
         ensures number { (posted : List Message) → SendsLike self.old posted → result ≡ wire_number (length posted) }
-        ensures after { (posted : List Message) → SendsLike self.old posted → SendsLike self.new (after_push posted bytes.now now) }
+        ensures after { (posted : List Message) → SendsLike self.old posted
+            → SendsLike self.new (after_push posted bytes.now now) }
         ensures there { IsTrue (has_message self.new result) }
         ensures longer { length self.new.messages ≡ length self.old.messages + 1 }
     {
@@ -105,7 +106,8 @@ impl Sender {
     /// Records that the message of this number, which is due, is sent again at `now`. One message fewer is due then.
     pub fn resend(&mut self, number: u16, now: i64)
         requires { due_from self.old.first self.old.messages now ≡ Due.Resend number }
-        ensures after { (posted : List Message) → SendsLike self.old posted → SendsLike self.new (after_resend posted number now) }
+        ensures after { (posted : List Message) → SendsLike self.old posted
+            → SendsLike self.new (after_resend posted number now) }
         ensures there { (other : ℕ) → has_message self.new other ≡ has_message self.old other }
         ensures fewer { count_by (is_due now) self.new.messages < count_by (is_due now) self.old.messages }
         ensures as_many { length self.new.messages ≡ length self.old.messages }
@@ -117,7 +119,8 @@ impl Sender {
     /// The bytes of the message of this number, which is the first open one or one behind it.
     pub fn bytes(&self, number: u16) -> &[u8]
         requires { IsTrue (has_message self.now number) }
-        ensures posted { (posted : List Message) → SendsLike self.now posted → bytes_at posted number ≡ Some result.now }
+        ensures posted { (posted : List Message) → SendsLike self.now posted
+            → bytes_at posted number ≡ Some result.now }
         ensures short { length result.now ≤ 498 }
     {
         let place = usize::from(number.wrapping_sub(self.first));

@@ -1,5 +1,6 @@
 -- What a disk means, and what each of its calls does to that.
-use Rattle.std.specs.Prelude.{◌≡◌, ◌⊎◌, ◌^◌, ◌+◌, ◌-◌, ◌<◌, ◌≤◌, ◌↔◌, ℕ, Bool, IsTrue, List, length, slice_index, min, max, Option, Some, None, Result, OnOk}
+use Rattle.std.specs.Prelude.{◌≡◌, ◌⊎◌, ◌^◌, ◌+◌, ◌-◌, ◌<◌, ◌≤◌, ◌↔◌, ℕ, Bool, IsTrue, List, length, slice_index, min}
+use Rattle.std.specs.Prelude.{max, Option, Some, None, Result, OnOk}
 
 -- The bytes of a file.
 abbrev pub Image : Type 0
@@ -97,7 +98,8 @@ pub record Keeps (old new : Meaning) : Type 0 where
 abbrev pub IsTorn : ℕ → ℕ → Meaning → Image → Type 0
 IsTorn at n old c = (d : Image) × old.leaves old.now d × Torn at n d c
 
--- These bytes are written at this place. A write that fails counts as written, and a read may then give any bytes there.
+-- These bytes are written at this place. A write that fails counts as written, and a read may then give any bytes
+-- there.
 pub record Writes {T E : Type 0} (at : ℕ) (bytes : List ℕ) (result : Result T E) (old new : Meaning) : Type 0 where
   pub torn : Torn at (length bytes) old.content new.content
   pub holds : OnOk result (Holds at bytes new.content)

@@ -21,7 +21,8 @@ abbrev pub alike : Image → Pair
 alike first = record { content = first; image = first }
 
 abbrev pub with_call : Fill → Pair → Call → Pair
-with_call fill p (wrote at bytes) = record { content = written p.content at bytes; image = filled fill p.image at bytes }
+with_call fill p (wrote at bytes) =
+    record { content = written p.content at bytes; image = filled fill p.image at bytes }
 with_call fill p synced = alike p.content
 with_call fill p other = p
 with_call fill p marked = p

@@ -49,7 +49,11 @@ abbrev pub begun : Image → State
 begun first = record { content = first; on_disk = first; ranges = [] }
 
 abbrev pub after : State → Call → State
-after s (wrote at bytes) = record { content = written s.content at bytes; on_disk = s.on_disk; ranges = (at, length bytes) ∷ s.ranges }
+after s (wrote at bytes) = record {
+  content = written s.content at bytes;
+  on_disk = s.on_disk;
+  ranges = (at, length bytes) ∷ s.ranges;
+}
 after s synced = record { content = s.content; on_disk = s.content; ranges = [] }
 after s other = s
 after s marked = s
@@ -122,11 +126,13 @@ left_after s other left = left
 left_after s marked left = left
 
 -- What a read gives is one of the images that a crash may leave.
-pub content_is_left : (s : State) (calls : List Call) → LeftIn s s.content → LeftIn (after_all s calls) (after_all s calls).content
+pub content_is_left : (s : State) (calls : List Call) → LeftIn s s.content
+    → LeftIn (after_all s calls) (after_all s calls).content
 content_is_left s [] left = left
 content_is_left s (c ∷ calls) left = content_is_left (after s c) calls (left_after s c left)
 
 pub replayed_is_disk : (h : History) → IsDisk (replayed h)
 replayed_is_disk h told =
     let all : take (length h.calls) h.calls ≡ h.calls = take_all (length h.calls) h.calls (omega arith) in
-    subst (λ (l : List Call). LeftIn (after_all (begun h.first) l) (state_of h).content) (sym all) (content_is_left (begun h.first) h.calls refl)
+    subst (λ (l : List Call). LeftIn (after_all (begun h.first) l) (state_of h).content)
+    (sym all) (content_is_left (begun h.first) h.calls refl)

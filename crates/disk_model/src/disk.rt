@@ -1,7 +1,9 @@
 //! A disk as a store sees it: what a read gives, and what a power cut may leave.
-ghost use Rattle.std.specs.Prelude.{◌≡◌, ◌+◌, ◌≤◌, true, false, length, take, drop, IsTrue, IfOk, OnOk, IsErr, is_ok, if◌then◌else◌};
+ghost use Rattle.std.specs.Prelude.{◌≡◌, ◌+◌, ◌≤◌, true, false, length, take, drop, IsTrue, IfOk, OnOk, IsErr, is_ok};
+ghost use Rattle.std.specs.Prelude.{if◌then◌else◌};
 ghost use Rattle.sed_outside.specs.Cause.{HasCause};
-ghost use Rattle.disk_model.specs.Disk.{Meaning, Elapses, Attaches, Keeps, Writes, Syncs, MarksUp, SyncsUp, IsDisk, longest_name, largest_store};
+ghost use Rattle.disk_model.specs.Disk.{Meaning, Elapses, Attaches, Keeps, Writes, Syncs, MarksUp, SyncsUp, IsDisk};
+ghost use Rattle.disk_model.specs.Disk.{longest_name, largest_store};
 
 use thiserror::Error;
 
@@ -49,7 +51,8 @@ pub trait Disk {
     /// told, a read past the end fails.
     fn read(&mut self, at: u64, into: &mut [u8]) -> Result<(), DiskFault>
         requires { IsTrue (meaning self.old).tells → at + length into.old ≤ length (meaning self.old).content }
-        ensures bytes { IsTrue (meaning self.old).tells → OnOk result (into.new ≡ take (length into.old) (drop at (meaning self.old).content)) }
+        ensures bytes { IsTrue (meaning self.old).tells
+            → OnOk result (into.new ≡ take (length into.old) (drop at (meaning self.old).content)) }
         ensures keeps { IsTrue (meaning self.old).tells → Keeps (meaning self.old) (meaning self.new) }
         ensures attached { (meaning self.new).attached ≡ (meaning self.old).attached }
         ensures time { Elapses (meaning self.old) (meaning self.new) }
@@ -62,7 +65,8 @@ pub trait Disk {
     /// in their range. A write that fails counts as written, and a read may then give any bytes there.
     fn write_at(&mut self, at: u64, bytes: &[u8]) -> Result<(), DiskFault>
         requires { at + length bytes.now ≤ largest_store }
-        ensures writes { IsTrue (meaning self.old).tells → Writes at bytes.now result (meaning self.old) (meaning self.new) }
+        ensures writes { IsTrue (meaning self.old).tells
+            → Writes at bytes.now result (meaning self.old) (meaning self.new) }
         ensures attached { (meaning self.new).attached ≡ (meaning self.old).attached }
         ensures time { Elapses (meaning self.old) (meaning self.new) }
         ensures marks { MarksUp (meaning self.old) (meaning self.new) 0 }

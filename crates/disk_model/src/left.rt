@@ -170,7 +170,8 @@ pub fn image_of(
     call: usize,
     fill: Fill,
 ) -> Result<Vec<u8>, Memory>
-    ensures { IfOk result (λ image. image.items ≡ image_left fill (alike first.now) (calls_of log.now entries.now) call) }
+    ensures { IfOk result (λ image. image.items
+        ≡ image_left fill (alike first.now) (calls_of log.now entries.now) call) }
 {
     let mut replayed = Replayed::new(alloc, first)?;
     let mut log = log;

@@ -1,9 +1,11 @@
 //! A disk in memory, which records its calls.
-ghost use Rattle.std.specs.Prelude.{◌≡◌, ◌+◌, ◌-◌, ◌^◌, ◌≤◌, ◌<◌, ◌++◌, ℕ, true, false, [], min, length, take, drop, sum_by, IsTrue, IsOk, IsErr, is_ok, IfOk, OnOk, if◌then◌else◌};
+ghost use Rattle.std.specs.Prelude.{◌≡◌, ◌+◌, ◌-◌, ◌^◌, ◌≤◌, ◌<◌, ◌++◌, ℕ, true, false, [], min, length, take, drop};
+ghost use Rattle.std.specs.Prelude.{sum_by, IsTrue, IsOk, IsErr, is_ok, IfOk, OnOk, if◌then◌else◌};
 ghost use Rattle.std.specs.Bool.{OnTrue, OnFalse};
 ghost use Rattle.sed_outside.specs.Cause.{HasCause};
 ghost use Rattle.sed_outside.specs.Failing.{begins_with, FailsNow, after_call};
-ghost use Rattle.disk_model.specs.Disk.{Elapses, Keeps, Writes, Syncs, MarksUp, SyncsUp, one_more, longest_name, largest_store};
+ghost use Rattle.disk_model.specs.Disk.{Elapses, Keeps, Writes, Syncs, MarksUp, SyncsUp, one_more, longest_name};
+ghost use Rattle.disk_model.specs.Disk.{largest_store};
 ghost use Rattle.disk_model.specs.Written.{written};
 ghost use Rattle.disk_model.specs.Replay.{calls_by, HasRoom, HasBytes, replayed, replayed_is_disk};
 ghost use Rattle.disk_model.specs.Recorded.{is_call, with_entry, IsTried};
@@ -23,10 +25,10 @@ const LONGEST_NAME: usize = 4096;
 
 /// A disk in memory, with one file under every name. It tells all of its meanings.
 ///
-/// Its room bounds the size of the file, and by the same number the sum of the lengths of all writes. It records a number
-/// of calls other than `acknowledge`. A call past the room or past the record fails and does nothing, and two marks with
-/// only calls past the record between them are one. A call that fails by its number is recorded; where it writes, it has
-/// written.
+/// Its room bounds the size of the file, and by the same number the sum of the lengths of all writes. It records a
+/// number of calls other than `acknowledge`. A call past the room or past the record fails and does nothing, and two
+/// marks with only calls past the record between them are one. A call that fails by its number is recorded; where it
+/// writes, it has written.
 #[derive(Drop)]
 pub struct MemDisk {
     first: Vec<u8>,
@@ -61,8 +63,8 @@ impl Model for MemDisk {
 }
 
 impl MemDisk {
-    /// A disk whose file holds these bytes, all of them safe from a crash, with no call and no fault yet. `fails` has the
-    /// numbers, from 0, of the calls other than `acknowledge` that fail. It takes all its memory here.
+    /// A disk whose file holds these bytes, all of them safe from a crash, with no call and no fault yet. `fails` has
+    /// the numbers, from 0, of the calls other than `acknowledge` that fail. It takes all its memory here.
     pub fn new(
         alloc: Global,
         bytes: Vec<u8>,
@@ -71,7 +73,13 @@ impl MemDisk {
         fails: Vec<usize>,
     ) -> Result<MemDisk, Memory>
         ensures { IfOk result (λ disk. disk ≡ record {
-          history = record { first = bytes.items; calls = []; is_marked = false; attached = record { count = 0; name = [] }; faults = 0 };
+          history = record {
+            first = bytes.items;
+            calls = [];
+            is_marked = false;
+            attached = record { count = 0; name = [] };
+            faults = 0;
+          };
           plan = begins_with fails.items;
           bounds = record { room = room; limit = calls };
         }) }
@@ -108,8 +116,10 @@ impl MemDisk {
     /// sync then, the call's own among them, is filled in this way.
     pub fn left(&self, call: usize, fill: Fill) -> Result<Vec<u8>, Memory>
         requires { call < sum_by calls_by self.now.history.calls }
-        ensures image { IfOk result (λ image. image.items ≡ image_left fill (alike self.now.history.first) self.now.history.calls call) }
-        ensures left { IfOk result (λ image. (u : ℕ) × IsMomentOf self.now.history.calls call u × (⟦<MemDisk as Disk>⟧.meaning self.now).leaves u image.items) }
+        ensures image { IfOk result (λ image. image.items
+            ≡ image_left fill (alike self.now.history.first) self.now.history.calls call) }
+        ensures left { IfOk result (λ image. (u : ℕ) × IsMomentOf self.now.history.calls call u
+            × (⟦<MemDisk as Disk>⟧.meaning self.now).leaves u image.items) }
     {
         let alloc = *self.first.allocator();
         let entries = self.journal.entries();
@@ -176,13 +186,17 @@ fn record_write(
     requires inside { at + length bytes.now ≤ largest_store }
     requires rooms { log.old.room ≤ file.old.room }
     ensures journal { OnTrue result (journal.new ≡ with_entry journal.old (Entry.Wrote at (length bytes.now))) }
-    ensures file { OnTrue result (file.new ≡ record { bytes = written file.old.bytes at bytes.now; room = file.old.room }) }
+    ensures file { OnTrue result (file.new ≡ record {
+      bytes = written file.old.bytes at bytes.now;
+      room = file.old.room;
+    }) }
     ensures log { OnTrue result (log.new ≡ record { bytes = log.old.bytes ++ bytes.now; room = log.old.room }) }
     ensures full { OnFalse result (IsTried journal.old journal.new Entry.Other) }
     ensures same { OnFalse result ((file.new ≡ file.old) × (log.new ≡ log.old)) }
     ensures limit { journal.new.limit ≡ journal.old.limit }
     ensures room { log.new.room ≡ log.old.room }
-    ensures fits { at + length bytes.now ≤ log.old.room → length log.old.bytes + length bytes.now ≤ log.old.room → sum_by is_call journal.old.entries < journal.old.limit → IsTrue result }
+    ensures fits { at + length bytes.now ≤ log.old.room → length log.old.bytes + length bytes.now ≤ log.old.room
+        → sum_by is_call journal.old.entries < journal.old.limit → IsTrue result }
 {
     let start = at as usize;
     let end = start + bytes.len();
@@ -204,11 +218,14 @@ impl Disk for MemDisk {
 
     ghost is_disk = { λ d. replayed_is_disk d.history };
 
-    /// As every attach, and: the call is counted. One whose number is among those that fail is a fault, and any other is
-    /// done where there is room for it in the record. So are the calls below.
+    /// As every attach, and: the call is counted. One whose number is among those that fail is a fault, and any other
+    /// is done where there is room for it in the record. So are the calls below.
     fn attach(&mut self, name: &str) -> Result<(), DiskFault>
         requires { length name.now ≤ longest_name }
-        ensures attached { self.new.history.attached ≡ record { count = one_more self.old.history.attached.count; name = name.now } }
+        ensures attached { self.new.history.attached ≡ record {
+          count = one_more self.old.history.attached.count;
+          name = name.now;
+        } }
         ensures keeps { Keeps (replayed self.old.history) (replayed self.new.history) }
         ensures time { Elapses (replayed self.old.history) (replayed self.new.history) }
         ensures marks { MarksUp (replayed self.old.history) (replayed self.new.history) 0 }
@@ -285,7 +302,8 @@ impl Disk for MemDisk {
         ensures calls { self.new.plan ≡ after_call self.old.plan }
         ensures bounds { self.new.bounds ≡ self.old.bounds }
         ensures planned { FailsNow self.old.plan → IsErr result }
-        ensures fits { (FailsNow self.old.plan → ⊥) → HasRoom self.old → HasBytes self.old at (length bytes.now) → IsOk result }
+        ensures fits { (FailsNow self.old.plan → ⊥) → HasRoom self.old
+            → HasBytes self.old at (length bytes.now) → IsOk result }
     {
         let fails = self.calls.fails_now();
         if !record_write(&mut self.file, &mut self.log, &mut self.journal, at, bytes) {
@@ -302,7 +320,8 @@ impl Disk for MemDisk {
         ensures attached { self.new.history.attached ≡ self.old.history.attached }
         ensures time { Elapses (replayed self.old.history) (replayed self.new.history) }
         ensures marks { MarksUp (replayed self.old.history) (replayed self.new.history) 0 }
-        ensures syncs { SyncsUp (replayed self.old.history) (replayed self.new.history) (if is_ok result then 1 else 0) }
+        ensures syncs { SyncsUp (replayed self.old.history) (replayed self.new.history) (if is_ok result
+            then 1 else 0) }
         ensures unmarked { OnOk result (self.new.history.is_marked ≡ false) }
         ensures cause { HasCause self.old.history.faults self.new.history.faults (IsErr result) }
 
@@ -323,7 +342,8 @@ impl Disk for MemDisk {
         ensures keeps { Keeps (replayed self.old.history) (replayed self.new.history) }
         ensures attached { self.new.history.attached ≡ self.old.history.attached }
         ensures time { Elapses (replayed self.old.history) (replayed self.new.history) }
-        ensures marks { MarksUp (replayed self.old.history) (replayed self.new.history) (if self.old.history.is_marked then 0 else 1) }
+        ensures marks { MarksUp (replayed self.old.history) (replayed self.new.history) (if self.old.history.is_marked
+            then 0 else 1) }
         ensures syncs { SyncsUp (replayed self.old.history) (replayed self.new.history) 0 }
         ensures marked { self.new.history.is_marked ≡ true }
         ensures faults { self.new.history.faults ≡ self.old.history.faults }

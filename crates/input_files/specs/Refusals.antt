@@ -1,7 +1,8 @@
 -- Why an input file is refused, and how a step that reads one ends.
 use Rattle.std.specs.Prelude.{◌≡◌, ◌⊎◌, ℕ, Bool, true, false, List, [], ◌∷◌, Result, Ok, Err}
 use Rattle.input_files.specs.declared.refusal.InputRefusal.{InputRefusal}
-use Rattle.input_files.specs.declared.refusal.InputRefusal.TheVariants.{FileFault, BadUsers, ShortSecret, BadRecord, Memory}
+use Rattle.input_files.specs.declared.refusal.InputRefusal.TheVariants.{FileFault, BadUsers, ShortSecret, BadRecord}
+use Rattle.input_files.specs.declared.refusal.InputRefusal.TheVariants.{Memory}
 
 -- it is want of memory
 abbrev pub is_want : InputRefusal → Bool

@@ -1,10 +1,12 @@
 -- When a refusal comes, and which ones a call has.
 use Rattle.std.specs.Prelude.{◌≡◌, Result, Err, ◌⊎◌}
 use Rattle.kit_manifest.specs.declared.fault.ManifestFault.{ManifestFault}
-use Rattle.kit_manifest.specs.declared.fault.ManifestFault.TheVariants.{NotToml, MissingKey, WrongType, BadName, UnknownKit, Cycle, RepeatedKit, Memory}
+use Rattle.kit_manifest.specs.declared.fault.ManifestFault.TheVariants.{NotToml, MissingKey, WrongType, BadName}
+use Rattle.kit_manifest.specs.declared.fault.ManifestFault.TheVariants.{UnknownKit, Cycle, RepeatedKit, Memory}
 
 -- The answer is this refusal exactly where the fact holds; want of memory may come in its place.
-pub record RefusesWhere {T : Type 0} (result : Result T ManifestFault) (fault : ManifestFault) (Holds : Type 0) : Type 0 where
+pub record RefusesWhere {T : Type 0} (result : Result T ManifestFault)
+    (fault : ManifestFault) (Holds : Type 0) : Type 0 where
   pub only : result ≡ Err fault → Holds
   pub comes : Holds → (result ≡ Err Memory → ⊥) → result ≡ Err fault
 

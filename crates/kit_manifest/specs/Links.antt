@@ -1,5 +1,6 @@
 -- The dependences of kits as links between their places, and marks on places.
-use Rattle.std.specs.Prelude.{◌≡◌, ℕ, ◌+◌, ◌<◌, List, [], length, All, Bool, true, false, not, count_by, slice_get, slice_index_or, Contains, Vec, ◌⊎◌}
+use Rattle.std.specs.Prelude.{◌≡◌, ℕ, ◌+◌, ◌<◌, List, [], length, All, Bool, true, false, not, count_by, slice_get}
+use Rattle.std.specs.Prelude.{slice_index_or, Contains, Vec, ◌⊎◌}
 use Rattle.std.specs.Option.{option_map_or}
 use Rattle.std.specs.declared.alloc.Global.{Global}
 use Rattle.kit_manifest.specs.Order.{IsFirst, IsOrder, DependsOn}

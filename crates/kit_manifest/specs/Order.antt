@@ -34,7 +34,8 @@ LeadsBack kits i = Walk (DependsOn kits) i i
 
 -- Another kit of the list has the kit's name, or it is the name of the built-in kit.
 abbrev pub IsRepeated : List Manifest → ℕ → Type 0
-IsRepeated kits i = (name_of kits i ≡ codes "sys") ⊎ ((j : ℕ) × (j < length kits) × (j ≢ i) × (name_of kits j ≡ name_of kits i))
+IsRepeated kits i = (name_of kits i ≡ codes "sys")
+    ⊎ ((j : ℕ) × (j < length kits) × (j ≢ i) × (name_of kits j ≡ name_of kits i))
 
 -- Nowhere below n does the fact hold.
 abbrev pub IsNowhere : ℕ → (ℕ → Type 0) → Type 0
@@ -55,7 +56,8 @@ pub record CanBeTaken (n : ℕ) (Needs : ℕ → ℕ → Type 0) (taken : List �
 -- Places taken again and again, each time the first that can be taken.
 pub data Takes (n : ℕ) (Needs : ℕ → ℕ → Type 0) : List ℕ → Type 0 where
   nothing : Takes n Needs []
-  next : (taken : List ℕ) (i : ℕ) → Takes n Needs taken → IsFirst n (CanBeTaken n Needs taken) i → Takes n Needs (taken ++ i ∷ [])
+  next : (taken : List ℕ) (i : ℕ) → Takes n Needs taken → IsFirst n (CanBeTaken n Needs taken) i
+      → Takes n Needs (taken ++ i ∷ [])
 
 -- The order of the kits: the first kit of the list whose dependences are taken is taken, again and again, until each
 -- is. The built-in kit `sys` is there before all: no kit of the list waits for it.

@@ -1,5 +1,6 @@
 -- What a TOML document says of a kit, and when it says too little.
-use Rattle.std.specs.Prelude.{◌≡◌, ℕ, Bool, true, false, not, ◌||◌, List, [], ◌∷◌, Option, Some, None, is_some, is_none, option_map, codes, IsTrue, IsUtf8, MatchOption}
+use Rattle.std.specs.Prelude.{◌≡◌, ℕ, Bool, true, false, not, ◌||◌, List, [], ◌∷◌, Option, Some, None, is_some, is_none}
+use Rattle.std.specs.Prelude.{option_map, codes, IsTrue, IsUtf8, MatchOption}
 use Rattle.std.specs.List.{list_all}
 use Rattle.std.specs.Option.{option_map_or}
 use Rattle.sed_value.specs.Names.{is_kit_name}
@@ -46,7 +47,8 @@ texts_of _ = None
 pub record IsManifest (table : Members) (manifest : Manifest) : Type 0 where
   pub name : name_in table ≡ Some (string manifest.name)
   pub version : version_in table ≡ Some (string manifest.version)
-  pub depends : MatchOption (depends_in table) (manifest.depends ≡ []) (λ value. value ≡ array (strings manifest.depends))
+  pub depends : MatchOption (depends_in table) (manifest.depends ≡ [])
+      (λ value. value ≡ array (strings manifest.depends))
   pub files : files_in table ≡ Some (array (strings manifest.files))
   pub kits : IsTrue (list_all is_kit_name (manifest.name ∷ manifest.depends))
 
@@ -68,7 +70,8 @@ are_texts value = is_some (texts_of value)
 -- One of the four keys has a value of another type.
 abbrev pub has_wrong_type : Members → Bool
 has_wrong_type table =
-    ((fails is_text (name_in table) || fails is_text (version_in table)) || fails are_texts (files_in table)) || fails are_texts (depends_in table)
+    ((fails is_text (name_in table) || fails is_text (version_in table)) || fails are_texts (files_in table))
+    || fails are_texts (depends_in table)
 
 abbrev pub is_kit_text : Data → Bool
 is_kit_text value = option_map_or is_kit_name (as_str value) false

@@ -1,6 +1,8 @@
 //! Links between the places of a list: their order, and the first place to which they lead back.
-ghost use Rattle.std.specs.Prelude.{◌≡◌, ◌≢◌, ℕ, ◌<◌, ◌↔◌, [], ◌∷◌, All, Contains, false, true, length, replicate, IfOk, IsTrue, MatchOption, OnOk};
-ghost use Rattle.kit_manifest.specs.Links.{links_at, IsLink, StaysBelow, is_marked, AreMarked, IsReady, IsStalled, Reaches, IsOrdered};
+ghost use Rattle.std.specs.Prelude.{◌≡◌, ◌≢◌, ℕ, ◌<◌, ◌↔◌, [], ◌∷◌, All, Contains, false, true, length, replicate};
+ghost use Rattle.std.specs.Prelude.{IfOk, IsTrue, MatchOption, OnOk};
+ghost use Rattle.kit_manifest.specs.Links.{links_at, IsLink, StaysBelow, is_marked, AreMarked, IsReady, IsStalled};
+ghost use Rattle.kit_manifest.specs.Links.{Reaches, IsOrdered};
 ghost use Rattle.kit_manifest.specs.Order.{IsFirst};
 ghost use Rattle.kit_manifest.specs.Walk.{Walk};
 
@@ -47,7 +49,8 @@ fn links_of(links: &[Vec<usize>], place: usize) -> &[usize]
 // The first of these places that is not marked.
 fn first_unmarked(places: &[usize], marks: &[bool]) -> Option<usize>
     requires { All (λ i. i < length marks.now) places.now }
-    ensures { MatchOption result (AreMarked marks.now places.now) (λ i. Contains places.now i × (is_marked marks.now i ≡ false)) }
+    ensures { MatchOption result (AreMarked marks.now places.now) (λ i. Contains places.now i
+        × (is_marked marks.now i ≡ false)) }
 {
     for place in places {
         if !marks[*place] {
@@ -71,7 +74,8 @@ fn is_ready(links: &[Vec<usize>], taken: &[bool], place: usize) -> bool
 fn first_ready(links: &[Vec<usize>], taken: &[bool]) -> Option<usize>
     requires stays { StaysBelow (length links.now) links.now }
     requires marks { length taken.now ≡ length links.now }
-    ensures { MatchOption result (IsStalled links.now taken.now) (IsFirst (length links.now) (IsReady links.now taken.now)) }
+    ensures { MatchOption result (IsStalled links.now taken.now)
+        (IsFirst (length links.now) (IsReady links.now taken.now)) }
 {
     for place in 0..links.len() {
         if is_ready(links, taken, place) {
@@ -185,7 +189,8 @@ fn reach_one(
     waiting: &mut Vec<usize>,
 ) -> Result<(), AllocError>
     requires { place < length reached.old.items }
-    ensures { OnOk result (Reaches (place ∷ []) reached.old.items reached.new.items waiting.old.items waiting.new.items) }
+    ensures { OnOk result (Reaches (place ∷ []) reached.old.items reached.new.items
+        waiting.old.items waiting.new.items) }
 {
     if reached[place] {
         return Ok(());

@@ -1,8 +1,11 @@
 //! The order of kits.
-ghost use Rattle.std.specs.Prelude.{◌≡◌, ◌≢◌, ℕ, ◌<◌, ◌↔◌, Contains, codes, length, IfErr, IfOk, IsOk, IsTrue, MatchOption, MatchResult, OnOk};
+ghost use Rattle.std.specs.Prelude.{◌≡◌, ◌≢◌, ℕ, ◌<◌, ◌↔◌, Contains, codes, length, IfErr, IfOk, IsOk, IsTrue};
+ghost use Rattle.std.specs.Prelude.{MatchOption, MatchResult, OnOk};
 ghost use Rattle.kit_manifest.specs.Fault.{IsOfList, RefusesWhere};
 ghost use Rattle.kit_manifest.specs.Links.{AreLinksOf};
-ghost use Rattle.kit_manifest.specs.Order.{name_of, DependsOn, IsUnknown, HasUnknown, IsRepeated, IsNowhere, IsFirst, IsOrder, IsPermutationOf, StandsBefore, UnknownAt, CycleAt, RepeatedAt, IsOrderly, IsOrderOf, IsListRefusal};
+ghost use Rattle.kit_manifest.specs.Order.{name_of, DependsOn, IsUnknown, HasUnknown, IsRepeated, IsNowhere, IsFirst};
+ghost use Rattle.kit_manifest.specs.Order.{IsOrder, IsPermutationOf, StandsBefore, UnknownAt, CycleAt, RepeatedAt};
+ghost use Rattle.kit_manifest.specs.Order.{IsOrderly, IsOrderOf, IsListRefusal};
 
 use crate::fault::ManifestFault;
 use crate::links::{Ordered, order_of};
@@ -24,7 +27,8 @@ use std::alloc::{AllocError, Global};
 pub fn order_kits(alloc: Global, list: &[Manifest]) -> Result<Vec<usize>, ManifestFault>
     ensures order { IfOk result (λ order. IsOrder (length list.now) (DependsOn list.now) order.items) }
     ensures permutation { IfOk result (λ order. IsPermutationOf (length list.now) order.items) }
-    ensures behind { IfOk result (λ order. (i j : ℕ) → i < length list.now → DependsOn list.now i j → StandsBefore order.items j i) }
+    ensures behind { IfOk result (λ order. (i j : ℕ) → i < length list.now
+        → DependsOn list.now i j → StandsBefore order.items j i) }
 
     ensures orderly { OnOk result (IsOrderly list.now) }
     ensures comes { IsOrderly list.now → result ≢ Err ManifestFault.Memory → IsOk result }
@@ -115,7 +119,8 @@ fn has_unknown(list: &[Manifest], place: usize) -> bool
 
 // The first kit of which a dependence is unknown.
 fn first_unknown(list: &[Manifest]) -> Option<usize>
-    ensures { MatchOption result (IsNowhere (length list.now) (HasUnknown list.now)) (IsFirst (length list.now) (HasUnknown list.now)) }
+    ensures { MatchOption result (IsNowhere (length list.now) (HasUnknown list.now))
+        (IsFirst (length list.now) (HasUnknown list.now)) }
 {
     for place in 0..list.len() {
         if has_unknown(list, place) {
@@ -144,7 +149,8 @@ fn is_repeated(list: &[Manifest], place: usize) -> bool
 
 // The first kit that is repeated.
 fn first_repeated(list: &[Manifest]) -> Option<usize>
-    ensures { MatchOption result (IsNowhere (length list.now) (IsRepeated list.now)) (IsFirst (length list.now) (IsRepeated list.now)) }
+    ensures { MatchOption result (IsNowhere (length list.now) (IsRepeated list.now))
+        (IsFirst (length list.now) (IsRepeated list.now)) }
 {
     for place in 0..list.len() {
         if is_repeated(list, place) {

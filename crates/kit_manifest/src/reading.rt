@@ -4,7 +4,8 @@ ghost use Rattle.toml.specs.Data.{Members};
 ghost use Rattle.toml.specs.View.{table_view};
 ghost use Rattle.kit_manifest.specs.Fault.{RefusesWhere, IsOfText, IsMemoryOr};
 ghost use Rattle.kit_manifest.specs.declared.manifest.Manifest.{Manifest};
-ghost use Rattle.kit_manifest.specs.Reading.{IsDocument, HasDocument, IsManifest, LacksKey, HasWrongType, HasBadName, IsRefusal, depends_in, texts_of, are_texts, fails};
+ghost use Rattle.kit_manifest.specs.Reading.{IsDocument, HasDocument, IsManifest, LacksKey, HasWrongType, HasBadName};
+ghost use Rattle.kit_manifest.specs.Reading.{IsRefusal, depends_in, texts_of, are_texts, fails};
 
 use crate::fault::ManifestFault;
 use crate::manifest::{Manifest, Text};
@@ -80,8 +81,10 @@ fn manifest_in(alloc: Global, table: &Table) -> Result<Manifest, ManifestFault>
 // The strings at `depends`, and none without that key.
 fn depends_in(alloc: Global, table: &Table) -> Result<Vec<Text>, ManifestFault>
     ensures { MatchResult result
-        (λ depends. MatchOption (depends_in (table_view table.now)) (depends.items ≡ []) (λ value. texts_of value ≡ Some depends.items))
-        (λ fault. IsMemoryOr fault ManifestFault.WrongType (fails are_texts (depends_in (table_view table.now)) ≡ true)) }
+        (λ depends. MatchOption (depends_in (table_view table.now)) (depends.items ≡ [])
+        (λ value. texts_of value ≡ Some depends.items))
+        (λ fault. IsMemoryOr fault ManifestFault.WrongType
+        (fails are_texts (depends_in (table_view table.now)) ≡ true)) }
 {
     match value_at(table, "depends") {
         Some(value) => texts_in(alloc, value),

@@ -1,5 +1,6 @@
 //! The marks.
-ghost use Rattle.std.specs.Prelude.{◌≡◌, ◌==◌, ◌&&◌, ◌||◌, ◌<◌, ℕ, Bool, List, [], true, false, if◌then◌else◌, IfOk, replicate, slice_index_or};
+ghost use Rattle.std.specs.Prelude.{◌≡◌, ◌==◌, ◌&&◌, ◌||◌, ◌<◌, ℕ, Bool, List, [], true, false, if◌then◌else◌, IfOk};
+ghost use Rattle.std.specs.Prelude.{replicate, slice_index_or};
 ghost use Rattle.link_marks.specs.Marked.{has_mark, most_ids, places};
 
 use sed_value::limits::{MOST_COMPONENTS, MOST_SESSIONS};
@@ -7,8 +8,8 @@ use sed_value::{Id, Memory};
 use std::alloc::{AllocError, Global};
 use std::marker::Model;
 
-/// For each id below 4,096 and each session place, 0 to 15, whether the links at the component may have changed since they
-/// were settled for that place. Contracts see a row of marks for each id, by `has_mark`.
+/// For each id below 4,096 and each session place, 0 to 15, whether the links at the component may have changed since
+/// they were settled for that place. Contracts see a row of marks for each id, by `has_mark`.
 ///
 /// Room for all is taken by `new`; no other call takes memory.
 #[derive(Drop)]
@@ -47,7 +48,8 @@ impl LinkMarks {
 
     /// Marks the links at a component for every place.
     pub fn mark(&mut self, id: Id)
-        ensures { (other place : ℕ) → has_mark self.new other place ≡ ((other == id.0) || has_mark self.old other place) }
+        ensures { (other place : ℕ) → has_mark self.new other place
+            ≡ ((other == id.0) || has_mark self.old other place) }
     {
         let at = usize::from(id.0);
         if at < self.rows.len() {
@@ -59,7 +61,8 @@ impl LinkMarks {
     pub fn settle(&mut self, id: Id, place: u8)
         requires id { id.0 < most_ids }
         requires place { place < places }
-        ensures { (other at : ℕ) → has_mark self.new other at ≡ (if (other == id.0) && (at == place) then false else has_mark self.old other at) }
+        ensures { (other at : ℕ) → has_mark self.new other at
+            ≡ (if (other == id.0) && (at == place) then false else has_mark self.old other at) }
     {
         self.rows[usize::from(id.0)][usize::from(place)] = false;
     }

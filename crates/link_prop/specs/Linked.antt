@@ -26,7 +26,8 @@ pub record Linked (E : Type 0) : Type 0 where
 
 abbrev pub linked_code : {E : Type 0} → Coded E → Coded Node → Coded (Linked E)
 linked_code {E} engine node =
-    code_by (Held E × (List Link × Marked)) (coded× (held_code engine node) (coded× (coded_list link_code) (coded_list (coded_list coded_bool))))
+    code_by (Held E × (List Link × Marked))
+    (coded× (held_code engine node) (coded× (coded_list link_code) (coded_list (coded_list coded_bool))))
     (λ h. (h.tree, (h.links, h.marks))) (λ p. record { tree = p.0; links = p.1.0; marks = p.1.1 }) (λ _. refl)
 
 -- the application that they stand for, whatever is marked

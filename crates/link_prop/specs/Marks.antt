@@ -1,13 +1,15 @@
--- Marks of an application: which of the parts t, c, r and l of a component may have changed since they were settled for a
--- session place; and the table of the marks that each call may set. Those of t, c and r are the tree's.
-use Rattle.std.specs.Prelude.{ℕ, ◌≡◌, ◌⊎◌, ◌==◌, ◌&&◌, ◌||◌, ◌+◌, ◌/◌, ◌%◌, Bool, true, false, if◌then◌else◌, IsTrue, List}
+-- Marks of an application: which of the parts t, c, r and l of a component may have changed since they were settled for
+-- a session place; and the table of the marks that each call may set. Those of t, c and r are the tree's.
+use Rattle.std.specs.Prelude.{ℕ, ◌≡◌, ◌⊎◌, ◌==◌, ◌&&◌, ◌||◌, ◌+◌, ◌/◌, ◌%◌, Bool, true, false, if◌then◌else◌, IsTrue}
+use Rattle.std.specs.Prelude.{List}
 use Rattle.std.specs.List.{list_any}
 use Rattle.sed_engine.specs.declared.engine.Engine.{Ghosts}
 pub use Rattle.node_table.specs.declared.marks.Parts.{Parts}
 use Rattle.link_table.specs.Link.{Link}
 use Rattle.link_table.specs.Links.{links_at}
 pub use Rattle.link_marks.specs.Marked.{has_mark}
-pub use Rattle.comp_tree.specs.Marks.{Part, added_at, is_among, marks_at, mask_of, no_marks, part_at, parts_in, tree_above, tree_at, values_at}
+pub use Rattle.comp_tree.specs.Marks.{Part, added_at, is_among, marks_at, mask_of, no_marks, part_at, parts_in}
+pub use Rattle.comp_tree.specs.Marks.{tree_above, tree_at, values_at}
 use Rattle.comp_tree.specs.Application.{is_live}
 use Rattle.comp_tree.specs.Held.{components_of}
 use Rattle.comp_tree.specs.Parts.{link_part}
@@ -42,8 +44,8 @@ mask_at h id place = mask_of (marks_at h.tree id place) + (if has_mark h.marks i
 
 -- ---- what a call does to the marks
 
--- what the mark of a part for a place tells, from one state to a later one: where it is clear after, it was clear before,
--- and the part has the same bytes
+-- what the mark of a part for a place tells, from one state to a later one: where it is clear after, it was clear
+-- before, and the part has the same bytes
 abbrev pub MarkTells : {E : Type 0} → Ghosts E → ℕ → ℕ → AppPart → Linked E → Linked E → Type 0
 MarkTells g id place part before after =
     is_marked after id place part ≡ false
@@ -58,13 +60,16 @@ abbrev pub is_in_row : (ℕ → Parts) → (ℕ → Bool) → ℕ → AppPart �
 is_in_row own linked id (OfTree part) = is_among part (own id)
 is_in_row own linked id OfLinks = linked id
 
--- what a call does where it may set the marks of a row: it tells of them; and of what is live after, at most the row's marks
--- are set, and none is cleared
-pub record KeepsAppMarks {E : Type 0} (g : Ghosts E) (own : ℕ → Parts) (linked : ℕ → Bool) (before after : Linked E) : Type 0 where
+-- what a call does where it may set the marks of a row: it tells of them; and of what is live after, at most the row's
+-- marks are set, and none is cleared
+pub record KeepsAppMarks {E : Type 0} (g : Ghosts E) (own : ℕ → Parts) (linked : ℕ
+    → Bool) (before after : Linked E) : Type 0 where
   pub tells : Tells g before after
-  pub sets : (id place : ℕ) (part : AppPart) → IsTrue (is_live (components_of g after.tree).by_id id) → is_marked after id place part ≡ true
+  pub sets : (id place : ℕ) (part : AppPart) → IsTrue (is_live (components_of g after.tree).by_id id)
+      → is_marked after id place part ≡ true
       → (is_marked before id place part ≡ true) ⊎ (is_in_row own linked id part ≡ true)
-  pub clears_none : (id place : ℕ) (part : AppPart) → IsTrue (is_live (components_of g after.tree).by_id id) → is_marked before id place part ≡ true
+  pub clears_none : (id place : ℕ) (part : AppPart) → IsTrue (is_live (components_of g after.tree).by_id id)
+      → is_marked before id place part ≡ true
       → is_marked after id place part ≡ true
 
 -- ---- settling
@@ -92,7 +97,8 @@ links_at_ends l id = (l.from == id) || (l.to == id)
 
 -- `delete`: l at each component that had a link with one that goes
 abbrev pub links_with : List ℕ → List Link → ℕ → Bool
-links_with gone links id = list_any (λ (l : Link). list_any (λ other. (l.from == other) || (l.to == other)) gone) (links_at id links)
+links_with gone links id =
+    list_any (λ (l : Link). list_any (λ other. (l.from == other) || (l.to == other)) gone) (links_at id links)
 
 -- every other call: none
 abbrev pub no_links : ℕ → Bool

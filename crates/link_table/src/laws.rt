@@ -3,7 +3,8 @@ ghost use Rattle.std.specs.Prelude.{◌≡◌, ◌≤◌, ◌↔◌, ◌||◌, �
 ghost use Rattle.std.specs.List.{All, Contains, list_any};
 ghost use Rattle.std.specs.List.Sorted.{IsPermutation};
 ghost use Rattle.link_table.specs.Link.{Link};
-ghost use Rattle.link_table.specs.Links.{AreInOrder, has_target, is_same_link, links_at, with_link, without_link, without_links_at};
+ghost use Rattle.link_table.specs.Links.{AreInOrder, has_target, is_same_link, links_at, with_link, without_link};
+ghost use Rattle.link_table.specs.Links.{without_links_at};
 
 /// Two lists in the order of the targets that have the same links are one list.
 pub fn lists_in_order_are_one()

@@ -21,5 +21,10 @@ impl Model for LinkRec {
 
     ghost view = { λ l. record { from = l.from.0; from_slot = l.from_slot; to = l.to.0; to_slot = l.to_slot } };
 
-    ghost inverse = { λ l. record { from = record { 0 = l.from }; from_slot = l.from_slot; to = record { 0 = l.to }; to_slot = l.to_slot } };
+    ghost inverse = { λ l. record {
+      from = record { 0 = l.from };
+      from_slot = l.from_slot;
+      to = record { 0 = l.to };
+      to_slot = l.to_slot;
+    } };
 }

@@ -1,5 +1,6 @@
 //! The table.
-ghost use Rattle.std.specs.Prelude.{◌≡◌, ◌<◌, ◌≤◌, ◌++◌, ◌∷◌, ℕ, List, [], false, IfOk, IsTrue, is_some, nat_le, find, length, slice_get};
+ghost use Rattle.std.specs.Prelude.{◌≡◌, ◌<◌, ◌≤◌, ◌++◌, ◌∷◌, ℕ, List, [], false, IfOk, IsTrue, is_some, nat_le, find};
+ghost use Rattle.std.specs.Prelude.{length, slice_get};
 ghost use Rattle.std.specs.List.{All, list_any};
 ghost use Rattle.link_table.specs.Link.{most_links};
 ghost use Rattle.link_table.specs.Links.{AreInOrder, has_target, is_before, is_same_link, links_at, links_into};
@@ -37,7 +38,8 @@ impl Model for Links {
 
     ghost view = { λ s. s.by_target.items };
 
-    ghost invariant = { λ s. AreKept s.by_target.items s.by_source.items (vec_capacity s.by_target) (vec_capacity s.by_source) };
+    ghost invariant = { λ s. AreKept s.by_target.items s.by_source.items
+        (vec_capacity s.by_target) (vec_capacity s.by_source) };
 }
 
 impl Links {

@@ -1,5 +1,6 @@
 //! Links in order: where one has its place, and those at a component.
-ghost use Rattle.std.specs.Prelude.{◌≡◌, ◌==◌, ◌&&◌, ◌++◌, ◌≤◌, nat_lt, nat_le, not, length, take, drop, filter, find, slice_get};
+ghost use Rattle.std.specs.Prelude.{◌≡◌, ◌==◌, ◌&&◌, ◌++◌, ◌≤◌, nat_lt, nat_le, not, length, take, drop, filter, find};
+ghost use Rattle.std.specs.Prelude.{slice_get};
 ghost use Rattle.std.specs.List.{list_any};
 ghost use Rattle.std.specs.List.Sorted.{IsNonDecreasingBy};
 ghost use Rattle.link_table.specs.Ends.{id_at};

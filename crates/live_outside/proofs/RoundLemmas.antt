@@ -65,3 +65,5 @@ pub next_failed : (left : ℕ) (told told' : Option (List Polling)) (answer : Po
     → HearsWhereTold left told None bytes 0 told'
 next_failed left None told' answer bytes some is given later = rw later tt
 next_failed left (Some polls) told' answer bytes some is given later = rw later (hears_failed left polls some (rw is at given))
+
+pub ruleset next_ones = (next_at_end, next_got, next_nothing, next_failed)

@@ -1,5 +1,6 @@
 -- What a link means, and what each of its calls does to that.
-use Rattle.std.specs.Prelude.{◌≡◌, ◌≤◌, ◌+◌, ◌-◌, ◌^◌, ℕ, Bool, min, List, [], ◌∷◌, length, take, Option, Some, None, if◌then◌else◌, nat_le}
+use Rattle.std.specs.Prelude.{◌≡◌, ◌≤◌, ◌+◌, ◌-◌, ◌^◌, ℕ, Bool, min, List, [], ◌∷◌, length, take, Option, Some, None}
+use Rattle.std.specs.Prelude.{if◌then◌else◌, nat_le}
 use Rattle.live_outside.specs.declared.polling.Polling.{Polling}
 use Rattle.live_outside.specs.declared.polling.Polling.TheVariants as to_come
 use Rattle.live_outside.specs.declared.link.Polled.{Polled}
@@ -11,7 +12,8 @@ longest_datagram = 512
 
 -- A poll to come as it is given: a datagram that is too long is none.
 abbrev pub given : Polling → Polling
-given (to_come.Got peer bytes) = if nat_le (length bytes) longest_datagram then to_come.Got peer bytes else to_come.Nothing
+given (to_come.Got peer bytes) = if nat_le (length bytes) longest_datagram
+    then to_come.Got peer bytes else to_come.Nothing
 given to_come.Nothing = to_come.Nothing
 given to_come.Failed = to_come.Failed
 

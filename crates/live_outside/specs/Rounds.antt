@@ -51,7 +51,8 @@ wake_moments first period zero = []
 wake_moments first period (suc n) = wake_moments first period n ++ wake_moment first (suc n) period ∷ []
 
 -- A datagram was heard, of so many polls that were left, where these were to come; and what is left, and to come, then.
-pub record Hears (left : ℕ) (polls : List Polling) (peer : Addr) (bytes : List ℕ) (left' : ℕ) (polls' : List Polling) : Type 0 where
+pub record Hears (left : ℕ) (polls : List Polling) (peer : Addr) (bytes : List ℕ)
+    (left' : ℕ) (polls' : List Polling) : Type 0 where
   pub next : heard left polls ≡ record { peer = peer; bytes = bytes } ∷ heard left' polls'
   pub rest : unheard left polls ≡ unheard left' polls'
 
@@ -60,11 +61,12 @@ pub record HearsNone (left : ℕ) (polls polls' : List Polling) : Type 0 where
   pub none : heard left polls ≡ []
   pub rest : unheard left polls ≡ polls'
 
--- The same, where nothing may be told of the polls, of what a poll gave and the bytes into which it was put. Whether they
--- are told stays.
+-- The same, where nothing may be told of the polls, of what a poll gave and the bytes into which it was put. Whether
+-- they are told stays.
 abbrev pub HearsWhereTold : ℕ → Option (List Polling) → Option (Addr × ℕ) → List ℕ → ℕ → Option (List Polling) → Type 0
 HearsWhereTold left None came bytes left' None = Unit {0}
 HearsWhereTold left (Some polls) None bytes left' (Some polls') = HearsNone left polls polls'
-HearsWhereTold left (Some polls) (Some came) bytes left' (Some polls') = Hears left polls came.0 (take came.1 bytes) left' polls'
+HearsWhereTold left (Some polls) (Some came) bytes left' (Some polls') =
+    Hears left polls came.0 (take came.1 bytes) left' polls'
 HearsWhereTold left (Some polls) came bytes left' None = ⊥
 HearsWhereTold left None came bytes left' (Some polls') = ⊥

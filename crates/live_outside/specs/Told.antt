@@ -45,7 +45,10 @@ pub record HasRoom {T : Type 0} (bounded : Bounded T) : Type 0 where
 
 -- With one more that is told, and with one more that is not.
 abbrev pub with_item : {T : Type 0} → Bounded T → T → Bounded T
-with_item bounded item = record { told = record { first = bounded.told.first ++ item ∷ []; more = false }; room = bounded.room }
+with_item bounded item = record {
+  told = record { first = bounded.told.first ++ item ∷ []; more = false };
+  room = bounded.room;
+}
 
 abbrev pub with_more : {T : Type 0} → Bounded T → Bounded T
 with_more bounded = record { told = record { first = bounded.told.first; more = true }; room = bounded.room }

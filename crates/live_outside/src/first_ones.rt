@@ -6,7 +6,8 @@ use sed_value::Memory;
 use std::alloc::Global;
 use std::marker::Model;
 
-/// The first ones of a list, how many of them there are at most, and whether the list has more. Contracts see all three.
+/// The first ones of a list, how many of them there are at most, and whether the list has more. Contracts see all
+/// three.
 #[derive(Drop)]
 pub struct FirstOnes<T: Drop> {
     first: Vec<T>,

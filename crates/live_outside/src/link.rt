@@ -71,7 +71,8 @@ pub trait Link {
 
     /// Offers a datagram to that peer. After a fault it was offered too, and is lost.
     fn send(&mut self, to: Addr, bytes: &[u8]) -> Result<(), LinkFault>
-        ensures offered { AddsWhereTold (offered self.old) (offered self.new) (record { peer = to; bytes = bytes.now } ∷ []) }
+        ensures offered { AddsWhereTold (offered self.old) (offered self.new)
+            (record { peer = to; bytes = bytes.now } ∷ []) }
         ensures polls { polls self.new ≡ polls self.old }
         ensures bound { bound self.new ≡ bound self.old }
         ensures cause { HasCause (faults self.old) (faults self.new) (IsErr result) }

@@ -23,7 +23,8 @@ impl MemClock {
     /// A clock that gives these moments in their order and then the last one again, or 0 where there are none. It has
     /// room for so many sleeps, for which it takes all its memory here.
     pub fn new(alloc: Global, moments: Vec<i64>, room: usize) -> Result<MemClock, Memory>
-        ensures moments { IfOk result (λ clock. ⟦<MemClock as Clock>⟧.moments clock ≡ Some (all_to_come moments.items)) }
+        ensures moments { IfOk result (λ clock. ⟦<MemClock as Clock>⟧.moments clock
+            ≡ Some (all_to_come moments.items)) }
         ensures asked { IfOk result (λ clock. ⟦<MemClock as Clock>⟧.asked clock ≡ Some told_none) }
         ensures to_come { IfOk result (λ clock. moments_in clock ≡ all_to_come moments.items) }
         ensures room { IfOk result (λ clock. asked_in clock ≡ record { told = told_none; room = room }) }

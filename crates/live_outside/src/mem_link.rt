@@ -1,5 +1,6 @@
 //! A link in memory.
-ghost use Rattle.std.specs.Prelude.{◌≡◌, ◌≤◌, ◌+◌, ◌-◌, ◌^◌, ◌↔◌, [], ◌∷◌, false, min, Some, is_ok, IfOk, IsOk, IsErr, IsTrue};
+ghost use Rattle.std.specs.Prelude.{◌≡◌, ◌≤◌, ◌+◌, ◌-◌, ◌^◌, ◌↔◌, [], ◌∷◌, false, min, Some, is_ok, IfOk, IsOk, IsErr};
+ghost use Rattle.std.specs.Prelude.{IsTrue};
 ghost use Rattle.std.specs.Bool.{OnTrue, OnFalse};
 ghost use Rattle.sed_outside.specs.Cause.{HasCause};
 ghost use Rattle.sed_outside.specs.Failing.{begins_with, FailsNow, after_call};
@@ -17,8 +18,8 @@ use sed_value::{InPlace, Memory};
 use std::alloc::Global;
 
 /// A link in memory, whose polls are given and whose binds and sends fail by number. It tells its polls, how often a
-/// port was asked for, which one last and whether that was taken, and of the datagrams that were offered the first ones,
-/// as many as its room, and whether there were more.
+/// port was asked for, which one last and whether that was taken, and of the datagrams that were offered the first
+/// ones, as many as its room, and whether there were more.
 #[derive(Drop)]
 pub struct MemLink {
     polls: Polls,
@@ -42,7 +43,8 @@ impl MemLink {
     ) -> Result<MemLink, Memory>
         ensures polls { IfOk result (λ link. ⟦<MemLink as Link>⟧.polls link ≡ Some polls.items) }
         ensures offered { IfOk result (λ link. ⟦<MemLink as Link>⟧.offered link ≡ Some told_none) }
-        ensures bound { IfOk result (λ link. ⟦<MemLink as Link>⟧.bound link ≡ Some (record { count = 0; port = 0; taken = false })) }
+        ensures bound { IfOk result (λ link. ⟦<MemLink as Link>⟧.bound link
+            ≡ Some (record { count = 0; port = 0; taken = false })) }
         ensures faults { IfOk result (λ link. ⟦<MemLink as Link>⟧.faults link ≡ 0) }
         ensures to_come { IfOk result (λ link. polls_in link ≡ polls.items) }
         ensures room { IfOk result (λ link. offered_in link ≡ record { told = told_none; room = room }) }
@@ -115,7 +117,11 @@ impl Link for MemLink {
 
     /// As every bind, and: the call is counted, and is a fault exactly where its number is among those that fail.
     fn bind(&mut self, port: u16) -> Result<(), LinkFault>
-        ensures bound { bound_in self.new ≡ record { count = min ((bound_in self.old).count + 1) (2 ^ 64 - 1); port = port; taken = is_ok result } }
+        ensures bound { bound_in self.new ≡ record {
+          count = min ((bound_in self.old).count + 1) (2 ^ 64 - 1);
+          port = port;
+          taken = is_ok result;
+        } }
         ensures taken { (bound_in self.new).taken ≡ is_ok result }
         ensures polls { polls_in self.new ≡ polls_in self.old }
         ensures offered { offered_in self.new ≡ offered_in self.old }
@@ -158,7 +164,8 @@ impl Link for MemLink {
     /// room; any other is done. A datagram is told where there is room for it, whether it is sent or not. One above 512
     /// bytes has no room, and once one was not told, no later one is.
     fn send(&mut self, to: Addr, bytes: &[u8]) -> Result<(), LinkFault>
-        ensures offered { Adds (offered_in self.old).told (offered_in self.new).told (record { peer = to; bytes = bytes.now } ∷ []) }
+        ensures offered { Adds (offered_in self.old).told (offered_in self.new).told
+            (record { peer = to; bytes = bytes.now } ∷ []) }
         ensures polls { polls_in self.new ≡ polls_in self.old }
         ensures bound { bound_in self.new ≡ bound_in self.old }
         ensures cause { HasCause (faults_of self.old) (faults_of self.new) (IsErr result) }

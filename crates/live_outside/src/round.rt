@@ -52,7 +52,7 @@ impl Round {
 }
 
 // Polls once, where so many polls are left.
-#[tactic(auto, using(crate::proofs::RoundLemmas::next_at_end, crate::proofs::RoundLemmas::next_got, crate::proofs::RoundLemmas::next_nothing, crate::proofs::RoundLemmas::next_failed))]
+#[tactic(auto, using(crate::proofs::RoundLemmas::next_ones))]
 fn next_of<L: Link>(left: &mut u8, link: &mut L, into: &mut [u8; 512]) -> Option<(Addr, usize)>
     ensures heard { HearsWhereTold left.old (L.polls link.old) result into.new left.new (L.polls link.new) }
     ensures left { OnSome result (left.new < left.old) }

@@ -1,5 +1,6 @@
 //! The App alone, and its text.
-ghost use Rattle.std.specs.Prelude.{◌≡◌, ◌⊎◌, ◌<◌, ◌≤◌, ℕ, false, length, replicate, vec_len, IfOk, IfErr, IsErr, IsErrOf, OnOk};
+ghost use Rattle.std.specs.Prelude.{◌≡◌, ◌⊎◌, ◌<◌, ◌≤◌, ℕ, false, length, replicate, vec_len, IfOk, IfErr, IsErr};
+ghost use Rattle.std.specs.Prelude.{IsErrOf, OnOk};
 ghost use Rattle.std.specs.FinMap as map;
 ghost use Rattle.sed_engine.specs.Whole.{IsWhole};
 ghost use Rattle.link_prop.specs.Linked.{application_of};
@@ -24,7 +25,8 @@ pub fn text_of_alone<E: Engine>(alloc: Global, engine: E, slot: u32) -> Result<V
     ensures full { IsErrOf result NewRefusal.DataFull → E.limit engine < data_alone (E.meaning engine) }
     ensures needs { (needs : ℕ) → IsErrOf result (NewRefusal.SlotTooSmall needs) →
         (needs ≡ length (text_alone (E.meaning engine) (E.limit engine))) × (slot < needs) }
-    ensures limited { E.limit engine < data_alone (E.meaning engine) → IsErrOf result NewRefusal.DataFull ⊎ IsErrOf result NewRefusal.Memory }
+    ensures limited { E.limit engine < data_alone (E.meaning engine)
+        → IsErrOf result NewRefusal.DataFull ⊎ IsErrOf result NewRefusal.Memory }
     ensures early { IfErr result (λ refusal. is_of_disk refusal ≡ false) }
 {
     let app = app_alone(alloc, engine)?;
@@ -34,7 +36,8 @@ pub fn text_of_alone<E: Engine>(alloc: Global, engine: E, slot: u32) -> Result<V
 // The App alone, over an engine without live places.
 fn app_alone<E: Engine>(alloc: Global, engine: E) -> Result<App<E>, NewRefusal>
     requires { E.live engine ≡ map.empty }
-    ensures text { IfOk result (λ app. app_text (E.meaning app.tree.engine) (application_of E.Engine app) ≡ text_alone (E.meaning engine) (E.limit engine)) }
+    ensures text { IfOk result (λ app. app_text (E.meaning app.tree.engine) (application_of E.Engine app)
+        ≡ text_alone (E.meaning engine) (E.limit engine)) }
     ensures fits { OnOk result (data_alone (E.meaning engine) ≤ E.limit engine) }
     ensures whole { OnOk result (IsWhole (E.meaning engine)) }
     ensures full { IsErrOf result NewRefusal.DataFull → E.limit engine < data_alone (E.meaning engine) }
@@ -51,8 +54,10 @@ fn app_alone<E: Engine>(alloc: Global, engine: E) -> Result<App<E>, NewRefusal>
 
 // The text of an application, where it has at most so many bytes.
 fn text_within<E: Engine>(alloc: Global, app: &App<E>, most: usize) -> Result<Vec<u8>, NewRefusal>
-    ensures text { IfOk result (λ text. text.items ≡ app_text (E.meaning app.now.tree.engine) (application_of E.Engine app.now)) }
-    ensures small { OnOk result (length (app_text (E.meaning app.now.tree.engine) (application_of E.Engine app.now)) ≤ most) }
+    ensures text { IfOk result (λ text. text.items
+        ≡ app_text (E.meaning app.now.tree.engine) (application_of E.Engine app.now)) }
+    ensures small { OnOk result
+        (length (app_text (E.meaning app.now.tree.engine) (application_of E.Engine app.now)) ≤ most) }
     ensures needs { (needs : ℕ) → IsErrOf result (NewRefusal.SlotTooSmall needs) →
         (needs ≡ length (app_text (E.meaning app.now.tree.engine) (application_of E.Engine app.now))) × (most < needs) }
     ensures early { IfErr result (λ refusal. is_of_disk refusal ≡ false) }

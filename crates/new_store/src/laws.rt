@@ -23,7 +23,8 @@ pub fn texts_alone_are_alike()
 
 /// A file that opens to the text of the App alone is a new store.
 pub fn new_stores_open_to_the_app()
-    ensures { (m : Meaning) (limit S : ℕ) (image : Image) → IsWhole m → data_alone m ≤ limit → 1 ≤ limit → limit ≤ 4194304
+    ensures { (m : Meaning) (limit S : ℕ) (image : Image) → IsWhole m
+        → data_alone m ≤ limit → 1 ≤ limit → limit ≤ 4194304
         → Opens S image (text_alone m limit) → IsNewStore S m limit image }
 {
     the_app_alone_is_whole();

@@ -17,13 +17,13 @@ use sed_node::Node;
 use sed_outside::{Sink, SinkFault};
 
 /// Runs so many cycles over a link and a clock, each with the datagrams of at most 16 polls and then a tick, behind
-/// which it sleeps until as many periods are over as cycles are done; a period is in milliseconds. Each datagram that is
-/// sent is offered to the link. Then it puts the text of the application that is reached, and the five lines of the run:
-/// its ticks, the datagrams that were handled, those that were offered, the root calls of its cycles that trapped, and
-/// the sessions that live at its end. What it makes of the node and the disk, what it offers and what it puts, are those
-/// of the run over the events of these polls and moments, and the polls and moments behind them are still to come. All
-/// cycles are done before anything is put; where the sink fails, which is told by its count of faults, a front of the
-/// text was put.
+/// which it sleeps until as many periods are over as cycles are done; a period is in milliseconds. Each datagram that
+/// is sent is offered to the link. Then it puts the text of the application that is reached, and the five lines of the
+/// run: its ticks, the datagrams that were handled, those that were offered, the root calls of its cycles that trapped,
+/// and the sessions that live at its end. What it makes of the node and the disk, what it offers and what it puts, are
+/// those of the run over the events of these polls and moments, and the polls and moments behind them are still to
+/// come. All cycles are done before anything is put; where the sink fails, which is told by its count of faults, a
+/// front of the text was put.
 ///
 /// Of the disk, the file that is attached and the outbox the same is said as by `replay`. No memory is taken but by
 /// adds.

@@ -13,15 +13,47 @@ abbrev pub settled : ℕ → Parts → List Parts → List Parts
 settled place parts marks = slice_set marks place (without_parts parts (parts_at marks place))
 
 abbrev pub with_marks : List Parts → Node → Node
-with_marks marks n = record { kind = n.kind; name = n.name; parent = n.parent; children = n.children; fault = n.fault; place = n.place; marks = marks }
+with_marks marks n = record {
+  kind = n.kind;
+  name = n.name;
+  parent = n.parent;
+  children = n.children;
+  fault = n.fault;
+  place = n.place;
+  marks = marks;
+}
 
 abbrev pub with_fault : ℕ → Node → Node
-with_fault fault n = record { kind = n.kind; name = n.name; parent = n.parent; children = n.children; fault = fault; place = n.place; marks = n.marks }
+with_fault fault n = record {
+  kind = n.kind;
+  name = n.name;
+  parent = n.parent;
+  children = n.children;
+  fault = fault;
+  place = n.place;
+  marks = n.marks;
+}
 
 abbrev pub with_name : List ℕ → Node → Node
 with_name name n =
-    record { kind = n.kind; name = name; parent = n.parent; children = n.children; fault = n.fault; place = n.place; marks = touched tree_parts n.marks }
+    record {
+      kind = n.kind;
+      name = name;
+      parent = n.parent;
+      children = n.children;
+      fault = n.fault;
+      place = n.place;
+      marks = touched tree_parts n.marks;
+    }
 
 abbrev pub with_children : List ℕ → Node → Node
 with_children children n =
-    record { kind = n.kind; name = n.name; parent = n.parent; children = children; fault = n.fault; place = n.place; marks = touched tree_parts n.marks }
+    record {
+      kind = n.kind;
+      name = n.name;
+      parent = n.parent;
+      children = children;
+      fault = n.fault;
+      place = n.place;
+      marks = touched tree_parts n.marks;
+    }

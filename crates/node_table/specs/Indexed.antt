@@ -1,5 +1,6 @@
 -- Nodes that a slab keeps, found by their ids.
-use Rattle.std.specs.Prelude.{ℕ, ◌≡◌, ◌≤◌, ◌+◌, is_some, IsSome, List, [], ◌∷◌, length, map, count_by, slice_index_or, Option, Some, None}
+use Rattle.std.specs.Prelude.{ℕ, ◌≡◌, ◌≤◌, ◌+◌, is_some, IsSome, List, [], ◌∷◌, length, map, count_by, slice_index_or}
+use Rattle.std.specs.Prelude.{Option, Some, None}
 use Rattle.std.specs.FinMap.{FinMap, from_entries}
 use Rattle.std.specs.Ordering.{nat_cmp}
 use Rattle.slab.specs.Slab.{Slab, get, slab_len}
@@ -28,6 +29,7 @@ module _ {T : Type 0} where
   pub record IsIndexed (most : ℕ) (index : List (Option ℕ)) (slab : Slab T) : Type 0 where
     pub size : length index ≡ most
     pub there : (id key : ℕ) → slice_index_or index id None ≡ Some key → IsSome (get slab key)
-    pub apart : (id other key : ℕ) → slice_index_or index id None ≡ Some key → slice_index_or index other None ≡ Some key → id ≡ other
+    pub apart : (id other key : ℕ) → slice_index_or index id None ≡ Some key
+        → slice_index_or index other None ≡ Some key → id ≡ other
     pub count : slab_len slab ≡ count_by is_some index
     pub room : most ≤ slab.capacity

@@ -14,10 +14,18 @@ abbrev pub value_parts : Parts
 value_parts = record { tree = false; config = true; runtime = true }
 
 abbrev pub with_parts : Parts → Parts → Parts
-with_parts more p = record { tree = p.tree || more.tree; config = p.config || more.config; runtime = p.runtime || more.runtime }
+with_parts more p = record {
+  tree = p.tree || more.tree;
+  config = p.config || more.config;
+  runtime = p.runtime || more.runtime;
+}
 
 abbrev pub without_parts : Parts → Parts → Parts
-without_parts fewer p = record { tree = p.tree && not fewer.tree; config = p.config && not fewer.config; runtime = p.runtime && not fewer.runtime }
+without_parts fewer p = record {
+  tree = p.tree && not fewer.tree;
+  config = p.config && not fewer.config;
+  runtime = p.runtime && not fewer.runtime;
+}
 
 -- the marks at a session place; of what is no place, all are set
 abbrev pub parts_at : List Parts → ℕ → Parts

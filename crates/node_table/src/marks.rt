@@ -1,6 +1,7 @@
 //! Marks of what may have changed of a component.
 ghost use Rattle.std.specs.Prelude.{◌≡◌, ◌==◌, ◌<◌, ℕ, if◌then◌else◌, map as map_list, length, slice_set};
-ghost use Rattle.node_table.specs.Marks.{all_parts, mask_of, parts_at, parts_in, tree_parts, value_parts, with_parts as with_more, without_parts as without_these};
+ghost use Rattle.node_table.specs.Marks.{all_parts, mask_of, parts_at, parts_in, tree_parts, value_parts};
+ghost use Rattle.node_table.specs.Marks.{with_parts as with_more, without_parts as without_these};
 
 use sed_value::limits::MOST_SESSIONS;
 use std::marker::Model;

@@ -1,5 +1,6 @@
 //! Nodes by their ids.
-ghost use Rattle.std.specs.Prelude.{◌≡◌, ◌<◌, ◌≤◌, ℕ, IfOk, IsSome, IfSome, Some, None, is_some, slice_index_or, length, replicate};
+ghost use Rattle.std.specs.Prelude.{◌≡◌, ◌<◌, ◌≤◌, ℕ, IfOk, IsSome, IfSome, Some, None, is_some, slice_index_or};
+ghost use Rattle.std.specs.Prelude.{length, replicate};
 ghost use Rattle.std.specs.FinMap as map;
 ghost use Rattle.std.specs.Option.{option_copied};
 ghost use Rattle.slab.specs.Slab.{get, slab_len, ContainsKey, Updates};
@@ -128,7 +129,8 @@ impl Nodes {
     /// Marks these parts of the node with this id for every place.
     pub fn touch(&mut self, id: Id, parts: Parts)
         requires { IsSome (map.get self.old id.0) }
-        ensures { IfSome (map.get self.old id.0) (λ node. self.new ≡ map.insert self.old id.0 (with_marks (touched parts node.marks) node)) }
+        ensures { IfSome (map.get self.old id.0) (λ node. self.new
+            ≡ map.insert self.old id.0 (with_marks (touched parts node.marks) node)) }
     {
         if let Some(key) = key_at(&self.index, id) {
             touch_node(&mut self.slab, key, parts);
@@ -139,7 +141,8 @@ impl Nodes {
     pub fn settle(&mut self, id: Id, place: u8, parts: Parts)
         requires live { IsSome (map.get self.old id.0) }
         requires place { place < 16 }
-        ensures { IfSome (map.get self.old id.0) (λ node. self.new ≡ map.insert self.old id.0 (with_marks (settled place parts node.marks) node)) }
+        ensures { IfSome (map.get self.old id.0) (λ node. self.new
+            ≡ map.insert self.old id.0 (with_marks (settled place parts node.marks) node)) }
     {
         if let Some(key) = key_at(&self.index, id) {
             settle_node(&mut self.slab, key, place, parts);
@@ -179,7 +182,8 @@ fn change_fault(slab: &mut Slab<Node>, key: usize, fault: u8)
 // Marks these parts of the node under a key.
 fn touch_node(slab: &mut Slab<Node>, key: usize, parts: Parts)
     requires { ContainsKey slab.old key }
-    ensures changed { IfSome (get slab.old key) (λ node. Updates slab.old slab.new key (Some (with_marks (touched parts node.marks) node))) }
+    ensures changed { IfSome (get slab.old key) (λ node.
+        Updates slab.old slab.new key (Some (with_marks (touched parts node.marks) node))) }
     ensures len { slab_len slab.new ≡ slab_len slab.old }
     ensures capacity { slab.new.capacity ≡ slab.old.capacity }
 {
@@ -192,7 +196,8 @@ fn touch_node(slab: &mut Slab<Node>, key: usize, parts: Parts)
 fn settle_node(slab: &mut Slab<Node>, key: usize, place: u8, parts: Parts)
     requires there { ContainsKey slab.old key }
     requires place { place < 16 }
-    ensures changed { IfSome (get slab.old key) (λ node. Updates slab.old slab.new key (Some (with_marks (settled place parts node.marks) node))) }
+    ensures changed { IfSome (get slab.old key) (λ node.
+        Updates slab.old slab.new key (Some (with_marks (settled place parts node.marks) node))) }
     ensures len { slab_len slab.new ≡ slab_len slab.old }
     ensures capacity { slab.new.capacity ≡ slab.old.capacity }
 {

@@ -5,8 +5,9 @@ use live_outside::{Link, LinkFault, Polled};
 use sed_outside::Addr;
 use std::alloc::Global;
 
-/// A disk or a link; how often a name was attached, or which ports were asked for; how many calls there were of the disk,
-/// an attach among them; and of each mark how many of them came before it. What there is no memory for is left out.
+/// A disk or a link; how often a name was attached, or which ports were asked for; how many calls there were of the
+/// disk, an attach among them; and of each mark how many of them came before it. What there is no memory for is left
+/// out.
 #[derive(Drop)]
 pub struct Watched<T> {
     pub inner: T,

@@ -9,8 +9,8 @@ use sedona_cli::sedona;
 use std::alloc::Global;
 use std::str::FromStr;
 
-// The bytes that all writes of a disk and the puts of a sink have room for, where a plan says no others; the number of a
-// disk's calls; and the datagrams and the sleeps that are told.
+// The bytes that all writes of a disk and the puts of a sink have room for, where a plan says no others; the number of
+// a disk's calls; and the datagrams and the sleeps that are told.
 const BYTES: usize = 4096;
 
 const ROOM: usize = 1_048_576;

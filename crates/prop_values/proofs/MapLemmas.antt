@@ -1,21 +1,13 @@
 -- Finite maps: what is there after something is put.
 use Rattle.std.proofs.Common.{◌≡◌, ℕ, inl, inr, sym, ◌∙◌, ap}
-use Rattle.std.specs.Prelude.{Some}
 use Rattle.std.specs.FinMap as finite
 use Rattle.std.specs.FinMap.{FinMap}
 use Rattle.std.specs.Ordering.{nat_cmp}
 use Rattle.std.specs.Cmp.{nat_cmp_total}
 use Rattle.std.proofs.lemmas.Bool.{cases_eq}
-pub use Rattle.sed_value.proofs.Orders.{put_at as get_put, put_beside as get_beside}
+pub use Rattle.sed_value.proofs.Maps.{get_put, get_beside, put_same}
 
 module _ {V : Type 0} where
-  -- to put what is there changes nothing
-  pub put_same : (m : FinMap nat_cmp V) (k : ℕ) (x : V) → finite.get m k ≡ Some x → finite.insert m k x ≡ m
-  put_same m k x e = finite.same_map nat_cmp_total finite.nat_cmp-IsAntisymmetric _ _ (λ q. elim (cases_eq q k) [
-    | inl is ↦ ap (finite.get (finite.insert m k x)) is ∙ get_put m k x ∙ sym e ∙ ap (finite.get m) (sym is)
-    | inr ne ↦ get_beside m k x q ne
-  ])
-
   -- what is put twice stands as it was put last
   pub put_twice : (m : FinMap nat_cmp V) (k : ℕ) (x y : V) → finite.insert (finite.insert m k x) k y ≡ finite.insert m k y
   put_twice m k x y = finite.same_map nat_cmp_total finite.nat_cmp-IsAntisymmetric _ _ (λ q. elim (cases_eq q k) [

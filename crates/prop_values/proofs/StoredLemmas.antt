@@ -1,6 +1,6 @@
 -- What a slot keeps of a value of its type, and contents after a value is put at a path.
-use Rattle.std.proofs.Common.{◌≡◌, ℕ, ◌<◌, Bool, true, false, IsTrue, pos, [], ◌∷◌, refl, sym, subst, ◌∙◌, ap, arith}
-use Rattle.std.specs.Prelude.{Option, Some, None, nat_lt, ◌&&◌, if◌then◌else◌}
+use Rattle.std.proofs.Common.{◌≡◌, ℕ, ◌<◌, Bool, true, false, IsTrue, pos, [], ◌∷◌, refl, sym, ◌∙◌, ap, arith}
+use Rattle.std.specs.Prelude.{Some, nat_lt, if◌then◌else◌}
 use Rattle.std.specs.Option.{option_map}
 use Rattle.std.specs.Str.{bytes_eq}
 use Rattle.std.specs.Int.{w8, w16}
@@ -13,9 +13,8 @@ use Rattle.sed_value.specs.declared.value.Value.{Value}
 use Rattle.sed_value.specs.declared.value.Value.TheVariants.{Bool as Truth, Byte, Short, Int, Long, Buf, Nothing}
 use Rattle.sed_value.specs.Value.{is_of_type, stored}
 use Rattle.sed_value.specs.Wrap.{low_bits}
-use Rattle.sed_typed.specs.declared.program.FieldForm.{FieldForm}
 use Rattle.sed_typed.specs.Contents.{Contents, Path, value_at, with_value}
-use Rattle.sed_engine.specs.Fits.{all_kept, is_kept}
+pub use Rattle.sed_engine.proofs.KeptSlots.{kept_at}
 
 -- ---- a slot keeps a value of its type as it is
 
@@ -77,21 +76,6 @@ stored_stays (BufSlot most) (Buf bytes) is = refl
 stored_stays (BufSlot most) Nothing is = never is
 
 -- ---- a value at a path
-
--- what is kept at a path is such as the form there keeps
-pub kept_at : (form : Path → Option FieldForm) (es : Contents) (p : Path) (v : Value) → IsTrue (all_kept form es) → value_at es p ≡ Some v → IsTrue (is_kept (form p) v)
-kept_at form [] p v all at = absurd (let no : ◌≡◌ {A = Option Value} None (Some v) = at in cc)
-kept_at form (e ∷ es) p v all at = by_test (bytes_eq e.0 p) refl (is_kept (form e.0) e.1) refl all at (kept_at form es p v)
-  where
-    by_test : (b : Bool) → bytes_eq e.0 p ≡ b → (k : Bool) → is_kept (form e.0) e.1 ≡ k → (k && all_kept form es) ≡ true
-        → (if b then Some e.1 else value_at es p) ≡ Some v → (IsTrue (all_kept form es) → value_at es p ≡ Some v → IsTrue (is_kept (form p) v))
-        → IsTrue (is_kept (form p) v)
-    by_test true same true is all at later =
-        let value : e.1 ≡ v = cc in
-        subst (λ q. IsTrue (is_kept (form q) v)) ((bytes_eq-Decides e.0 p).0 same) (subst (λ v. IsTrue (is_kept (form e.0) v)) value is)
-    by_test true same false is all at later = absurd (let no : false ≡ true = all in cc)
-    by_test false same true is all at later = later all at
-    by_test false same false is all at later = absurd (let no : false ≡ true = all in cc)
 
 module _ (p : Path) (v : Value) where
   pub there_written : (es : Contents) → value_at (with_value es p v) p ≡ option_map (λ _. v) (value_at es p)

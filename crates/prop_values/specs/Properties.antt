@@ -28,7 +28,8 @@ is_runtime s = is_property_form s.form && not s.config
 
 -- the numbers of the slots of a class that are of a sort, in their order
 abbrev pub slots_that : (SlotInfo → Bool) → Meaning → ℕ → List ℕ
-slots_that is m class = map (λ (e : ℕ × SlotInfo). e.0) (filter (λ (e : ℕ × SlotInfo). is e.1) (enumerate_from 0 (slots m.schema.classes class)))
+slots_that is m class = map (λ (e : ℕ × SlotInfo). e.0)
+    (filter (λ (e : ℕ × SlotInfo). is e.1) (enumerate_from 0 (slots m.schema.classes class)))
 
 abbrev pub config_slots : Meaning → ℕ → List ℕ
 config_slots m class = slots_that is_config m class

@@ -1,5 +1,6 @@
 -- What is read of the bytes that a command gives.
-use Rattle.std.specs.Prelude.{ℕ, ◌≡◌, ◌+◌, ◌||◌, Bool, true, false, if◌then◌else◌, IsTrue, IfSome, List, [], ◌∷◌, drop, filter, map as map_list, slice_get, Option, Some, None}
+use Rattle.std.specs.Prelude.{ℕ, ◌≡◌, ◌+◌, ◌||◌, Bool, true, false, if◌then◌else◌, IsTrue, IfSome, List, [], ◌∷◌, drop}
+use Rattle.std.specs.Prelude.{filter, map as map_list, slice_get, Option, Some, None}
 use Rattle.std.specs.FinMap as map
 use Rattle.std.specs.List.{enumerate_from, filter_map, zip}
 use Rattle.std.specs.Option.{option_and_then}
@@ -23,7 +24,8 @@ pub record AreTaken (types : List SlotType) (bytes : List ℕ) (values : List Va
 
 -- the first refusal of values of these types, if there is one
 abbrev pub refusal_of_values : List SlotType → List ℕ → Option Refusal
-refusal_of_values types bytes = first_refusal ((are_bad_values types bytes, BadValue) ∷ (have_long_buffer types bytes, BufferTooLong) ∷ [])
+refusal_of_values types bytes =
+    first_refusal ((are_bad_values types bytes, BadValue) ∷ (have_long_buffer types bytes, BufferTooLong) ∷ [])
 
 abbrev pub IsRefusedValue : List SlotType → List ℕ → Refusal → Type 0
 IsRefusedValue types bytes refusal = refusal_of_values types bytes ≡ Some refusal
@@ -51,7 +53,8 @@ types_in slots = filter_map config_type_of slots
 
 -- the numbers of these, where the first slot has this one
 abbrev pub numbers_in : ℕ → List SlotInfo → List ℕ
-numbers_in n slots = map_list (λ (e : ℕ × SlotInfo). e.0) (filter (λ (e : ℕ × SlotInfo). is_config e.1) (enumerate_from n slots))
+numbers_in n slots = map_list (λ (e : ℕ × SlotInfo). e.0)
+    (filter (λ (e : ℕ × SlotInfo). is_config e.1) (enumerate_from n slots))
 
 -- a reader holds a value of each
 abbrev pub CanBeHeld : List SlotInfo → Type 0
@@ -59,11 +62,13 @@ CanBeHeld slots = (n : ℕ) → IfSome (option_and_then config_type_of (slice_ge
 
 -- the first refusal of values of these types, where one before them was too long or not
 abbrev pub refusal_after : Bool → List SlotType → List ℕ → Option Refusal
-refusal_after long types bytes = first_refusal ((are_bad_values types bytes, BadValue) ∷ (long || have_long_buffer types bytes, BufferTooLong) ∷ [])
+refusal_after long types bytes =
+    first_refusal ((are_bad_values types bytes, BadValue) ∷ (long || have_long_buffer types bytes, BufferTooLong) ∷ [])
 
 -- the value of the first of these slots was passed, or is none
 abbrev pub PassesSlot : List SlotInfo → List SlotInfo → Bool → List ℕ → Bool → Bool → List ℕ → Type 0
-PassesSlot here behind long old true after new = refusal_after long (types_in here) old ≡ refusal_after after (types_in behind) new
+PassesSlot here behind long old true after new =
+    refusal_after long (types_in here) old ≡ refusal_after after (types_in behind) new
 PassesSlot here behind long old false after new = refusal_after long (types_in here) old ≡ Some BadValue
 
 -- what is left of an object once the values of the slots from this one on are stored in it
@@ -71,7 +76,8 @@ abbrev pub stored_from : Meaning → ℕ → List SlotInfo → List ℕ → Obje
 stored_from m n slots bytes o = with_slots m (zip (numbers_in n slots) (taken (types_in slots) bytes)) o
 
 -- the value of the slot with this number was stored in the object at a place, where it has one
-pub record StoresSlot (m : Meaning) (before after : Places) (place : ℕ) (o : Object) (n : ℕ) (slots : List SlotInfo) (old new : List ℕ) : Type 0 where
+pub record StoresSlot (m : Meaning) (before after : Places) (place : ℕ)
+    (o : Object) (n : ℕ) (slots : List SlotInfo) (old new : List ℕ) : Type 0 where
   pub object : Object
   pub live : after ≡ map.insert before place object
   pub class : object.class ≡ o.class
@@ -81,8 +87,10 @@ pub record StoresSlot (m : Meaning) (before after : Places) (place : ℕ) (o : O
 abbrev pub filled_from : Meaning → ℕ → List SlotInfo → List Value → Object → Object
 filled_from m n slots values o = with_slots m (zip (numbers_in n slots) values) o
 
--- the first of these values was stored in the slot with this number, where it is a config property, and the others are left
-pub record StoresNext (m : Meaning) (before after : Places) (place : ℕ) (o : Object) (n : ℕ) (slots : List SlotInfo) (old new : List Value) : Type 0 where
+-- the first of these values was stored in the slot with this number, where it is a config property, and the others are
+-- left
+pub record StoresNext (m : Meaning) (before after : Places) (place : ℕ)
+    (o : Object) (n : ℕ) (slots : List SlotInfo) (old new : List Value) : Type 0 where
   pub object : Object
   pub live : after ≡ map.insert before place object
   pub class : object.class ≡ o.class

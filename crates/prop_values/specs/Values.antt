@@ -1,10 +1,13 @@
 -- Values as bytes, one behind another.
-use Rattle.std.specs.Prelude.{ℕ, Bool, IsTrue, true, false, nat_lt, if◌then◌else◌, List, [], ◌∷◌, ◌++◌, length, take, drop, Option, Some, None}
+use Rattle.std.specs.Prelude.{ℕ, Bool, IsTrue, true, false, nat_lt, if◌then◌else◌, List, [], ◌∷◌, ◌++◌, length, take}
+use Rattle.std.specs.Prelude.{drop, Option, Some, None}
 use Rattle.std.specs.Option.{option_map, option_map_or}
 use Rattle.std.specs.List.{flat_map, list_any, zip}
 use Rattle.std.specs.Int.{w32, w64, bytes_high_first, cast_signed, cast_unsigned}
 use Rattle.sed_value.specs.Value.{is_of_type}
-use Rattle.sed_value.specs.declared.slot_type.Primitive.TheVariants.{Bool as BoolType, Byte as ByteType, Short as ShortType, Int as IntType, Long as LongType}
+use Rattle.sed_value.specs.declared.slot_type.Primitive.TheVariants.{Bool as BoolType, Byte as ByteType}
+use Rattle.sed_value.specs.declared.slot_type.Primitive.TheVariants.{Short as ShortType, Int as IntType}
+use Rattle.sed_value.specs.declared.slot_type.Primitive.TheVariants.{Long as LongType}
 use Rattle.sed_value.specs.declared.slot_type.SlotType.{SlotType}
 use Rattle.sed_value.specs.declared.slot_type.SlotType.TheVariants.{Prim as PrimSlot, Buf as BufSlot}
 use Rattle.sed_value.specs.declared.value.Value.{Value}
@@ -29,7 +32,8 @@ spelling_of_all values = flat_map spelling_of values
 
 -- ---- read
 
--- the value that these bytes are, all of them; a truth value above 2 and a Buf that is longer than its type says are still told
+-- the value that these bytes are, all of them; a truth value above 2 and a Buf that is longer than its type says are
+-- still told
 abbrev pub value_of : SlotType → List ℕ → Value
 value_of (PrimSlot BoolType) bytes = Truth (number_of bytes)
 value_of (PrimSlot ByteType) bytes = Byte (number_of bytes)
@@ -44,7 +48,8 @@ values_of [] [] = Some []
 values_of [] (byte ∷ bytes) = None
 values_of (t ∷ types) bytes =
     if nat_lt (length bytes) (size_of t bytes) then None
-    else option_map (λ values. value_of t (take (size_of t bytes) bytes) ∷ values) (values_of types (drop (size_of t bytes) bytes))
+    else option_map (λ values. value_of t (take (size_of t bytes) bytes) ∷ values)
+    (values_of types (drop (size_of t bytes) bytes))
 
 -- the values, none of them where they are not there
 abbrev pub taken : List SlotType → List ℕ → List Value

@@ -8,7 +8,8 @@ ghost use Rattle.sed_value.specs.declared.refusal.Refusal.TheVariants.{BadValue}
 ghost use Rattle.sed_engine.specs.Code.{Meaning};
 ghost use Rattle.sed_engine.specs.Whole.{KeepsLimits};
 ghost use Rattle.prop_values.specs.Properties.{config_slots, config_types, with_slots};
-ghost use Rattle.prop_values.specs.Read.{CanBeHeld, PassesSlot, StoresNext, StoresSlot, config_type_of, refusal_after, refusal_of_values, types_in};
+ghost use Rattle.prop_values.specs.Read.{CanBeHeld, PassesSlot, StoresNext, StoresSlot, config_type_of, refusal_after};
+ghost use Rattle.prop_values.specs.Read.{refusal_of_values, types_in};
 ghost use Rattle.prop_values.specs.Values.{AreOfTypes, taken};
 
 use sed_engine::{Engine, Place};
@@ -63,7 +64,8 @@ fn pass_slot(
 ) -> bool
     requires held { CanBeHeld (slots schema.now.classes kind.0) }
     requires there { slot < length (slots schema.now.classes kind.0) }
-    ensures { PassesSlot (drop slot (slots schema.now.classes kind.0)) (drop (slot + 1) (slots schema.now.classes kind.0)) long.old reader.old result long.new reader.new }
+    ensures { PassesSlot (drop slot (slots schema.now.classes kind.0))
+        (drop (slot + 1) (slots schema.now.classes kind.0)) long.old reader.old result long.new reader.new }
 {
     let Some(wanted) = config_type(schema, kind, slot) else {
         return true;
@@ -104,7 +106,11 @@ fn type_if_config(info: &SlotInfo) -> Option<SlotType>
 pub fn store_config<E: Engine>(engine: &mut E, place: Place, kind: TypeNo, bytes: &[u8])
     requires live { IsSomeAnd (map.get (E.live engine.old) place.0) (λ o. o.class ≡ kind.0) }
     requires good { refusal_of_values (config_types (E.meaning engine.old) kind.0) bytes.now ≡ None }
-    ensures stored { IfSome (map.get (E.live engine.old) place.0) (λ o. E.live engine.new ≡ map.insert (E.live engine.old) place.0 (with_slots (E.meaning engine.old) (zip (config_slots (E.meaning engine.old) kind.0) (taken (config_types (E.meaning engine.old) kind.0) bytes.now)) o)) }
+    ensures stored { IfSome (map.get (E.live engine.old) place.0)
+        (λ o. E.live engine.new ≡ map.insert (E.live engine.old) place.0
+        (with_slots (E.meaning engine.old)
+        (zip (config_slots (E.meaning engine.old) kind.0)
+        (taken (config_types (E.meaning engine.old) kind.0) bytes.now)) o)) }
     ensures meaning { E.meaning engine.new ≡ E.meaning engine.old }
     ensures statics { E.statics engine.new ≡ E.statics engine.old }
     ensures limit { E.limit engine.new ≡ E.limit engine.old }
@@ -126,9 +132,13 @@ fn store_slot<E: Engine>(
 )
     requires live { IsSomeAnd (map.get (E.live engine.old) place.0) (λ o. o.class ≡ kind.0) }
     requires there { slot < length (slots (E.meaning engine.old).schema.classes kind.0) }
-    requires good { refusal_after false (types_in (drop slot (slots (E.meaning engine.old).schema.classes kind.0))) reader.old ≡ None }
-    ensures good { refusal_after false (types_in (drop (slot + 1) (slots (E.meaning engine.old).schema.classes kind.0))) reader.new ≡ None }
-    ensures stored { IfSome (map.get (E.live engine.old) place.0) (λ o. StoresSlot (E.meaning engine.old) (E.live engine.old) (E.live engine.new) place.0 o slot (slots (E.meaning engine.old).schema.classes kind.0) reader.old reader.new) }
+    requires good { refusal_after false (types_in (drop slot (slots (E.meaning engine.old).schema.classes kind.0)))
+        reader.old ≡ None }
+    ensures good { refusal_after false (types_in (drop (slot + 1) (slots (E.meaning engine.old).schema.classes kind.0)))
+        reader.new ≡ None }
+    ensures stored { IfSome (map.get (E.live engine.old) place.0)
+        (λ o. StoresSlot (E.meaning engine.old) (E.live engine.old) (E.live engine.new)
+        place.0 o slot (slots (E.meaning engine.old).schema.classes kind.0) reader.old reader.new) }
     ensures meaning { E.meaning engine.new ≡ E.meaning engine.old }
     ensures statics { E.statics engine.new ≡ E.statics engine.old }
     ensures limit { E.limit engine.new ≡ E.limit engine.old }
@@ -150,7 +160,9 @@ fn store_slot<E: Engine>(
 pub fn store_values<E: Engine>(engine: &mut E, place: Place, kind: TypeNo, values: &[Value])
     requires live { IsSomeAnd (map.get (E.live engine.old) place.0) (λ o. o.class ≡ kind.0) }
     requires typed { AreOfTypes (config_types (E.meaning engine.old) kind.0) values.now }
-    ensures stored { IfSome (map.get (E.live engine.old) place.0) (λ o. E.live engine.new ≡ map.insert (E.live engine.old) place.0 (with_slots (E.meaning engine.old) (zip (config_slots (E.meaning engine.old) kind.0) values.now) o)) }
+    ensures stored { IfSome (map.get (E.live engine.old) place.0)
+        (λ o. E.live engine.new ≡ map.insert (E.live engine.old) place.0
+        (with_slots (E.meaning engine.old) (zip (config_slots (E.meaning engine.old) kind.0) values.now) o)) }
     ensures meaning { E.meaning engine.new ≡ E.meaning engine.old }
     ensures statics { E.statics engine.new ≡ E.statics engine.old }
     ensures limit { E.limit engine.new ≡ E.limit engine.old }
@@ -173,8 +185,11 @@ fn store_next<'a, E: Engine>(
     requires live { IsSomeAnd (map.get (E.live engine.old) place.0) (λ o. o.class ≡ kind.0) }
     requires there { slot < length (slots (E.meaning engine.old).schema.classes kind.0) }
     requires typed { AreOfTypes (types_in (drop slot (slots (E.meaning engine.old).schema.classes kind.0))) values.now }
-    ensures typed { AreOfTypes (types_in (drop (slot + 1) (slots (E.meaning engine.old).schema.classes kind.0))) result.now }
-    ensures stored { IfSome (map.get (E.live engine.old) place.0) (λ o. StoresNext (E.meaning engine.old) (E.live engine.old) (E.live engine.new) place.0 o slot (slots (E.meaning engine.old).schema.classes kind.0) values.now result.now) }
+    ensures typed { AreOfTypes (types_in (drop (slot + 1) (slots (E.meaning engine.old).schema.classes kind.0)))
+        result.now }
+    ensures stored { IfSome (map.get (E.live engine.old) place.0)
+        (λ o. StoresNext (E.meaning engine.old) (E.live engine.old) (E.live engine.new)
+        place.0 o slot (slots (E.meaning engine.old).schema.classes kind.0) values.now result.now) }
     ensures meaning { E.meaning engine.new ≡ E.meaning engine.old }
     ensures statics { E.statics engine.new ≡ E.statics engine.old }
     ensures limit { E.limit engine.new ≡ E.limit engine.old }

@@ -12,7 +12,8 @@ use sed_wire::{Reader, ValueFault};
 /// The one value of a type that the bytes are, or why they are none.
 pub fn one_value(slot: SlotType, bytes: &[u8]) -> Result<Value, Refusal>
     requires { IsTrue (can_be_held slot) }
-    ensures taken { MatchResult result (λ value. AreTaken (slot ∷ []) bytes.now (value ∷ [])) (IsRefusedValue (slot ∷ []) bytes.now) }
+    ensures taken { MatchResult result (λ value. AreTaken (slot ∷ []) bytes.now (value ∷ []))
+        (IsRefusedValue (slot ∷ []) bytes.now) }
     ensures of_type { MatchResult result (λ value. IsTrue (is_of_type slot value)) (λ _. Unit) }
     ensures goes { MatchResult result (λ value. IsTrue (goes_to slot value)) (λ _. Unit) }
 {

@@ -20,7 +20,8 @@ pub record IsAllowed (asked : GenAsked) : Type 0 where
   pub links : asked.links ≤ 8192
   pub ticks : asked.ticks ≤ 100000
 
--- the digest that a node with a secret wants of the user with a credential, in the session before which so many were made
+-- the digest that a node with a secret wants of the user with a credential, in the session before which so many were
+-- made
 abbrev pub wanted_digest : List ℕ → List ℕ → ℕ → List ℕ
 wanted_digest secret credential made = digest_of credential (nonce_of secret made)
 
@@ -43,7 +44,8 @@ spec_with asked user digests types = record {
 -- what the record is generated of: the types are the program's, and there is none for a user who is not among the users
 abbrev pub spec_of : Program → List User → List ℕ → List ℕ → GenAsked → Option GenSpec
 spec_of program users user secret asked =
-    option_map (λ credential. spec_with asked user (wanted_digests secret credential) (drawn_types (meaning_of program))) (credential_of users user)
+    option_map (λ credential. spec_with asked user (wanted_digests secret credential)
+    (drawn_types (meaning_of program))) (credential_of users user)
 
 -- the bytes are the record that is generated for a program, as a user
 abbrev pub IsRecordOf : Program → List User → List ℕ → List ℕ → GenAsked → List ℕ → Type 0

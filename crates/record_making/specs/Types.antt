@@ -1,5 +1,6 @@
 -- The types of which components are added in a generated record.
-use Rattle.std.specs.Prelude.{ℕ, Bool, true, false, ◌==◌, ◌&&◌, ◌||◌, nat_lt, not, if◌then◌else◌, List, [], ◌∷◌, length, map, filter, slice_get, Option, Some, None}
+use Rattle.std.specs.Prelude.{ℕ, Bool, true, false, ◌==◌, ◌&&◌, ◌||◌, nat_lt, not, if◌then◌else◌, List, [], ◌∷◌, length}
+use Rattle.std.specs.Prelude.{map, filter, slice_get, Option, Some, None}
 use Rattle.std.specs.Option.{option_and_then, option_map_or}
 use Rattle.sed_value.specs.declared.slot_type.Primitive.TheVariants.{Int}
 use Rattle.sed_value.specs.declared.slot_type.SlotType.TheVariants.{Prim}
@@ -18,7 +19,8 @@ use Rattle.replay_log.specs.Generated.{for_each}
 
 -- ---- what is drawn of a type
 
--- the values that the config properties of a class begin with, in the order of the slots and in the bytes that spell them
+-- the values that the config properties of a class begin with, in the order of the slots and in the bytes that spell
+-- them
 abbrev pub initial_config : Meaning → ℕ → List ℕ
 initial_config m class = spelling_of_all (map (slot_value m (new_object m class)) (config_slots m class))
 

@@ -2,9 +2,9 @@
 //!
 //! `generated` makes a record of two sessions that build and edit an application of a program, as a user of a node.
 //! What `replay_log` generates it of is fixed by the program and by what is asked: the types of which components are
-//! added are the program's, with the values that their properties begin with, and the digests are those that a node with
-//! the secret and the users wants of the first two sessions that it makes. So a record is one, which is a law here. The
-//! values are read off new objects of an engine. What writes such a record into a file stands on this crate.
+//! added are the program's, with the values that their properties begin with, and the digests are those that a node
+//! with the secret and the users wants of the first two sessions that it makes. So a record is one, which is a law
+//! here. The values are read off new objects of an engine. What writes such a record into a file stands on this crate.
 #![tactic(auto)]
 
 mod asked;

@@ -1,5 +1,6 @@
 -- The record that is generated of a specification.
-use Rattle.std.specs.Prelude.{◌≡◌, ℕ, zero, suc, ◌+◌, ◌*◌, ◌/◌, ◌%◌, ◌≤◌, ◌==◌, ◌&&◌, min, not, nat_le, Bool, if◌then◌else◌, IsTrue, List, [], ◌∷◌, ◌++◌, length, map, slice_index_or, decimal}
+use Rattle.std.specs.Prelude.{◌≡◌, ℕ, zero, suc, ◌+◌, ◌*◌, ◌/◌, ◌%◌, ◌≤◌, ◌==◌, ◌&&◌, min, not, nat_le, Bool}
+use Rattle.std.specs.Prelude.{if◌then◌else◌, IsTrue, List, [], ◌∷◌, ◌++◌, length, map, slice_index_or, decimal}
 use Rattle.std.specs.List.{list_all}
 use Rattle.sed_wire.specs.Number.{u4}
 use Rattle.sox_msg.specs.Command.{Asked, add, invoke, link, rename, write}

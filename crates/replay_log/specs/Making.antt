@@ -5,7 +5,8 @@ use Rattle.replay_log.specs.declared.making.Making.{Making}
 use Rattle.replay_log.specs.declared.places.Place.{Place}
 use Rattle.replay_log.specs.Draw.{draw, next_draw}
 use Rattle.replay_log.specs.Entry.{Entry, SpellsEntry}
-use Rattle.replay_log.specs.Generated.{component_acts, draws_below, for_each, link_acts, link_count, places_of, tick_acts, tick_with}
+use Rattle.replay_log.specs.Generated.{component_acts, draws_below, for_each, link_acts, link_count, places_of}
+use Rattle.replay_log.specs.Generated.{tick_acts, tick_with}
 use Rattle.replay_log.specs.Record.{SpellsEntries}
 use Rattle.replay_log.specs.Step.{Act, AreLeft, Step, next_after, steps_of}
 

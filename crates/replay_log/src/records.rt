@@ -1,5 +1,6 @@
 //! Records, entry by entry.
-ghost use Rattle.std.specs.Prelude.{◌≡◌, ◌≤◌, ◌↔◌, ℕ, List, ◌∷◌, [], length, IfOk, IfErr, IfSome, IsNone, IsOkAnd, IsErrAnd, MatchResult};
+ghost use Rattle.std.specs.Prelude.{◌≡◌, ◌≤◌, ◌↔◌, ℕ, List, ◌∷◌, [], length, IfOk, IfErr, IfSome, IsNone, IsOkAnd};
+ghost use Rattle.std.specs.Prelude.{IsErrAnd, MatchResult};
 ghost use Rattle.replay_log.specs.Entry.{Entry};
 ghost use Rattle.replay_log.specs.Reading as reading;
 ghost use Rattle.replay_log.specs.Record.{IsRecord, IsRefusedAt};

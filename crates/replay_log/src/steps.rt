@@ -1,5 +1,6 @@
 //! The components, the links and the ticks of a generated record.
-ghost use Rattle.std.specs.Prelude.{◌≡◌, ◌≤◌, ◌<◌, ◌+◌, ◌%◌, ◌++◌, ◌∷◌, ◌^◌, [], ℕ, length, map, slice_index_or, IsTrue, IfOk, OnOk};
+ghost use Rattle.std.specs.Prelude.{◌≡◌, ◌≤◌, ◌<◌, ◌+◌, ◌%◌, ◌++◌, ◌∷◌, ◌^◌, [], ℕ, length, map, slice_index_or};
+ghost use Rattle.std.specs.Prelude.{IsTrue, IfOk, OnOk};
 ghost use Rattle.sox_msg.specs.Command.{body_of, letter_of};
 ghost use Rattle.replay_log.specs.Draw.{draw, next_draw};
 ghost use Rattle.replay_log.specs.Generated as generated;

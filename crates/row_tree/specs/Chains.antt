@@ -23,7 +23,8 @@ IsChain rows up at (place ∷ places) = IsChild rows up at place × IsChain rows
 -- each row has a list, which is the chain of its children
 pub record AreLists (rows : List TreeRow) (lists : List (List ℕ)) : Type 0 where
   pub size : length lists ≡ length rows
-  pub each : (place : ℕ) (r : TreeRow) → slice_get rows place ≡ Some r → IsChain rows r.id r.first_child (list_at lists place)
+  pub each : (place : ℕ) (r : TreeRow) → slice_get rows place ≡ Some r
+      → IsChain rows r.id r.first_child (list_at lists place)
 
 -- one row has no such chain
 pub record LacksChain (rows : List TreeRow) : Type 0 where

@@ -5,7 +5,8 @@ use Rattle.row_tree.specs.Tree.{list_at}
 
 pub data Reached : List (List ℕ) → ℕ → Type 0 where
   root : (lists : List (List ℕ)) → 0 < length lists → Reached lists 0
-  below : (lists : List (List ℕ)) (up place : ℕ) → Reached lists up → Contains (list_at lists up) place → Reached lists place
+  below : (lists : List (List ℕ)) (up place : ℕ) → Reached lists up
+      → Contains (list_at lists up) place → Reached lists place
 
 -- no list leads out of them
 abbrev pub StayWithin : List (List ℕ) → Type 0

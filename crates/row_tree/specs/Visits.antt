@@ -1,5 +1,6 @@
 -- The places that were met on the way, in their order.
-use Rattle.std.specs.Prelude.{ℕ, ◌≡◌, ◌≢◌, ◌<◌, ◌≤◌, Bool, true, if◌then◌else◌, List, [], ◌∷◌, ◌++◌, length, slice_get, slice_index_or, slice_set, Some}
+use Rattle.std.specs.Prelude.{ℕ, ◌≡◌, ◌≢◌, ◌<◌, ◌≤◌, Bool, true, if◌then◌else◌, List, [], ◌∷◌, ◌++◌, length, slice_get}
+use Rattle.std.specs.Prelude.{slice_index_or, slice_set, Some}
 use Rattle.std.specs.List.{AllPairs, Contains, fold}
 use Rattle.row_tree.specs.Reached.{Reached}
 use Rattle.row_tree.specs.Tree.{list_at}
@@ -23,7 +24,8 @@ pub record IsMet (lists : List (List ℕ)) (done : ℕ) (v : Visit) : Type 0 whe
   pub is_marked : (place : ℕ) → Contains v.1 place → slice_get v.0 place ≡ Some true
   pub once : AllPairs (λ p q. p ≢ q) v.1
   pub reached : (place : ℕ) → Contains v.1 place → Reached lists place
-  pub closed : (n up place : ℕ) → n < done → slice_get v.1 n ≡ Some up → Contains (list_at lists up) place → Contains v.1 place
+  pub closed : (n up place : ℕ) → n < done → slice_get v.1 n ≡ Some up
+      → Contains (list_at lists up) place → Contains v.1 place
   pub first : 0 < length lists → Contains v.1 0
 
 -- and there are no more

@@ -43,7 +43,8 @@ pub(crate) fn chain(
 // The place of the row with an id, where it has this parent.
 fn child_at(rows: &[TreeRow], up: u16, id: u16) -> Option<usize>
     requires { Ascend rows.now }
-    ensures child { MatchOption result ((place : ℕ) → IsChild rows.now up (Some id) place → ⊥) (λ place. IsChild rows.now up (Some id) place) }
+    ensures child { MatchOption result ((place : ℕ) → IsChild rows.now up (Some id) place
+        → ⊥) (λ place. IsChild rows.now up (Some id) place) }
     ensures within { MatchOption result (Unit {0}) (λ place. place < length rows.now) }
 {
     match place_of(rows, id) {

@@ -1,8 +1,8 @@
 //! Rows.
 ghost use Rattle.std.specs.Prelude.{◌≡◌, ◌<◌, Some, length, slice_get};
 
-/// What a row tells of the tree: an id, and the ids of the parent, of the first child and of the sibling behind it, where
-/// there is one.
+/// What a row tells of the tree: an id, and the ids of the parent, of the first child and of the sibling behind it,
+/// where there is one.
 #[derive(Clone, Copy, Debug, PartialEq, Eq)]
 pub struct TreeRow {
     pub id: u16,

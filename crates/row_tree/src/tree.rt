@@ -21,7 +21,8 @@ use std::alloc::Global;
 pub fn children(alloc: Global, rows: &[TreeRow]) -> Result<Items<Items<usize>>, TreeRefusal>
     requires { Ascend rows.now }
     ensures tree { IfOk result (λ lists. IsTreeOf rows.now (children_in rows.now lists)) }
-    ensures only { IfOk result (λ lists. (others : ℕ → List ℕ) → IsTreeOf rows.now others → (id : ℕ) → others id ≡ children_in rows.now lists id) }
+    ensures only { IfOk result (λ lists. (others : ℕ → List ℕ) → IsTreeOf rows.now others
+        → (id : ℕ) → others id ≡ children_in rows.now lists id) }
     ensures size { IfOk result (λ lists. length lists ≡ length rows.now) }
     ensures within { IfOk result (λ lists. StayWithin lists) }
     ensures none { result ≡ Err NoTree → (others : ℕ → List ℕ) → IsTreeOf rows.now others → ⊥ }

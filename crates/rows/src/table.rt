@@ -9,8 +9,8 @@ use crate::written::Written;
 use std::rt::Files;
 use std::{fs, io};
 
-// Whether what is wanted has come of a case that was run. Where not, says so behind the words `at`. Nothing may be wanted
-// that is empty, so a table whose outcomes are empty differs.
+// Whether what is wanted has come of a case that was run. Where not, says so behind the words `at`. Nothing may be
+// wanted that is empty, so a table whose outcomes are empty differs.
 fn agrees<R: Print>(rt: &R, at: &str, line: &str, wanted: &[u8], case: Case) -> io::Result<bool> {
     let came = match case.outcome() {
         Ok(came) => came,
@@ -28,7 +28,8 @@ fn agrees<R: Print>(rt: &R, at: &str, line: &str, wanted: &[u8], case: Case) -> 
     Ok(false)
 }
 
-// Whether what is wanted comes of the row that a line is. Where not, or where it is none, says so behind the words `at`.
+// Whether what is wanted comes of the row that a line is. Where not, or where it is none, says so behind the words
+// `at`.
 fn holds<R: Print + AllocGlobal, F: Fn(&str, &mut Case)>(
     rt: &R,
     name: &str,
@@ -68,12 +69,13 @@ fn text_of<R: Files + AllocGlobal>(rt: &R, path: &str) -> io::Result<String> {
     fs::read_to_string(rt, path.as_str())
 }
 
-/// Runs the rows of the table of a name, which stand in the file `NAME.rows`, by a function from the name and a case to its
-/// outcome: prints each row of which something else comes than what is wanted, and then how many rows there are, and how
-/// many of them differ. A line that is no row differs, and so does a row with an input that can't be read or is left over,
-/// and one whose outcome is empty. Of a file that can't be read, it prints why.
+/// Runs the rows of the table of a name, which stand in the file `NAME.rows`, by a function from the name and a case to
+/// its outcome: prints each row of which something else comes than what is wanted, and then how many rows there are,
+/// and how many of them differ. A line that is no row differs, and so does a row with an input that can't be read or is
+/// left over, and one whose outcome is empty. Of a file that can't be read, it prints why.
 ///
-/// A program has one such function, which goes by the name: each function that is passed by name costs a check of its own.
+/// A program has one such function, which goes by the name: each function that is passed by name costs a check of its
+/// own.
 pub fn run<R: Files + Print + AllocGlobal, F: Fn(&str, &mut Case)>(
     rt: &R,
     name: &str,

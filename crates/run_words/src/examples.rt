@@ -4,8 +4,8 @@ ghost use Rattle.run_words.specs.Examples as example;
 ghost use Rattle.run_words.specs.Run.{run_of};
 
 /// Examples, for readers. What is read: the words of the table in their order, `--port=1876` first, all options in
-/// another order, and `--` behind the last one. What is not: no port, the port twice, port 0, and a word that belongs to
-/// no option.
+/// another order, and `--` behind the last one. What is not: no port, the port twice, port 0, and a word that belongs
+/// to no option.
 pub fn run_is_read()
     ensures in_order { run_of example.in_order ≡ Some example.plain }
     ensures port_first { run_of example.port_first ≡ Some example.plain }

@@ -1,11 +1,11 @@
 //! The frames.
-ghost use Rattle.std.specs.Prelude.{◌≡◌, ◌↔◌, ◌+◌, ◌<◌, ◌≤◌, [], length, slice_get, IfOk, IsTrue, Some};
+ghost use Rattle.std.specs.Prelude.{◌≡◌, ◌↔◌, ◌+◌, ◌++◌, ◌<◌, ◌≤◌, [], length, slice_get, IfOk, IsTrue, Some};
 ghost use Rattle.scode_cells.specs.Frames.{IsRunning, begun, below, cells_in, cleared, entered, first_frame, left};
 ghost use Rattle.scode_cells.specs.Frames.{most_frames, no_frames, placed, popped, pushed, running, stored};
 
 use crate::cell::Cell;
 use crate::extent::Extent;
-use crate::row::{FRAMES, no_extents, put_cells, some_cells};
+use crate::row::{FRAMES, no_extents, put_cells, put_first, some_cells};
 use sed_value::Memory;
 use std::alloc::Global;
 use std::marker::Model;
@@ -79,20 +79,21 @@ impl Cells {
         }
     }
 
-    /// The first frame, with these locals.
-    pub fn begin(&mut self, method: u16, locals: &[Cell])
+    /// The first frame. Its locals are the arguments of the root call, and behind them `zeros`.
+    pub fn begin(&mut self, method: u16, args: &[Cell], zeros: &[Cell])
         requires none { self.old.frames ≡ [] }
-        requires room { length locals.now ≤ self.old.most }
-        ensures { self.new ≡ begun self.old method locals.now }
+        requires room { length args.now + length zeros.now ≤ self.old.most }
+        ensures { self.new ≡ begun self.old method (args.now ++ zeros.now) }
     {
-        put_cells(&mut self.row, 0, locals);
+        put_first(&mut self.row, args, zeros);
+        let stack = args.len() + zeros.len();
         self.is_running = true;
         self.frame = Extent {
             method,
             place: 0,
             base: 0,
-            stack: locals.len(),
-            top: locals.len(),
+            stack,
+            top: stack,
         };
     }
 

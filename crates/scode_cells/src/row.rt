@@ -1,5 +1,5 @@
 //! The row of cells, and what new frames begin with.
-ghost use Rattle.std.specs.Prelude.{◌≡◌, ◌+◌, ◌*◌, ◌≤◌, ◌<◌, ◌^◌, [], length, IfOk};
+ghost use Rattle.std.specs.Prelude.{◌≡◌, ◌+◌, ◌++◌, ◌*◌, ◌≤◌, ◌<◌, ◌^◌, [], length, IfOk};
 ghost use Rattle.std.specs.Vec.{vec_capacity, vec_len};
 ghost use Rattle.scode_cells.specs.Rows.{put_at};
 
@@ -35,4 +35,13 @@ pub fn put_cells(row: &mut [Cell], at: usize, cells: &[Cell])
     ensures { row.new ≡ put_at row.old at cells.now }
 {
     row[at..at + cells.len()].copy_from_slice(cells);
+}
+
+/// Puts cells at the beginning, and others behind them. All behind these stay.
+pub fn put_first(row: &mut [Cell], first: &[Cell], behind: &[Cell])
+    requires { length first.now + length behind.now ≤ length row.old }
+    ensures { row.new ≡ put_at row.old 0 (first.now ++ behind.now) }
+{
+    put_cells(row, 0, first);
+    put_cells(row, first.len(), behind);
 }

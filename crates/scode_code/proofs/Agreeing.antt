@@ -9,8 +9,8 @@ use Rattle.scode_code.specs.TableRules.{method_is_known, parts_are_known, places
 use Rattle.scode_code.proofs.Places.{none_some, some_eq}
 
 -- the first of nine
-front : (a b c d e f g h i : Bool) → (a && b && c && d && e && f && g && h && i) ≡ true → a ≡ true
-front a b c d e f g h i all =
+pub first_of_nine : (a b c d e f g h i : Bool) → (a && b && c && d && e && f && g && h && i) ≡ true → a ≡ true
+first_of_nine a b c d e f g h i all =
     let p = and_parts (a && b && c && d && e && f && g && h) i all in
     let q = and_parts (a && b && c && d && e && f && g) h p.0 in
     let r = and_parts (a && b && c && d && e && f) g q.0 in
@@ -30,7 +30,7 @@ each_of p (y ∷ ys) (suc n) x all there = each_of p ys n x (and_parts (p y) (li
 pub ascends : (image : Image) (n : ℕ) (m : ImageMethod) → tables_agree image ≡ true → slice_get image.methods n ≡ Some m
     → places_ascend 0 m.entries ≡ true
 ascends image n m agree there =
-    let known : parts_are_known image ≡ true = front (parts_are_known image) _ _ _ _ _ _ _ _ agree in
+    let known : parts_are_known image ≡ true = first_of_nine (parts_are_known image) _ _ _ _ _ _ _ _ agree in
     let all = (and_parts _ (list_all method_is_known image.methods) known).1 in
     let one = each_of method_is_known image.methods n m all there in
     let p = and_parts _ _ one in

@@ -9,7 +9,8 @@ use Rattle.scode_image.specs.declared.image.ImageMethod.{ImageMethod}
 use Rattle.scode_code.specs.Kinds.{Shape, shape_goes}
 use Rattle.scode_code.specs.TableRules.{tables_agree}
 use Rattle.scode_code.specs.Wants.{needs}
-use Rattle.scode_code.specs.CodeRules.{after, entry_at, entry_shape, field_missing, first_shape, is_abstract, is_end, jumps_to, kind_differs, number_missing, result_differs}
+use Rattle.scode_code.specs.CodeRules.{after, entry_at, entry_shape, field_missing, first_shape, is_abstract, is_end}
+use Rattle.scode_code.specs.CodeRules.{jumps_to, kind_differs, number_missing, result_differs}
 use Rattle.scode_code.specs.Faults.{Broken}
 
 -- ---- where instructions stand
@@ -113,7 +114,7 @@ BreaksNone image = (method place rule : ℕ) → Breaks image method place rule 
 
 -- ---- the first broken rule
 
--- a broken rule is at this method, place and rule or behind them, in this order
+-- `at` does not come before `b`, by the method, then the place, then the rule
 abbrev pub IsNotBefore : ℕ × ℕ × ℕ → Broken → Type 0
 IsNotBefore at b =
     (b.method < at.0)

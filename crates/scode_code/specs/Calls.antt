@@ -1,5 +1,6 @@
 -- What the instructions on calls and Strs do.
-use Rattle.std.specs.Prelude.{ℕ, ◌+◌, ◌==◌, ◌%◌, pos, Bool, List, [], ◌∷◌, ◌++◌, drop, length, map, if◌then◌else◌, slice_get, slice_index_or, Option, Result, Ok}
+use Rattle.std.specs.Prelude.{ℕ, ◌+◌, ◌==◌, ◌%◌, pos, Bool, List, [], ◌∷◌, ◌++◌, drop, length, map, if◌then◌else◌}
+use Rattle.std.specs.Prelude.{slice_get, slice_index_or, Option, Result, Ok}
 use Rattle.std.specs.Option.{option_and_then}
 use Rattle.sed_typed.specs.declared.operators.TextCall.{TextCall}
 use Rattle.sed_typed.specs.declared.operators.TextCall.TheVariants as text

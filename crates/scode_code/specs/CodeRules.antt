@@ -1,5 +1,7 @@
 -- The rules that code keeps, each with its number, and the first that is broken.
-use Rattle.std.specs.Prelude.{ℕ, zero, suc, ◌+◌, ◌==◌, ◌&&◌, ◌||◌, nat_lt, nat_le, not, Bool, true, false, if◌then◌else◌, List, [], ◌∷◌, ◌++◌, find, length, take, drop, reverse, slice_get, is_some, Option, Some, None}
+use Rattle.std.specs.Prelude.{ℕ, zero, suc, ◌+◌, ◌==◌, ◌&&◌, ◌||◌, nat_lt, nat_le, not, Bool, true, false}
+use Rattle.std.specs.Prelude.{if◌then◌else◌, List, [], ◌∷◌, ◌++◌, find, length, take, drop, reverse, slice_get, is_some}
+use Rattle.std.specs.Prelude.{Option, Some, None}
 use Rattle.std.specs.List.{list_any}
 use Rattle.std.specs.Option.{option_map, option_map_or}
 use Rattle.scode_ops.specs.declared.op.Op.{Op}
@@ -235,17 +237,19 @@ broken_at image m place carried i =
 abbrev pub carried_on : Image → Option Shape → Op → Option Shape
 carried_on image shape i = if is_end i then None else option_map (λ s. after image s i) shape
 
--- the first entry between two places: its place is no start
+-- an entry between two places, and one from a place on
 abbrev pub is_between : ℕ → ℕ → ImageEntry → Bool
 is_between from to e = nat_lt from e.place && nat_lt e.place to
 
-abbrev pub entry_between : List ImageEntry → ℕ → ℕ → Option ℕ
-entry_between entries from to = option_map (λ e. e.place) (find (is_between from to) entries)
-
--- the first entry from a place on: where the code is over, its place is no start
 abbrev pub is_from : ℕ → ImageEntry → Bool
 is_from place e = nat_le place e.place
 
+-- the place of the first entry between two places; where one instruction stands at the first and the next one at the
+-- second, it is no start
+abbrev pub entry_between : List ImageEntry → ℕ → ℕ → Option ℕ
+entry_between entries from to = option_map (λ e. e.place) (find (is_between from to) entries)
+
+-- the place of the first entry from a place on; where the code is over, it is no start
 abbrev pub entry_from : List ImageEntry → ℕ → Option ℕ
 entry_from entries place = option_map (λ e. e.place) (find (is_from place) entries)
 

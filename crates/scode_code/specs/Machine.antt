@@ -47,8 +47,7 @@ enters method locals frames shared =
     then At (record {
       top = record { method = method; place = 0; locals = locals; stack = [] };
       below = frames;
-      shared =
-          shared;
+      shared = shared;
     })
     else Over (record { result = Err (Traps TooDeep); shared = shared })
 

@@ -1,5 +1,6 @@
 -- What a root call of an image does.
-use Rattle.std.specs.Prelude.{ℕ, ◌+◌, ◌*◌, ◌==◌, ℤ, if◌then◌else◌, List, [], ◌∷◌, map, length, slice_get, Option, Some, None, Result, Ok, Err}
+use Rattle.std.specs.Prelude.{ℕ, ◌+◌, ◌*◌, ◌==◌, ℤ, if◌then◌else◌, List, [], ◌∷◌, map, length, slice_get, Option, Some}
+use Rattle.std.specs.Prelude.{None, Result, Ok, Err}
 use Rattle.std.specs.Option.{option_and_then}
 use Rattle.sed_value.specs.declared.value.Value.{Value}
 use Rattle.sed_typed.specs.Contents.{Contents}
@@ -64,7 +65,7 @@ begins None number argument shared = Over (record { result = Err Untyped; shared
 begins (Some m) number argument shared = enters number (locals_of m (root_arguments argument)) [] shared
 
 -- How it ended. What is not over after so many steps is as if it were stuck: both are part of what a root call is
--- defined to be. That verified code is over by then is a law of its own, which comes with the machine.
+-- defined to be. A call of verified code that may be asked is over by then: `verified_calls_are_over` of scode_sound.
 abbrev pub ended : Point → Called
 ended (Over c) = c
 ended (AtWork m) = record { result = Err Untyped; shared = m.shared }

@@ -1,10 +1,13 @@
 -- The table of instructions, and the steps of the machine.
-use Rattle.std.specs.Prelude.{ℕ, zero, suc, ◌+◌, nat_le, if◌then◌else◌, List, [], ◌∷◌, length, drop, slice_get, Option, Some, None, Err}
+use Rattle.std.specs.Prelude.{ℕ, zero, suc, ◌+◌, nat_le, if◌then◌else◌, List, [], ◌∷◌, length, drop, slice_get, Option}
+use Rattle.std.specs.Prelude.{Some, None, Err}
 use Rattle.std.specs.Option.{option_map_or}
 use Rattle.sed_value.specs.declared.slot_type.Primitive.TheVariants as prim
-use Rattle.sed_typed.specs.declared.operators.Arithmetic.TheVariants.{Add, Subtract, Multiply, Divide, Remainder, BitAnd, BitOr, BitXor, ShiftLeft, ShiftRight}
+use Rattle.sed_typed.specs.declared.operators.Arithmetic.TheVariants.{Add, Subtract, Multiply, Divide, Remainder}
+use Rattle.sed_typed.specs.declared.operators.Arithmetic.TheVariants.{BitAnd, BitOr, BitXor, ShiftLeft, ShiftRight}
 use Rattle.sed_typed.specs.declared.operators.Binary.TheVariants.{SameTruth, OtherTruth, SameReference, OtherReference}
-use Rattle.sed_typed.specs.declared.operators.Comparison.TheVariants.{Equal, NotEqual, Less, LessOrEqual, Greater, GreaterOrEqual}
+use Rattle.sed_typed.specs.declared.operators.Comparison.TheVariants.{Equal, NotEqual, Less, LessOrEqual, Greater}
+use Rattle.sed_typed.specs.declared.operators.Comparison.TheVariants.{GreaterOrEqual}
 use Rattle.sed_typed.specs.declared.operators.Unary.TheVariants as unary
 use Rattle.sed_typed.specs.declared.operators.Width.TheVariants as width
 use Rattle.sed_engine.specs.State.{Shared, State, End, gives, answers, then_do}
@@ -17,7 +20,8 @@ use Rattle.scode_ops.specs.Decoding.{front_op, op_at, size_of}
 use Rattle.scode_image.specs.declared.image.Image.{Image}
 use Rattle.scode_code.specs.Fields.{Setting}
 use Rattle.scode_code.specs.Machine.{Frame, Point, At as AtWork, Over, Move, Onward, Goto, Leave, moves}
-use Rattle.scode_code.specs.Effect.{on_top, push, no_push, of_one, of_two, computes, compares, get, put, part, buf_size, buf_get, array_get, array_put}
+use Rattle.scode_code.specs.Effect.{on_top, push, no_push, of_one, of_two, computes, compares, get, put, part, buf_size}
+use Rattle.scode_code.specs.Effect.{buf_get, array_get, array_put}
 use Rattle.scode_code.specs.Calls.{call, virtual_call, str_length, str_get, str_set, str_equal, str_copy}
 
 -- what an instruction does on a stack

@@ -1,5 +1,6 @@
 -- What the tables of an image say: its schema, the fields of its classes, and the field behind a slot.
-use Rattle.std.specs.Prelude.{ℕ, ◌-◌, ◌==◌, ◌&&◌, ◌%◌, Bool, nat_le, if◌then◌else◌, List, [], map, length, position, slice_get, Option, Some, None}
+use Rattle.std.specs.Prelude.{ℕ, ◌-◌, ◌==◌, ◌&&◌, ◌%◌, Bool, nat_le, if◌then◌else◌, List, [], map, length, position}
+use Rattle.std.specs.Prelude.{slice_get, Option, Some, None}
 use Rattle.std.specs.Option.{option_and_then, option_map_or}
 use Rattle.sed_value.specs.declared.kit.KitRef.{KitRef}
 use Rattle.sed_value.specs.declared.slot_type.Primitive.{Primitive}

@@ -8,7 +8,8 @@ use Rattle.scode_image.specs.declared.image.Image.{Image}
 use Rattle.scode_image.specs.declared.image.ImageEntry.{ImageEntry}
 use Rattle.scode_image.specs.declared.image.ImageMethod.{ImageMethod}
 use Rattle.scode_code.specs.Kinds.{Shape, shape_goes}
-use Rattle.scode_code.specs.CodeRules.{after, entry_at, field_missing, first_shape, is_abstract, is_end, jumps_to, kind_differs, misses_start, number_missing, result_differs, stack_breaks}
+use Rattle.scode_code.specs.CodeRules.{after, entry_at, field_missing, first_shape, is_abstract, is_end, jumps_to}
+use Rattle.scode_code.specs.CodeRules.{kind_differs, misses_start, number_missing, result_differs, stack_breaks}
 use Rattle.scode_code.specs.Breaks.{IsReached, IsStart, KindsAt, StartsAt}
 use Rattle.scode_code.specs.TableRules.{tables_agree}
 

@@ -1,5 +1,6 @@
 -- What each instruction takes off the stack, and what it puts on: data, and what the data says of kinds.
-use Rattle.std.specs.Prelude.{ℕ, ◌==◌, ◌||◌, Bool, true, if◌then◌else◌, List, [], ◌∷◌, ◌++◌, map, reverse, slice_get, Option, Some, None}
+use Rattle.std.specs.Prelude.{ℕ, ◌==◌, ◌||◌, Bool, true, if◌then◌else◌, List, [], ◌∷◌, ◌++◌, map, reverse, slice_get}
+use Rattle.std.specs.Prelude.{Option, Some, None}
 use Rattle.std.specs.Option.{option_map_or}
 use Rattle.scode_ops.specs.declared.op.Op.{Op}
 use Rattle.scode_ops.specs.declared.op.Op.TheVariants as op
@@ -7,7 +8,8 @@ use Rattle.scode_image.specs.declared.image.Image.{Image}
 use Rattle.scode_image.specs.declared.image.ImageKind.{ImageKind}
 use Rattle.scode_image.specs.declared.image.ImageMethod.{ImageMethod}
 use Rattle.scode_code.specs.Calls.{is_instance, table_method}
-use Rattle.scode_code.specs.Kinds.{bool, int, long, str, null, object, statics, is_null, is_str, is_object, goes_to, Shape}
+use Rattle.scode_code.specs.Kinds.{bool, int, long, str, null, object, statics, is_null, is_str, is_object, goes_to}
+use Rattle.scode_code.specs.Kinds.{Shape}
 use Rattle.scode_code.specs.declared.needs.Effect.{Effect}
 use Rattle.scode_code.specs.declared.needs.Need.{Need}
 use Rattle.scode_code.specs.declared.needs.Need.TheVariants.{Goes, AnyObject, Reference, Anything}

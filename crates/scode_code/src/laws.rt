@@ -23,7 +23,8 @@ use sed_engine::masked_codes_answer;
 pub fn machines_end_once()
     ensures sum { (w : Setting) (n m : ℕ) (p : Point) → steps w (n + m) p ≡ steps w m (steps w n p) }
     ensures stays { (w : Setting) (n : ℕ) (c : Called) → steps w n (Over c) ≡ Over c }
-    ensures once { (w : Setting) (n m : ℕ) (p : Point) (c d : Called) → steps w n p ≡ Over c → steps w m p ≡ Over d → c ≡ d }
+    ensures once { (w : Setting) (n m : ℕ) (p : Point) (c d : Called)
+        → steps w n p ≡ Over c → steps w m p ≡ Over d → c ≡ d }
 {}
 
 /// What an image may be asked, its meaning answers as its root call ends.

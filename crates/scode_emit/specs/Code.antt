@@ -12,7 +12,8 @@ use Rattle.sed_typed.specs.declared.statement.Stmt.{Stmt, Row_of-Stmt, end_of-St
 use Rattle.sed_typed.specs.declared.statement.Stmt.TheVariants as stmt
 use Rattle.sed_typed.specs.declared.tree.Place.{Place}
 use Rattle.sed_typed.specs.declared.tree.Place.TheVariants as place
-use Rattle.sed_typed.specs.declared.tree.Expr.{Expr, Row_of-Expr, end_of-Expr, more_of-Expr, Row_of-Link, end_of-Link, more_of-Link}
+use Rattle.sed_typed.specs.declared.tree.Expr.{Expr, Row_of-Expr, end_of-Expr, more_of-Expr, Row_of-Link, end_of-Link}
+use Rattle.sed_typed.specs.declared.tree.Expr.{more_of-Link}
 use Rattle.sed_typed.specs.declared.tree.Expr.TheVariants as expr
 use Rattle.sed_typed.specs.declared.tree.Link.{Link}
 use Rattle.sed_typed.specs.declared.tree.Link.TheVariants as link
@@ -21,8 +22,11 @@ use Rattle.scode_ops.specs.declared.op.Op.{Op}
 use Rattle.scode_ops.specs.declared.op.Op.TheVariants as op
 use Rattle.scode_ops.specs.Codes as codes
 use Rattle.scode_emit.specs.Site.{Site, waiting, offset_in, room_in}
-use Rattle.scode_emit.specs.Instructions.{arithmetic_op, binary_op, unary_code, text_op, zero_op, pop_code, get_op, get_element_op, part_op, invoke_op, storage, put_code, keep_code, fetch_code, before_code, before_size, fetch_size, behind_code, pop_size}
-use Rattle.scode_emit.specs.Sizes.{expr_size, place_size, link_size, test_size, last_size, over_size, tests_size, stmt_size, stmts_size}
+use Rattle.scode_emit.specs.Instructions.{arithmetic_op, binary_op, unary_code, text_op, zero_op, pop_code, get_op}
+use Rattle.scode_emit.specs.Instructions.{get_element_op, part_op, invoke_op, storage, put_code, keep_code, fetch_code}
+use Rattle.scode_emit.specs.Instructions.{before_code, before_size, fetch_size, behind_code, pop_size}
+use Rattle.scode_emit.specs.Sizes.{expr_size, place_size, link_size, test_size, last_size, over_size, tests_size}
+use Rattle.scode_emit.specs.Sizes.{stmt_size, stmts_size}
 
 abbrev mutual
   pub expr_code : Site → ℕ → Expr → List Op

@@ -12,7 +12,8 @@ use Rattle.sed_typed.specs.declared.statement.Stmt.{Stmt, Row_of-Stmt, end_of-St
 use Rattle.sed_typed.specs.declared.statement.Stmt.TheVariants as stmt
 use Rattle.sed_typed.specs.declared.tree.Place.{Place}
 use Rattle.sed_typed.specs.declared.tree.Place.TheVariants as place
-use Rattle.sed_typed.specs.declared.tree.Expr.{Expr, Row_of-Expr, end_of-Expr, more_of-Expr, Row_of-Link, end_of-Link, more_of-Link}
+use Rattle.sed_typed.specs.declared.tree.Expr.{Expr, Row_of-Expr, end_of-Expr, more_of-Expr, Row_of-Link, end_of-Link}
+use Rattle.sed_typed.specs.declared.tree.Expr.{more_of-Link}
 use Rattle.sed_typed.specs.declared.tree.Expr.TheVariants as expr
 use Rattle.sed_typed.specs.declared.tree.Link.{Link}
 use Rattle.sed_typed.specs.declared.tree.Link.TheVariants as link
@@ -21,7 +22,8 @@ use Rattle.scode_image.specs.declared.image.ImageKind.{ImageKind}
 use Rattle.scode_code.specs.Kinds.{void, bool, int, long, str, object, statics}
 use Rattle.scode_emit.specs.Site.{Site}
 use Rattle.scode_emit.specs.Instructions.{pop_size, storage, fetch_size, before_size}
-use Rattle.scode_emit.specs.Sizes.{expr_size, place_size, link_size, test_size, last_size, over_size, tests_size, stmt_size}
+use Rattle.scode_emit.specs.Sizes.{expr_size, place_size, link_size, test_size, last_size, over_size, tests_size}
+use Rattle.scode_emit.specs.Sizes.{stmt_size}
 
 -- an entry: its place, and the kinds on the stack, the top first
 pub record Mark : Type 0 where

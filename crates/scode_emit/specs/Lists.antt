@@ -1,4 +1,5 @@
--- Rows of trees as lists: their kinds, sizes and code, for the private clauses of who emits them. No public clause rests on it.
+-- Rows of trees as lists: their kinds, sizes and code, for the private clauses of who emits them. No public clause
+-- rests on it.
 use Rattle.std.specs.Prelude.{ℕ, ◌+◌, List, [], ◌∷◌, ◌++◌}
 use Rattle.sed_typed.specs.declared.kind.Kind.{Kind}
 use Rattle.sed_typed.specs.declared.statement.Stmt.{Stmt}
@@ -13,7 +14,8 @@ use Rattle.scode_ops.specs.declared.op.Op.{Op}
 use Rattle.scode_ops.specs.declared.op.Op.TheVariants as op
 use Rattle.scode_emit.specs.Site.{Site}
 use Rattle.scode_emit.specs.Instructions as meant
-use Rattle.scode_emit.specs.Instructions.{arithmetic_op, before_code, before_size, fetch_code, fetch_size, keep_code, put_code, storage}
+use Rattle.scode_emit.specs.Instructions.{arithmetic_op, before_code, before_size, fetch_code, fetch_size, keep_code}
+use Rattle.scode_emit.specs.Instructions.{put_code, storage}
 use Rattle.scode_emit.specs.Sizes.{expr_size, place_size, link_size, stmt_size}
 use Rattle.scode_emit.specs.Code.{expr_code, place_code, link_code, stmt_code}
 

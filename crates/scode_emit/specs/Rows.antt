@@ -30,4 +30,9 @@ layout_of fields statics tables = record {
 }
 
 abbrev pub seen : Given → Site
-seen w = record { program = w.program.now; layout = layout_of w.fields.now w.statics.now w.tables.now; class = w.class; locals = w.locals }
+seen w = record {
+  program = w.program.now;
+  layout = layout_of w.fields.now w.statics.now w.tables.now;
+  class = w.class;
+  locals = w.locals;
+}

@@ -8,8 +8,8 @@ use Rattle.sed_typed.specs.declared.program.Program.{Program}
 use Rattle.sed_typed.specs.TypedExpr.{object_class}
 
 -- Where the data of a program lie, and how much room they have: a field of a class in its objects, by class and number,
--- and a static in the static block; the room is the size of a Str, and the most bytes of a Buf. And the place of a method
--- in the table of a class, by class and number.
+-- and a static in the static block; the room is the size of a Str, and the most bytes of a Buf. And the place of a
+-- method in the table of a class, by class and number.
 pub record Layout : Type 0 where
   pub offset : ℕ → ℕ → ℕ
   pub room : ℕ → ℕ → ℕ

@@ -6,7 +6,9 @@ ghost use Rattle.scode_ops.specs.declared.op.Op.TheVariants.{Call, Jump, Not};
 ghost use Rattle.sed_typed.specs.Kinds.{kind_of as kind_in};
 ghost use Rattle.scode_emit.specs.Code as code;
 ghost use Rattle.scode_emit.specs.Instructions as meant;
-ghost use Rattle.scode_emit.specs.Lists.{args_code, args_size as args_in, behind_code as links_code, behind_size as links_in, chain_code, choice_code, low_code, set_code, update_code};
+ghost use Rattle.scode_emit.specs.Lists.{args_code, args_size as args_in, behind_code as links_code};
+ghost use Rattle.scode_emit.specs.Lists.{behind_size as links_in, chain_code, choice_code, low_code, set_code};
+ghost use Rattle.scode_emit.specs.Lists.{update_code};
 ghost use Rattle.scode_emit.specs.Rows.{seen};
 ghost use Rattle.scode_emit.specs.Sizes as sizes;
 
@@ -158,7 +160,8 @@ fn emit_set(
     value: &Expr,
 ) -> Result<(), Memory>
     requires room { site.now.locals ≤ 250 }
-    requires fits { at + sizes.place_size (seen site.now) target.now + sizes.expr_size (seen site.now) value.now ≤ 65535 }
+    requires fits { at + sizes.place_size (seen site.now) target.now
+        + sizes.expr_size (seen site.now) value.now ≤ 65535 }
     ensures { OnOk result (ops.new.items ≡ ops.old.items ++ set_code (seen site.now) at target.now value.now) }
 {
     emit_place(ops, site, at, target)?;

@@ -1,8 +1,8 @@
 //! Code as functions of trees.
 //!
-//! A method of a typed program has its instructions by the definition `code_of`, which recurses over the method's tree as
-//! the language's meaning does. Sizes come first, so each jump's place is a number where the jump stands, however long the
-//! method is. Beside the code stand its entries and the most cells on its stack.
+//! A method of a typed program has its instructions by the definition `code_of`, which recurses over the method's tree
+//! as the language's meaning does. Sizes come first, so each jump's place is a number where the jump stands, however
+//! long the method is. Beside the code stand its entries and the most cells on its stack.
 #![tactic(auto)]
 
 mod expressions;

@@ -39,7 +39,8 @@ fn emit_stored(
     value: &Expr,
 ) -> Result<(), Memory>
     requires room { site.now.locals ≤ 250 }
-    requires fits { at + sizes.place_size (seen site.now) target.now + sizes.expr_size (seen site.now) value.now ≤ 65535 }
+    requires fits { at + sizes.place_size (seen site.now) target.now
+        + sizes.expr_size (seen site.now) value.now ≤ 65535 }
     ensures { OnOk result (ops.new.items ≡ ops.old.items ++ stored_code (seen site.now) at target.now value.now) }
 {
     emit_place(ops, site, at, target)?;

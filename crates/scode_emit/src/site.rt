@@ -8,8 +8,8 @@ use scode_image::ImageField;
 use sed_typed::{Kind, Program};
 use sed_value::{Items, Prim};
 
-/// A method of a program, which has so many locals of its own, and where the program's data lie: for each class its fields,
-/// inherited ones first, and its table of methods; and the statics.
+/// A method of a program, which has so many locals of its own, and where the program's data lie: for each class its
+/// fields, inherited ones first, and its table of methods; and the statics.
 #[derive(Clone, Copy)]
 pub struct Site<'a> {
     pub program: &'a Program,

@@ -12,8 +12,8 @@ use scode_ops::Op;
 use sed_typed::{Gives, Place};
 use sed_value::{Memory, Prim};
 
-/// A local; a field of an object or of the static block, which stands on the stack; or an element of an array in one, whose
-/// index stands above it.
+/// A local; a field of an object or of the static block, which stands on the stack; or an element of an array in one,
+/// whose index stands above it.
 #[derive(Clone, Copy, Debug, PartialEq, Eq)]
 pub enum Storage {
     InLocal(u8),

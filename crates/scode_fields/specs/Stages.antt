@@ -3,7 +3,10 @@ use Rattle.std.specs.Prelude.{ℕ, ◌&&◌, nat_lt, Bool, length}
 use Rattle.std.specs.List.{list_all}
 use Rattle.scode_image.specs.declared.image.Image.{Image}
 use Rattle.scode_image.specs.declared.image.ImageClass.{ImageClass}
-use Rattle.scode_code.specs.TableRules.{all_classes, base_stands_before, bytes_fit, class_numbers_are_there, component_has_table, grows_from_base, is_marked, keeps_limits, method_agrees, names_have_form, parts_are_known, slots_have_parts, sys_is_there, table_keeps_signatures, table_methods_fit, types_are_numbered, with_base}
+use Rattle.scode_code.specs.TableRules.{all_classes, base_stands_before, bytes_fit, class_numbers_are_there}
+use Rattle.scode_code.specs.TableRules.{component_has_table, grows_from_base, is_marked, keeps_limits, method_agrees}
+use Rattle.scode_code.specs.TableRules.{names_have_form, parts_are_known, slots_have_parts, sys_is_there}
+use Rattle.scode_code.specs.TableRules.{table_keeps_signatures, table_methods_fit, types_are_numbered, with_base}
 use Rattle.scode_fields.specs.Words.{fields_are_laid}
 
 -- a class, but for its fields, slots and table methods

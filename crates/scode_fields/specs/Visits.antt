@@ -3,7 +3,8 @@ use Rattle.std.specs.Prelude.{ℕ, Bool, true, false, List}
 use Rattle.scode_image.specs.declared.image.Image.{Image}
 use Rattle.scode_image.specs.declared.image.ImageField.{ImageField}
 use Rattle.scode_fields.specs.declared.holders.Walk.{Walk}
-use Rattle.scode_fields.specs.Walking.{AreDone, AreOnWay, GoesOn, IsCircle, IsDone, IsFieldDone, IsFieldOnWay, IsOnWay, IsWalk}
+use Rattle.scode_fields.specs.Walking.{AreDone, AreOnWay, GoesOn, IsCircle, IsDone, IsFieldDone, IsFieldOnWay, IsOnWay}
+use Rattle.scode_fields.specs.Walking.{IsWalk}
 
 abbrev pub IsSound : Image → Walk → Type 0
 IsSound image w = IsWalk image w.begun.items w.done.items w.order.items

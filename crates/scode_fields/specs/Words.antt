@@ -1,5 +1,6 @@
 -- Names for parts of the rule's definitions.
-use Rattle.std.specs.Prelude.{ℕ, ◌+◌, ◌-◌, ◌*◌, ◌==◌, ◌&&◌, ◌||◌, nat_le, not, Bool, true, false, if◌then◌else◌, List, filter, length, slice_get, slice_index_or, sum_by, nat_lt, Some, ◌≡◌, ◌<◌}
+use Rattle.std.specs.Prelude.{ℕ, ◌+◌, ◌-◌, ◌*◌, ◌==◌, ◌&&◌, ◌||◌, nat_le, not, Bool, true, false, if◌then◌else◌, List}
+use Rattle.std.specs.Prelude.{filter, length, slice_get, slice_index_or, sum_by, nat_lt, Some, ◌≡◌, ◌<◌}
 use Rattle.std.specs.List.{list_all, range_with_len}
 use Rattle.std.specs.Option.{option_and_then, option_map_or}
 use Rattle.sed_value.specs.SlotType.{width_of}
@@ -11,7 +12,8 @@ use Rattle.scode_image.specs.declared.image.ImageField.{ImageField}
 use Rattle.scode_image.specs.declared.image.ImageSlot.{ImageSlot}
 use Rattle.scode_code.specs.Contents.{bytes_at}
 use Rattle.scode_code.specs.Tables.{primitive_of, slot_form}
-use Rattle.scode_code.specs.TableRules.{field_width, fields_lie_apart, has_class, may_be_inline, n_is_of_form, none_or, numbers_in_kit, object_fields_are_there, objects_may_be_inline}
+use Rattle.scode_code.specs.TableRules.{field_width, fields_lie_apart, has_class, may_be_inline, n_is_of_form, none_or}
+use Rattle.scode_code.specs.TableRules.{numbers_in_kit, object_fields_are_there, objects_may_be_inline}
 
 -- ---- fields
 

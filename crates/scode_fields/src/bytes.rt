@@ -1,6 +1,7 @@
 //! First bytes. A row tells of each byte of a class's data how great it may be at most; the rows of the classes of its
 //! objects are parts of it, so that each class is gone over once.
-ghost use Rattle.std.specs.Prelude.{◌≡◌, ◌+◌, ◌-◌, ◌<◌, ◌≤◌, drop, IfOk, length, ℕ, replicate, slice_get, slice_set, slice_index_or, Some, true};
+ghost use Rattle.std.specs.Prelude.{◌≡◌, ◌+◌, ◌-◌, ◌<◌, ◌≤◌, drop, IfOk, length, ℕ, replicate, slice_get, slice_set};
+ghost use Rattle.std.specs.Prelude.{slice_index_or, Some, true};
 ghost use Rattle.scode_code.specs.TableRules as rules;
 ghost use Rattle.scode_fields.specs.Rows as meaning;
 ghost use Rattle.scode_fields.specs.Fitting as fitting;
@@ -233,7 +234,7 @@ fn fit_class(
 /// Whether the first bytes of all classes and of the static block fit their fields, where the tables are laid and the
 /// classes stand in order.
 ///
-/// Takes a byte for each byte of first contents, and a number a class.
+/// Takes a byte for each byte of first contents, the statics' among them, and a number a class.
 pub(crate) fn first_bytes_fit(alloc: Global, image: &Image, order: &[usize]) -> Result<bool, Memory>
     requires laid { stages.is_laid image.now ≡ true }
     requires order { walking.IsOrder image.now order.now }

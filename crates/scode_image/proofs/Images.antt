@@ -9,8 +9,8 @@ use Rattle.sed_wire.specs.FormSpelling.{IsLeft}
 use Rattle.sed_wire.specs.Form.{found_eq, stuck_eq, not_found, not_stuck}
 use Rattle.scode_image.specs.Grammar.{image, IsImage, IsFault, FaultsAt}
 use Rattle.sed_wire.specs.Gives.{Gives}
-use Rattle.sed_wire.specs.declared.halt.Halt.{Halt}
-use Rattle.sed_wire.specs.declared.halt.Halt.TheVariants.{Fault}
+use Rattle.sed_value.specs.declared.halt.Halt.{Halt}
+use Rattle.sed_value.specs.declared.halt.Halt.TheVariants.{Fault}
 use Rattle.scode_image.specs.Outcome.{Outcome, Reads, Refuses}
 
 -- the bytes are read as the image, with nothing left

@@ -13,7 +13,7 @@ use Rattle.scode_image.specs.declared.image.ImageKind.{ImageKind}
 use Rattle.sed_wire.specs.Form.{Form, then, ◌&◌, given, sized}
 use Rattle.sed_wire.specs.Leaves.{u1, u2, i4, run, counted_run, text}
 use Rattle.sed_wire.specs.Row.{times, counted}
-use Rattle.scode_image.specs.Grammar.{u1_to, u2_from, kit, field_form, slot_form, field, slot, data_size, class_body, class_size, sized_body, class, kind_class, kind, entry, entries, length-entries, counted_entries, behind_locals, method, block_size, block, size-block, statics, head, version, end, literal, image}
+use Rattle.scode_image.specs.Grammar.{u1_to, u2_from, kit, field_form, slot_form, field, slot, data_size, body, class_size, behind, class, kind_class, kind, entry, entries, length-entries, counted_entries, behind_locals, method, block_size, block, size-block, statics, head, version, end, literal, image}
 use Rattle.scode_image.specs.Steps.{Puts}
 use Rattle.scode_image.proofs.Putting.{then_puts, puts_same}
 
@@ -68,10 +68,10 @@ slot_puts s old a b c d new p q r t u =
     (then_puts u2 (λ _. u1_to 1) s.n s.config c d new t (u1_to_puts 1 s.config d new u))))
 
 body_puts : (c : ImageClass) (e f g h i new : List ℕ) → Puts u2 (length c.contents) e f → Puts (counted u2 field) c.fields f g → Puts (counted u1 slot) c.slots g h
-    → Puts (counted u1 u2) c.table h i → ((n : ℕ) → Puts (run n) c.contents i new) → Puts sized_body (c.fields, (c.slots, (c.table, c.contents))) e new
-unfolding sized_body class_body
+    → Puts (counted u1 u2) c.table h i → ((n : ℕ) → Puts (run n) c.contents i new) → Puts behind (c.fields, (c.slots, (c.table, c.contents))) e new
+unfolding behind body
 body_puts c e f g h i new p q r t u =
-    sized_puts data_size u2 class_body class_size (c.fields, (c.slots, (c.table, c.contents))) e f new p
+    sized_puts data_size u2 body class_size (c.fields, (c.slots, (c.table, c.contents))) e f new p
     (then_puts (counted u2 field) (λ _. counted u1 slot & (counted u1 u2 & run (length c.contents))) c.fields (c.slots, (c.table, c.contents)) f g new q
     (then_puts (counted u1 slot) (λ _. counted u1 u2 & run (length c.contents)) c.slots (c.table, c.contents) g h new r
     (then_puts (counted u1 u2) (λ _. run (length c.contents)) c.table c.contents h i new t (u (length c.contents)))))
@@ -82,11 +82,11 @@ pub class_puts : (c : ImageClass) (old a b d e g f h i j new : List ℕ)
     → Puts class c old new
 unfolding class
 class_puts c old a b d e g f h i j new p q r s t u v w x y =
-    then_puts u1 (λ _. u1 & (text & (u2 & (u1_to 3 & sized_body)))) c.kit (c.number, (c.name, (c.base, (c.flags, (c.fields, (c.slots, (c.table, c.contents))))))) old a new p
-    (then_puts u1 (λ _. text & (u2 & (u1_to 3 & sized_body))) c.number (c.name, (c.base, (c.flags, (c.fields, (c.slots, (c.table, c.contents)))))) a b new q
-    (then_puts text (λ _. u2 & (u1_to 3 & sized_body)) c.name (c.base, (c.flags, (c.fields, (c.slots, (c.table, c.contents))))) b d new r
-    (then_puts u2 (λ _. u1_to 3 & sized_body) c.base (c.flags, (c.fields, (c.slots, (c.table, c.contents)))) d e new s
-    (then_puts (u1_to 3) (λ _. sized_body) c.flags (c.fields, (c.slots, (c.table, c.contents))) e g new (u1_to_puts 3 c.flags e g t)
+    then_puts u1 (λ _. u1 & (text & (u2 & (u1_to 3 & behind)))) c.kit (c.number, (c.name, (c.base, (c.flags, (c.fields, (c.slots, (c.table, c.contents))))))) old a new p
+    (then_puts u1 (λ _. text & (u2 & (u1_to 3 & behind))) c.number (c.name, (c.base, (c.flags, (c.fields, (c.slots, (c.table, c.contents)))))) a b new q
+    (then_puts text (λ _. u2 & (u1_to 3 & behind)) c.name (c.base, (c.flags, (c.fields, (c.slots, (c.table, c.contents))))) b d new r
+    (then_puts u2 (λ _. u1_to 3 & behind) c.base (c.flags, (c.fields, (c.slots, (c.table, c.contents)))) d e new s
+    (then_puts (u1_to 3) (λ _. behind) c.flags (c.fields, (c.slots, (c.table, c.contents))) e g new (u1_to_puts 3 c.flags e g t)
     (body_puts c g f h i j new u v w x y)))))
 
 -- ---- methods

@@ -56,7 +56,8 @@ abbrev pub slot_parts : ImageSlot → SlotParts
 slot_parts s = (s.name, (s.form, (s.place, (s.n, s.config))))
 
 abbrev pub slot_of : SlotParts → ImageSlot
-slot_of (name, (form, (place, (n, config)))) = record { name = name; form = form; place = place; n = n; config = config }
+slot_of (name, (form, (place, (n, config)))) =
+    record { name = name; form = form; place = place; n = n; config = config }
 
 unfoldable pub slot : Form ImageSlot
 slot = seen_as slot_of slot_parts (λ s. refl) (text & (slot_form & (u2 & (u2 & u1_to 1)))) (λ s bytes h. refl)
@@ -70,12 +71,14 @@ ClassBody = List ImageField × (List ImageSlot × (List ℕ × List ℕ))
 abbrev pub data_size : ClassBody → ℕ
 data_size (fields, (slots, (table, contents))) = length contents
 
-unfoldable pub class_body : ℕ → Form ClassBody
-class_body size = counted u2 field & (counted u1 slot & (counted u1 u2 & run size))
+-- the fields, slots, table and first contents of a class, whose data has so many bytes
+unfoldable pub body : ℕ → Form ClassBody
+body size = counted u2 field & (counted u1 slot & (counted u1 u2 & run size))
 
-pub class_size : (size : ℕ) (body : ClassBody) (bytes : List ℕ) → (class_body size).spells body bytes → data_size body ≡ size
-unfolding class_body
-class_size size body bytes h = h.3.3.3.as_many
+pub class_size : (size : ℕ) (parts : ClassBody) (bytes : List ℕ) → (body size).spells parts bytes
+    → data_size parts ≡ size
+unfolding body
+class_size size parts bytes h = h.3.3.3.as_many
 
 abbrev pub ClassParts : Type 0
 ClassParts = ℕ × (ℕ × (List ℕ × (ℕ × (ℕ × ClassBody))))
@@ -85,13 +88,25 @@ class_parts c = (c.kit, (c.number, (c.name, (c.base, (c.flags, (c.fields, (c.slo
 
 abbrev pub class_of : ClassParts → ImageClass
 class_of (kit, (number, (name, (base, (flags, (fields, (slots, (table, contents)))))))) =
-    record { kit = kit; number = number; name = name; base = base; flags = flags; fields = fields; slots = slots; table = table; contents = contents }
+    record {
+      kit = kit;
+      number = number;
+      name = name;
+      base = base;
+      flags = flags;
+      fields = fields;
+      slots = slots;
+      table = table;
+      contents = contents;
+    }
 
-unfoldable pub sized_body : Form ClassBody
-sized_body = sized data_size u2 class_body class_size
+-- what a class has behind its flags: its data size, and then these
+unfoldable pub behind : Form ClassBody
+behind = sized data_size u2 body class_size
 
 unfoldable pub class : Form ImageClass
-class = seen_as class_of class_parts (λ c. refl) (u1 & (u1 & (text & (u2 & (u1_to 3 & sized_body))))) (λ c bytes h. refl)
+class = seen_as class_of class_parts (λ c. refl) (u1 & (u1 & (text & (u2 & (u1_to 3 & behind)))))
+    (λ c bytes h. refl)
 
 -- ---- methods
 
@@ -107,14 +122,16 @@ kind =
 -- an entry of a method with so many locals, at this place or behind it
 unfoldable pub entry : ℕ → ℕ → Form ImageEntry
 entry locals least =
-    seen_as (λ e. record { place = e.0; locals = e.1.0; stack = e.1.1 }) (λ e. (e.place, (e.locals, e.stack))) (λ e. refl)
+    seen_as (λ e. record { place = e.0; locals = e.1.0; stack = e.1.1 })
+    (λ e. (e.place, (e.locals, e.stack))) (λ e. refl)
     (u2_from least & (times locals kind & counted u2 kind)) (λ e bytes h. refl)
 
 -- so many, whose places ascend
 unfoldable pub entries : ℕ → ℕ → Form (List ImageEntry)
 entries locals count = row (entry locals) (λ least e. e.place + 1) count 0
 
-pub length-entries : (locals count : ℕ) (all : List ImageEntry) (bytes : List ℕ) → (entries locals count).spells all bytes → length all ≡ count
+pub length-entries : (locals count : ℕ) (all : List ImageEntry) (bytes : List ℕ)
+    → (entries locals count).spells all bytes → length all ≡ count
 unfolding entries
 length-entries locals count all bytes h = length-row (entry locals) (λ least e. e.place + 1) count 0 all bytes h
 
@@ -133,7 +150,16 @@ method_parts m = (m.class, (m.flags, (m.params, (m.result, (m.locals, (m.stack, 
 
 abbrev pub method_of : MethodParts → ImageMethod
 method_of (class, (flags, (params, (result, (locals, (stack, (code, entries))))))) =
-    record { class = class; flags = flags; params = params; result = result; locals = locals; stack = stack; code = code; entries = entries }
+    record {
+      class = class;
+      flags = flags;
+      params = params;
+      result = result;
+      locals = locals;
+      stack = stack;
+      code = code;
+      entries = entries;
+    }
 
 unfoldable pub method : Form ImageMethod
 method =
@@ -151,7 +177,8 @@ block_size (fields, bytes) = length bytes
 unfoldable pub block : ℕ → Form Statics
 block size = counted u2 field & run size
 
-pub size-block : (size : ℕ) (statics : Statics) (bytes : List ℕ) → (block size).spells statics bytes → block_size statics ≡ size
+pub size-block : (size : ℕ) (statics : Statics) (bytes : List ℕ) → (block size).spells statics bytes
+    → block_size statics ≡ size
 unfolding block
 size-block size statics bytes h = h.3.as_many
 
@@ -172,19 +199,28 @@ unfoldable pub literal : Form (List ℕ)
 literal = counted_run u1
 
 abbrev pub ImageParts : Type 0
-ImageParts = Unit {0} × (Unit {0} × (List ImageKit × (List ImageClass × (Statics × (List (List ℕ) × (List ImageMethod × Unit {0}))))))
+ImageParts = Unit {0} × (Unit {0}
+    × (List ImageKit × (List ImageClass × (Statics × (List (List ℕ) × (List ImageMethod × Unit {0}))))))
 
 abbrev pub image_parts : Image → ImageParts
 image_parts i = (tt, (tt, (i.kits, (i.classes, ((i.static_fields, i.static_bytes), (i.texts, (i.methods, tt)))))))
 
 abbrev pub image_of : ImageParts → Image
 image_of (_, (_, (kits, (classes, (statics, (texts, (methods, _))))))) =
-    record { kits = kits; classes = classes; static_fields = statics.0; static_bytes = statics.1; texts = texts; methods = methods }
+    record {
+      kits = kits;
+      classes = classes;
+      static_fields = statics.0;
+      static_bytes = statics.1;
+      texts = texts;
+      methods = methods;
+    }
 
 unfoldable pub image : Form Image
 image =
     seen_as image_of image_parts (λ i. refl)
-    (head & (version & (counted u1 kit & (counted u2 class & (statics & (counted u2 literal & (counted u2 method & end))))))) (λ i bytes h. refl)
+    (head & (version & (counted u1 kit
+    & (counted u2 class & (statics & (counted u2 literal & (counted u2 method & end))))))) (λ i bytes h. refl)
 
 -- ---- what is an image, and where bytes are none
 

@@ -1,8 +1,8 @@
 -- What steps of the writer do, and what is made on the way.
 use Rattle.std.specs.Prelude.{◌≡◌, ℕ, List, ◌++◌, Result, Ok, Err}
 use Rattle.sed_wire.specs.Form.{Form}
-use Rattle.sed_wire.specs.declared.halt.Halt.{Halt}
-use Rattle.sed_wire.specs.declared.halt.Halt.TheVariants.{Fault, Memory}
+use Rattle.sed_value.specs.declared.halt.Halt.{Halt}
+use Rattle.sed_value.specs.declared.halt.Halt.TheVariants.{Fault, Memory}
 
 -- What a step of the writer does: whichever bytes spell the thing, they are put behind those that were there.
 abbrev pub Puts : {X : Type 0} → Form X → X → List ℕ → List ℕ → Type 0

@@ -91,7 +91,7 @@ impl Item for u16 {
 impl Item for ImageClass {
     ghost form = { grammar.class };
 
-    #[tactic(auto, unfolding(crate::specs::Grammar::class, crate::specs::Grammar::sized_body, crate::specs::Grammar::class_body))]
+    #[tactic(auto, unfolding(crate::specs::Grammar::class, crate::specs::Grammar::behind, crate::specs::Grammar::body))]
     fn read(alloc: Global, reader: &mut Reader) -> Result<ImageClass, Halt> {
         let kit = u1(reader)?;
         let number = u1(reader)?;

@@ -139,7 +139,8 @@ impl Item for ImageMethod {
 
 // An entry, of a method with whatever locals and at whatever place.
 fn put_entry(into: &mut Vec<u8>, entry: &ImageEntry) -> Result<(), Memory>
-    ensures { OnOk result ((locals least : ℕ) → Puts (grammar.entry locals least) entry.now into.old.items into.new.items) }
+    ensures { OnOk result ((locals least : ℕ)
+        → Puts (grammar.entry locals least) entry.now into.old.items into.new.items) }
 {
     put_u2(into, entry.place)?;
     put_all(into, entry.locals.as_slice())?;
@@ -148,7 +149,8 @@ fn put_entry(into: &mut Vec<u8>, entry: &ImageEntry) -> Result<(), Memory>
 
 #[tactic(auto, unfolding(crate::specs::Grammar::entries))]
 fn put_all_entries(into: &mut Vec<u8>, entries: &[ImageEntry]) -> Result<(), Memory>
-    ensures { OnOk result ((locals count : ℕ) → Puts (grammar.entries locals count) entries.now into.old.items into.new.items) }
+    ensures { OnOk result ((locals count : ℕ)
+        → Puts (grammar.entries locals count) entries.now into.old.items into.new.items) }
 {
     for entry in entries {
         put_entry(into, entry)?;
@@ -157,7 +159,8 @@ fn put_all_entries(into: &mut Vec<u8>, entries: &[ImageEntry]) -> Result<(), Mem
 }
 
 fn put_entries(into: &mut Vec<u8>, entries: &Items<ImageEntry>) -> Result<(), Memory>
-    ensures { OnOk result ((locals : ℕ) → Puts (grammar.counted_entries locals) entries.now into.old.items into.new.items) }
+    ensures { OnOk result ((locals : ℕ)
+        → Puts (grammar.counted_entries locals) entries.now into.old.items into.new.items) }
 {
     put_count(into, entries.len())?;
     put_all_entries(into, entries.as_slice())

@@ -12,8 +12,8 @@ use std::alloc::Global;
 /// Why no image is read.
 #[derive(Clone, Copy, Debug, PartialEq, Eq)]
 pub enum ImageRefusal {
-    /// The bytes are no image: the field that starts at this byte is the first that is cut or not allowed. Where an image
-    /// ends before the bytes do, it is the first byte behind it.
+    /// The bytes are no image: the field that starts at this byte is the first that is cut or not allowed. Where an
+    /// image ends before the bytes do, it is the first byte behind it.
     NotAnImage { at: usize },
     /// Memory was wanted and refused.
     Memory,

@@ -13,7 +13,7 @@ use Rattle.scode_mem.specs.declared.block.Block.{Block}
 use Rattle.scode_mem.specs.declared.block.Block.TheVariants.{Live, Statics}
 use Rattle.scode_mem.specs.Blocks.{HasBytes, Held, Kept, bytes_at, bytes_of, first_bytes, live_bytes, put_at, with_bytes, with_new, with_number, without}
 use Rattle.scode_mem.proofs.Bytes.{length-put_at, range_after, range_before, range_put}
-use Rattle.scode_mem.proofs.Maps.{get_beside, get_put, kept_beside, taken_out, total_over}
+use Rattle.sed_value.proofs.Maps.{get_beside, get_put, kept_beside, taken_out, total_over}
 
 apart_places : (p q : Place) → Live p ≢ Live q → p.0 ≢ q.0
 apart_places p q ne e = let same : Live p ≡ Live q = (λ i. Live (record { 0 = e i })) in ne same
@@ -116,7 +116,7 @@ module _ (h : Held) (b : Block) (at width number : ℕ) (has : HasBytes h b at w
           (sym (written_block h b at (bytes_high_first width number) ∙ ap (option_map (λ bytes. put_at bytes at (bytes_high_first width number))) is)) (omega arith)
 
 -- two blocks are one or not
-which_block : (a b : Block) → (a ≡ b) ⊎ (a ≢ b)
+pub which_block : (a b : Block) → (a ≡ b) ⊎ (a ≢ b)
 which_block Statics Statics = inl refl
 which_block Statics (Live q) = inr (λ e. cc)
 which_block (Live p) Statics = inr (λ e. cc)

@@ -1,39 +1,18 @@
 -- Finite maps that a function makes of a list of keys.
-use Rattle.std.proofs.Common.{◌≡◌, ◌≢◌, ℕ, zero, suc, ◌+◌, ◌<◌, List, [], ◌∷◌, ◌++◌, inl, inr, cond, true, false, get_or, map, length, refl, sym, ◌∙◌, ap, subst, arith}
+use Rattle.std.proofs.Common.{◌≡◌, ◌≢◌, ℕ, zero, suc, ◌+◌, ◌<◌, List, [], ◌∷◌, ◌++◌, inl, inr, cond, true, get_or, map, length, refl, sym, ◌∙◌, ap, subst, arith}
 use Rattle.std.specs.Prelude.{Some, None, is_some, sum_by, remove, All, AllPairs}
 use Rattle.std.specs.FinMap as finite
-use Rattle.std.specs.FinMap.{FinMap, find, put}
-use Rattle.std.specs.FinMap.Entries.{by_order}
-use Rattle.std.specs.declared.cmp.Ordering.{Ordering}
-use Rattle.std.specs.declared.cmp.Ordering.TheVariants.{Less, Equal, Greater}
-use Rattle.std.specs.Ordering.{nat_cmp, eq_by_cmp, is_eq}
+use Rattle.std.specs.FinMap.{FinMap}
+use Rattle.std.specs.Ordering.{nat_cmp, eq_by_cmp}
 use Rattle.std.specs.Cmp.{nat_cmp_total}
 use Rattle.std.proofs.lemmas.Bool.{cases_eq}
-use Rattle.std.proofs.lemmas.Bool.Decides.{nat_tests}
 use Rattle.std.proofs.lemmas.List.{map-append}
 use Rattle.std.proofs.lemmas.List.Elements.{All-head, All-tail}
 use Rattle.std.proofs.lemmas.List.Sums.{sum_by-cons}
-
-tied_same : (a : ℕ) → eq_by_cmp nat_cmp a a ≡ true
-tied_same a = grind (arith, nat_tests)
-
-tied_apart : (a b : ℕ) → a ≢ b → eq_by_cmp nat_cmp a b ≡ false
-tied_apart a b ne = grind (arith, nat_tests)
+use Rattle.sed_value.proofs.Maps.{get_put, get_beside, kept_beside, taken_out, total, total_more, total_none}
 
 module _ {V : Type 0} where
-  pub get_put : (m : FinMap nat_cmp V) (k : ℕ) (x : V) → finite.get (finite.insert m k x) k ≡ Some x
-  get_put m k x = finite.get-insert nat_cmp_total m k x k ∙ rw (tied_same k) refl
-
-  pub get_beside : (m : FinMap nat_cmp V) (k : ℕ) (x : V) (q : ℕ) → q ≢ k → finite.get (finite.insert m k x) q ≡ finite.get m q
-  get_beside m k x q ne = finite.get-insert nat_cmp_total m k x q ∙ rw (tied_apart q k ne) refl
-
-  pub taken_out : (m : FinMap nat_cmp V) (k : ℕ) → finite.get (finite.remove m k) k ≡ None
-  taken_out m k = finite.get-remove nat_cmp_total m k k ∙ rw (tied_same k) refl
-
-  pub kept_beside : (m : FinMap nat_cmp V) (k q : ℕ) → q ≢ k → finite.get (finite.remove m k) q ≡ finite.get m q
-  kept_beside m k q ne = finite.get-remove nat_cmp_total m k q ∙ rw (tied_apart q k ne) refl
-
-  same : (m n : FinMap nat_cmp V) → ((q : ℕ) → finite.get m q ≡ finite.get n q) → m ≡ n
+  pub same : (m n : FinMap nat_cmp V) → ((q : ℕ) → finite.get m q ≡ finite.get n q) → m ≡ n
   same m n is = finite.same_map nat_cmp_total finite.nat_cmp-IsAntisymmetric m n is
 
   -- what was put where nothing was, and is taken out
@@ -54,74 +33,6 @@ module _ {V : Type 0} where
         ∙ ap (cond (eq_by_cmp nat_cmp q j) None) (sym (get_beside m k x q ne))
         ∙ sym (finite.get-remove nat_cmp_total (finite.insert m k x) j q)
   ])
-
-  -- what is taken out and put back is put over what was there
-  put_back : (m : FinMap nat_cmp V) (k : ℕ) (x : V) → finite.insert (finite.remove m k) k x ≡ finite.insert m k x
-  put_back m k x = same _ _ (λ q. elim (cases_eq q k) [
-    | inl is ↦
-        ap (finite.get (finite.insert (finite.remove m k) k x)) is ∙ get_put (finite.remove m k) k x
-        ∙ sym (get_put m k x) ∙ ap (finite.get (finite.insert m k x)) (sym is)
-    | inr ne ↦
-        get_beside (finite.remove m k) k x q ne ∙ kept_beside m k q ne
-        ∙ sym (get_beside m k x q ne)
-  ])
-
-  -- to put what is there changes nothing
-  put_same : (m : FinMap nat_cmp V) (k : ℕ) (x : V) → finite.get m k ≡ Some x → finite.insert m k x ≡ m
-  put_same m k x e = same _ _ (λ q. elim (cases_eq q k) [
-    | inl is ↦ ap (finite.get (finite.insert m k x)) is ∙ get_put m k x ∙ sym e ∙ ap (finite.get m) (sym is)
-    | inr ne ↦ get_beside m k x q ne
-  ])
-
--- ---- sums over values
-
-module _ {V : Type 0} (f : V → ℕ) where
-  abbrev pub total : FinMap nat_cmp V → ℕ
-  total m = sum_by f (finite.values m)
-
-  sum_of : List (ℕ × V) → ℕ
-  sum_of es = sum_by f (map (λ (e : ℕ × V). e.1) es)
-
-  sum_next : (e : ℕ × V) (es : List (ℕ × V)) → sum_of (e ∷ es) ≡ f e.1 + sum_of es
-  unfolding sum_of
-  sum_next e es = sum_by-cons f e.1 (map (λ (e : ℕ × V). e.1) es)
-
-  sum_placed : (k : ℕ) (x : V) (e : ℕ × V) (es : List (ℕ × V)) (r : Ordering) → cond (is_eq r) (Some e.1) (find nat_cmp k es) ≡ None
-      → (find nat_cmp k es ≡ None → sum_of (put nat_cmp k x es) ≡ sum_of es + f x)
-      → sum_of (by_order r ((k, x) ∷ e ∷ es) ((e.0, x) ∷ es) (e ∷ put nat_cmp k x es)) ≡ sum_of (e ∷ es) + f x
-  sum_placed k x e es Less none rest = sum_next (k, x) (e ∷ es) ∙ omega arith
-  sum_placed k x e es Equal none rest = absurd (let never = ap is_some none in cc)
-  sum_placed k x e es Greater none rest =
-      let later = rest none in
-      let whole = sum_next e es in
-      sum_next e (put nat_cmp k x es) ∙ omega arith
-
-  sum_put : (k : ℕ) (x : V) (es : List (ℕ × V)) → find nat_cmp k es ≡ None → sum_of (put nat_cmp k x es) ≡ sum_of es + f x
-  sum_put k x [] none = sum_next (k, x) [] ∙ omega arith
-  sum_put k x (e ∷ es) none = sum_placed k x e es (nat_cmp k e.0) none (sum_put k x es)
-
-  no_entry : (es : List (ℕ × V)) → length es ≡ 0 → es ≡ []
-  no_entry [] e = refl
-  no_entry (x ∷ es) e = absurd (omega arith)
-
-  total_none : total finite.empty ≡ 0
-  total_none = ap (λ (es : List (ℕ × V)). sum_by f (map (λ (e : ℕ × V). e.1) es)) (no_entry (finite.entries (finite.empty {X = V} {R = nat_cmp})) (sym (finite.len-entries (finite.empty {X = V} {R = nat_cmp})) ∙ finite.len-empty nat_cmp V))
-
-  -- with one more
-  total_more : (m : FinMap nat_cmp V) (k : ℕ) (x : V) → finite.get m k ≡ None → total (finite.insert m k x) ≡ total m + f x
-  unfolding sum_of
-  total_more m k x none = ap sum_of (finite.entries-insert nat_cmp_total m k x) ∙ sum_put k x (finite.entries m) (sym (finite.get-entries m k) ∙ none)
-
-  -- with another in the place of one
-  pub total_over : (m : FinMap nat_cmp V) (k : ℕ) (x y : V) → finite.get m k ≡ Some x → f x ≡ f y → total (finite.insert m k y) ≡ total m
-  total_over m k x y some same =
-      let was : total (finite.insert (finite.remove m k) k x) ≡ total m = ap total (put_back m k x ∙ put_same m k x some) in
-      let with_x = total_more (finite.remove m k) k x (taken_out m k) in
-      let with_y = total_more (finite.remove m k) k y (taken_out m k) in
-      let is : total (finite.insert (finite.remove m k) k y) ≡ total (finite.insert m k y) = ap total (put_back m k y) in
-      omega arith
-
--- ---- maps of a list of keys
 
 pairs_tail : (x : ℕ) (xs : List ℕ) → AllPairs (λ a b. a ≢ b) (x ∷ xs) → AllPairs (λ a b. a ≢ b) xs
 pairs_tail x xs apart i j d lt within = apart (suc i) (suc j) d (omega arith) (omega arith)

@@ -1,6 +1,6 @@
 -- What a pool's value tells of its parts.
 use Rattle.std.proofs.Common.{◌≡◌, ℕ, ◌+◌, ◌-◌, ◌<◌, ◌≤◌, List, [], ◌∷◌, ◌++◌, get_or, set, take, length, refl, sym, ◌∙◌, ap, subst, arith}
-use Rattle.std.specs.Prelude.{Option, Some, None, Contains, IsSome, IfSome, IsSomeAnd, remove, vec_capacity}
+use Rattle.std.specs.Prelude.{Option, Some, None, Contains, IsSome, IfSome, IsSomeAnd, is_some, remove, vec_capacity}
 use Rattle.std.specs.Option.{option_map, option_map_or}
 use Rattle.std.specs.FinMap as finite
 use Rattle.std.proofs.lemmas.List.{get_or-take, get_or_default, get_or_read}
@@ -88,6 +88,20 @@ module _ (i : Inside) (is : Keeps i) (h : Held) (view : seen i ≡ h) where
       let x = place_of q there in
       let P : ℕ → Type 0 = λ q. class_at (parts_of i) q < length i.firsts.items in
       subst P x.2 (class_there (parts_of i) i.places.items (vec_capacity i.places) i.count i.used i.filled is x.0 x.1)
+
+  -- and it has as many bytes as that begins with
+  pub sized_told : (q : ℕ) → IfSome (finite.get h.live q) (λ k. (k.class < length h.firsts) × (length k.bytes ≡ length (first_bytes h k.class)))
+  sized_told q = by_block (finite.get h.live q) refl
+    where
+      by_block : (o : Option Kept) → finite.get h.live q ≡ o → IfSome o (λ k. (k.class < length h.firsts) × (length k.bytes ≡ length (first_bytes h k.class)))
+      by_block None e = tt
+      by_block (Some k) e =
+          let there : IsSome (finite.get h.live q) = ap is_some e in
+          subst (λ (o : Option Kept). IfSome o (λ k. (k.class < length h.firsts) × (length k.bytes ≡ length (first_bytes h k.class)))) (sym (block_of q there) ∙ e) (
+            subst (λ (all : List (List ℕ)). class_at (parts_of i) q < length all) (ap (λ (h : Held). h.firsts) view) (class_told q there),
+            length-kept (parts_of i) q (end_told q there)
+                ∙ ap (λ (h : Held). length (first_bytes h (class_at (parts_of i) q))) view,
+          )
 
   -- a live place is among the first
   pub among_live : (q : ℕ) → IsSome (finite.get h.live q) → Contains (take i.count i.places.items) q

@@ -1,6 +1,6 @@
 -- Blocks of bytes: one for each live object, and the static one. What each call of a pool does to them.
-use Rattle.std.specs.Prelude.{ℕ, ◌+◌, ◌≤◌, List, [], ◌++◌, length, take, drop, slice_index_or, sum_by}
-use Rattle.std.specs.Prelude.{Option, Some, IsSomeAnd}
+use Rattle.std.specs.Prelude.{ℕ, ◌≡◌, ◌+◌, ◌<◌, ◌≤◌, List, [], ◌++◌, length, take, drop, slice_index_or, sum_by}
+use Rattle.std.specs.Prelude.{Option, Some, IfSome, IsSomeAnd}
 use Rattle.std.specs.Option.{option_map, option_map_or}
 use Rattle.std.specs.FinMap as finite
 use Rattle.std.specs.FinMap.{FinMap}
@@ -32,6 +32,11 @@ live_bytes live = sum_by (λ b. length b.bytes) (finite.values live)
 
 abbrev pub first_bytes : Held → ℕ → List ℕ
 first_bytes h class = slice_index_or h.firsts class []
+
+-- each live block is of a class, and has as many bytes as its class begins with
+abbrev pub AreSized : Held → Type 0
+AreSized h = (place : ℕ) → IfSome (finite.get h.live place)
+    (λ k. (k.class < length h.firsts) × (length k.bytes ≡ length (first_bytes h k.class)))
 
 -- one block more, with the first bytes of its class
 abbrev pub with_new : Held → ℕ → ℕ → Held

@@ -11,9 +11,21 @@ pub fn number_at(bytes: &[u8], at: usize, width: usize) -> u64
     requires some { 1 ≤ width }
     requires most { width ≤ 8 }
     requires there { at + width ≤ length bytes.now }
-    ensures { result ≡ number_of (bytes_at bytes.now at width) }
+    ensures number { result ≡ number_of (bytes_at bytes.now at width) }
+    ensures fits { result < 256 ^ width }
 {
-    BigEndian::read_uint(&bytes[at..at + width], width)
+    number_in(&bytes[at..at + width], width)
+}
+
+// The number in all of 1 to 8 bytes.
+fn number_in(bytes: &[u8], width: usize) -> u64
+    requires some { 1 ≤ width }
+    requires most { width ≤ 8 }
+    requires all { length bytes.now ≡ width }
+    ensures number { result ≡ number_of bytes.now }
+    ensures fits { result < 256 ^ width }
+{
+    BigEndian::read_uint(bytes, width)
 }
 
 /// Puts a number into 1 to 8 bytes from a place on, the highest first. All other bytes stay.

@@ -3,7 +3,7 @@ ghost use Rattle.std.specs.Prelude.{◌≡◌, ◌↔◌, ◌<◌, ◌+◌, ◌�
 ghost use Rattle.std.specs.Prelude.{IfOk, IfSome, IsSome, OnErr};
 ghost use Rattle.std.specs.FinMap as finite;
 ghost use Rattle.sed_wire.specs.Number.{number_of};
-ghost use Rattle.scode_mem.specs.Blocks.{HasBytes, bytes_at, bytes_of, first_bytes, live_bytes};
+ghost use Rattle.scode_mem.specs.Blocks.{AreSized, HasBytes, bytes_at, bytes_of, first_bytes, live_bytes};
 ghost use Rattle.scode_mem.specs.Blocks.{with_new, with_number, without};
 
 use crate::block::Block;
@@ -73,11 +73,12 @@ impl Pool {
         })
     }
 
-    /// One block more, with the first bytes of its class, at a place that was not live. `DataFull` comes exactly where
-    /// the live blocks and it have more bytes than the limit, and changes nothing. No memory is wanted.
+    /// One block more, with the first bytes of its class, at a place below 4,096 that was not live. `DataFull` comes
+    /// exactly where the live blocks and it have more bytes than the limit, and changes nothing. No memory is wanted.
     pub fn add(&mut self, t: TypeNo) -> Result<Place, AddRefusal>
         requires class { t.0 < length self.old.firsts }
         requires few { finite.len self.old.live < 4096 }
+        ensures place { IfOk result (λ p. p.0 < 4096) }
         ensures fresh { IfOk result (λ p. finite.get self.old.live p.0 ≡ None) }
         ensures added { IfOk result (λ p. self.new ≡ with_new self.old p.0 t.0) }
         ensures refused { OnErr result (self.new ≡ self.old) }
@@ -118,6 +119,13 @@ impl Pool {
         self.filled -= size;
     }
 
+    /// Each live block is of a class, and has as many bytes as its class begins with. This does nothing.
+    pub fn blocks_are_sized(&self)
+        ensures { AreSized self.now }
+    {
+        let _ = &self.count;
+    }
+
     /// The class of a live block.
     pub fn kind(&self, p: Place) -> TypeNo
         requires { IsSome (finite.get self.now.live p.0) }
@@ -131,7 +139,8 @@ impl Pool {
         requires some { 1 ≤ width }
         requires most { width ≤ 8 }
         requires there { HasBytes self.now b at width }
-        ensures { IfSome (bytes_of self.now b) (λ bytes. result ≡ number_of (bytes_at bytes at width)) }
+        ensures number { IfSome (bytes_of self.now b) (λ bytes. result ≡ number_of (bytes_at bytes at width)) }
+        ensures fits { result < 256 ^ width }
     {
         match b {
             Block::Live(p) => {

@@ -5,10 +5,9 @@ ghost use Rattle.scode_mem.specs.Kept.{ArePlaces};
 
 use crate::entry::Entry;
 use scode_image::Image;
+use sed_value::limits::MOST_COMPONENTS;
 use sed_value::{Items, Memory};
 use std::alloc::Global;
-
-const PLACES: usize = 4096;
 
 /// The first bytes of each class of an image.
 pub fn first_bytes(alloc: Global, image: &Image) -> Result<Vec<Items<u8>>, Memory>
@@ -35,8 +34,8 @@ pub fn all_places(alloc: Global) -> Result<Vec<u16>, Memory>
     ensures places { IfOk result (λ v. ArePlaces v.items) }
     ensures room { IfOk result (λ v. 4096 ≤ vec_capacity v) }
 {
-    let mut places = Vec::with_capacity(alloc, PLACES)?;
-    for place in 0..PLACES {
+    let mut places = Vec::with_capacity(alloc, MOST_COMPONENTS)?;
+    for place in 0..MOST_COMPONENTS {
         places.push_reserved(place as u16);
     }
     Ok(places)
@@ -48,7 +47,7 @@ pub fn empty_directory(alloc: Global) -> Result<Vec<Entry>, Memory>
 {
     let mut directory = Vec::new(alloc);
     directory.resize(
-        PLACES,
+        MOST_COMPONENTS,
         Entry {
             offset: 0,
             class: 0,

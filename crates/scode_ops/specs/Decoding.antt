@@ -2,7 +2,20 @@
 use Rattle.std.specs.Prelude.{ℕ, ◌==◌, ◌&&◌, List, [], ◌∷◌, ◌++◌, length, drop, Option, None, find}
 use Rattle.std.specs.Int.{from_be_bytes, cast_signed, w16, w32, w64}
 use Rattle.scode_ops.specs.declared.op.Op.{Op}
-use Rattle.scode_ops.specs.declared.op.Op.TheVariants.{Int, Long, Bool as Truth, Null, Text, Statics, Load, Store, Dup, Pop, IntAdd, IntSub, IntMul, IntDiv, IntRem, IntAnd, IntOr, IntXor, IntShl, IntShr, IntNeg, IntNot, LongAdd, LongSub, LongMul, LongDiv, LongRem, LongAnd, LongOr, LongXor, LongShl, LongShr, LongNeg, LongNot, IntEq, IntNe, IntLt, IntLe, IntGt, IntGe, LongEq, LongNe, LongLt, LongLe, LongGt, LongGe, BoolEq, BoolNe, RefEq, RefNe, IntToLong, LongToInt, Not, IntToByte, IntToShort, Jump, JumpFalse, JumpTrue, Turn, GetBool, GetByte, GetShort, GetInt, GetLong, PutBool, PutByte, PutShort, PutInt, PutLong, Inner, Str, BufSize, BufGet, ArrayGetBool, ArrayGetByte, ArrayGetShort, ArrayGetInt, ArrayGetLong, ArrayPutBool, ArrayPutByte, ArrayPutShort, ArrayPutInt, ArrayPutLong, Call, VirtualCall, Return, ReturnValue, Ticks, StrLen, StrGet, StrSet, StrEq, StrCopy}
+use Rattle.scode_ops.specs.declared.op.Op.TheVariants.{Int, Long, Bool as Truth, Null, Text, Statics, Load, Store, Dup}
+use Rattle.scode_ops.specs.declared.op.Op.TheVariants.{Pop, IntAdd, IntSub, IntMul, IntDiv, IntRem, IntAnd, IntOr}
+use Rattle.scode_ops.specs.declared.op.Op.TheVariants.{IntXor, IntShl, IntShr, IntNeg, IntNot, LongAdd, LongSub}
+use Rattle.scode_ops.specs.declared.op.Op.TheVariants.{LongMul, LongDiv, LongRem, LongAnd, LongOr, LongXor, LongShl}
+use Rattle.scode_ops.specs.declared.op.Op.TheVariants.{LongShr, LongNeg, LongNot, IntEq, IntNe, IntLt, IntLe, IntGt}
+use Rattle.scode_ops.specs.declared.op.Op.TheVariants.{IntGe, LongEq, LongNe, LongLt, LongLe, LongGt, LongGe, BoolEq}
+use Rattle.scode_ops.specs.declared.op.Op.TheVariants.{BoolNe, RefEq, RefNe, IntToLong, LongToInt, Not, IntToByte}
+use Rattle.scode_ops.specs.declared.op.Op.TheVariants.{IntToShort, Jump, JumpFalse, JumpTrue, Turn, GetBool, GetByte}
+use Rattle.scode_ops.specs.declared.op.Op.TheVariants.{GetShort, GetInt, GetLong, PutBool, PutByte, PutShort, PutInt}
+use Rattle.scode_ops.specs.declared.op.Op.TheVariants.{PutLong, Inner, Str, BufSize, BufGet, ArrayGetBool, ArrayGetByte}
+use Rattle.scode_ops.specs.declared.op.Op.TheVariants.{ArrayGetShort, ArrayGetInt, ArrayGetLong, ArrayPutBool}
+use Rattle.scode_ops.specs.declared.op.Op.TheVariants.{ArrayPutByte, ArrayPutShort, ArrayPutInt, ArrayPutLong, Call}
+use Rattle.scode_ops.specs.declared.op.Op.TheVariants.{VirtualCall, Return, ReturnValue, Ticks, StrLen, StrGet, StrSet}
+use Rattle.scode_ops.specs.declared.op.Op.TheVariants.{StrEq, StrCopy}
 use Rattle.scode_ops.specs.Codes.{number_of, is_spelled, code_of}
 
 -- ---- all instructions, by the widths of their operands

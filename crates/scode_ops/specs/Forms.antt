@@ -1,4 +1,5 @@
--- Which operands the instruction of a number has: the code's own reading, for its private clauses. No public clause rests on it.
+-- Which operands the instruction of a number has: the code's own reading, for its private clauses. No public clause
+-- rests on it.
 use Rattle.std.specs.Prelude.{ℕ, Bool, ◌||◌, ◌==◌, if◌then◌else◌, Option, Some, None}
 use Rattle.sed_value.specs.Characters.{is_between}
 use Rattle.scode_ops.specs.declared.operands.Form.{Form}
@@ -16,7 +17,8 @@ abbrev pub is_u1 : ℕ → Bool
 is_u1 number = (number == 0x03) || is_between 0x07 0x08 number
 
 abbrev pub is_u2 : ℕ → Bool
-is_u2 number = (number == 0x05) || is_between 0x48 0x4a number || is_between 0x50 0x59 number || (number == 0x5c) || (number == 0x70)
+is_u2 number = (number == 0x05) || is_between 0x48 0x4a number || is_between 0x50 0x59 number
+    || (number == 0x5c) || (number == 0x70)
 
 abbrev pub is_u2u1 : ℕ → Bool
 is_u2u1 number = (number == 0x71)

@@ -1,4 +1,5 @@
--- The operands of a form with which bytes begin: the code's own reading, for its private clauses. No public clause rests on it.
+-- The operands of a form with which bytes begin: the code's own reading, for its private clauses. No public clause
+-- rests on it.
 use Rattle.std.specs.Prelude.{ℕ, nat_le, if◌then◌else◌, List, [], ◌∷◌, length, slice_index, Option, Some, None}
 use Rattle.std.specs.Int.{from_be_bytes, cast_signed, w16, w32, w64}
 use Rattle.scode_ops.specs.declared.operands.Form.{Form}

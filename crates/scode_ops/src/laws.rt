@@ -16,7 +16,8 @@ pub fn one_instruction_stands()
     ensures { (bytes : List ℕ) (at : ℕ) (op other : Op) → StandsAt bytes at op → StandsAt bytes at other → op ≡ other }
 {}
 
-/// The instruction that is found among all by its number is the one that stands at the place, and each that stands is found.
+/// The instruction that is found among all by its number is the one that stands at the place, and each that stands is
+/// found.
 pub fn instructions_are_found()
     ensures found { (bytes : List ℕ) (at : ℕ) (op : Op) → StandsAt bytes at op → op_at bytes at ≡ Some op }
     ensures stands { (bytes : List ℕ) (at : ℕ) (op : Op) → ((i : ℕ) → slice_index bytes i < 256)

@@ -1,7 +1,7 @@
 //! Instructions.
 
-/// An instruction, with its operands as fields. Beside each stand its number, its name in the table of instructions, and
-/// what it is about.
+/// An instruction, with its operands as fields. Beside each stand its number, its name in the table of instructions,
+/// and what it is about.
 #[derive(Clone, Copy, Debug, PartialEq, Eq)]
 pub enum Op {
     // Constants, locals and the stack.

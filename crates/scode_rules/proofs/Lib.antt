@@ -5,3 +5,6 @@ pub mod Turned
 pub mod Stacks
 pub mod Tabled
 pub mod Decoded
+pub mod Kept
+pub mod Above
+pub mod Found

@@ -137,3 +137,5 @@ pub meets_on_at : (image : Image) (params ks : List ImageKind) (d : ℕ) (e : Im
 meets_on_at image params ks d e within holds =
     meets_on image params ks d (get_or params (length params - 1 - d) e) within
     (get_or_default params (length params - 1 - d) e (get_or params (length params - 1 - d) e) (omega arith)) holds
+
+pub ruleset each_meets = (one_meets, two_meet, three_meet)

@@ -1,10 +1,12 @@
 -- What the values of this crate stand for, and names for parts of the rules' definitions.
-use Rattle.std.specs.Prelude.{ℕ, Bool, false, not, true, List, [], ◌∷◌, ◌++◌, drop, reverse, slice_get, take, Option, Some, None}
+use Rattle.std.specs.Prelude.{◌≡◌, ◌==◌, ℕ, Bool, false, not, true, List, [], ◌∷◌, ◌++◌, drop, reverse, slice_get, take}
+use Rattle.std.specs.Prelude.{slice_index_or, Option, Some, None}
+use Rattle.std.specs.List.{list_any}
 use Rattle.std.specs.Option.{option_map_or}
 use Rattle.scode_image.specs.declared.image.Image.{Image}
 use Rattle.scode_image.specs.declared.image.ImageKind.{ImageKind}
 use Rattle.scode_image.specs.declared.image.ImageMethod.{ImageMethod}
-use Rattle.scode_code.specs.Kinds.{Shape, goes_to}
+use Rattle.scode_code.specs.Kinds.{Shape, goes_to, is_at_or_above}
 use Rattle.scode_code.specs.CodeRules.{field_missing, is_abstract, lacks_field}
 use Rattle.scode_ops.specs.declared.op.Op.{Op}
 use Rattle.scode_ops.specs.declared.op.Op.TheVariants as op
@@ -16,6 +18,21 @@ use Rattle.scode_code.specs.declared.needs.Puts.TheVariants as puts
 use Rattle.scode_code.specs.declared.needs.Takes.{Takes}
 use Rattle.scode_code.specs.declared.needs.Takes.TheVariants as takes
 use Rattle.scode_rules.specs.declared.fields.FieldNeed.{FieldNeed}
+
+-- ---- classes
+
+-- of a class, for each other one, whether that is it or above it; where it is not told nothing is said
+abbrev pub IsAbove : Image → ℕ → List Bool → Type 0
+IsAbove image class row =
+    (above : ℕ) → slice_index_or row above false ≡ true → is_at_or_above image above class ≡ true
+
+abbrev pub AreAbove : Image → List (List Bool) → Type 0
+AreAbove image rows = (class : ℕ) (row : List Bool) → slice_get rows class ≡ Some row → IsAbove image class row
+
+abbrev pub is_told : List (List Bool) → ℕ → ℕ → Bool
+is_told rows class above = option_map_or (λ row. slice_index_or row above false) (slice_get rows class) false
+
+-- ---- kinds
 
 abbrev pub goes_along : Image → ImageKind × ImageKind → Bool
 goes_along image pair = goes_to image pair.0 pair.1
@@ -59,6 +76,17 @@ meets_at image n None = true
 meets_at image n (Some k) = wants.meets image n k
 
 -- ---- what is left
+
+-- the local that an instruction gives a kind
+abbrev pub stored : Op → List ℕ
+stored (op.Store i) = i ∷ []
+stored other = []
+
+-- but for these places, what a row has stood there before
+abbrev pub IsKeptBut : List ℕ → List ImageKind → List ImageKind → Type 0
+IsKeptBut places before after =
+    (p : ℕ) (k : ImageKind) → list_any (λ q. q == p) places ≡ false → slice_get after p ≡ Some k
+    → slice_get before p ≡ Some k
 
 -- only a cell that is taken alone is put twice
 abbrev pub is_ordinary : Effect → Bool

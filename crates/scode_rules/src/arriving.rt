@@ -5,13 +5,14 @@ ghost use Rattle.scode_code.specs.CodeRules as rules;
 ghost use Rattle.scode_code.specs.Kinds as kinds;
 ghost use Rattle.scode_rules.specs.Words as words;
 
+use crate::indexed::Indexed;
 use crate::kinds::all_go;
-use scode_image::{Image, ImageEntry, ImageKind};
+use scode_image::{ImageEntry, ImageKind};
 
 /// Whether kinds go to those of an entry.
 #[tactic(auto, using(crate::proofs::Turned::all_go_turned))]
 pub fn goes_to_entry(
-    image: &Image,
+    image: &Indexed<'_>,
     locals: &[ImageKind],
     stack: &[ImageKind],
     entry: &ImageEntry,

@@ -4,8 +4,9 @@ ghost use Rattle.std.specs.List.{list_all, zip};
 ghost use Rattle.scode_code.specs.Kinds as kinds;
 ghost use Rattle.scode_rules.specs.Words as words;
 
-use scode_image::{Image, ImageKind};
-use scode_tables::{is_at_or_above, is_same_kind};
+use crate::indexed::Indexed;
+use scode_image::ImageKind;
+use scode_tables::is_same_kind;
 
 // The class of the static block.
 const STATIC_BLOCK: u16 = 0xffff;
@@ -56,19 +57,17 @@ pub(crate) fn is_statics(kind: ImageKind) -> bool
     is_object(kind) && kind.class == STATIC_BLOCK
 }
 
-/// Whether a cell of one kind may stand where another is needed: each kind goes to itself, null to Strs and objects, and
-/// an object's class to those above it.
-pub fn goes_to(image: &Image, kind: ImageKind, to: ImageKind) -> bool
+/// Whether a cell of one kind may stand where another is needed: each kind goes to itself, null to Strs and objects,
+/// and an object's class to those above it.
+pub fn goes_to(image: &Indexed<'_>, kind: ImageKind, to: ImageKind) -> bool
     ensures { result ≡ kinds.goes_to image.now kind to }
 {
     is_same_kind(kind, to)
         || is_null(kind) && (is_str(to) || is_object(to) && !is_statics(to))
-        || is_object(kind)
-            && is_object(to)
-            && is_at_or_above(image, usize::from(to.class), usize::from(kind.class))
+        || is_object(kind) && is_object(to) && image.is_at_or_above(to.class, kind.class)
 }
 
-fn go_along(image: &Image, row: &[ImageKind], to: &[ImageKind]) -> bool
+fn go_along(image: &Indexed<'_>, row: &[ImageKind], to: &[ImageKind]) -> bool
     ensures { result ≡ list_all (words.goes_along image.now) (zip row.now to.now) }
 {
     row.iter()
@@ -78,7 +77,7 @@ fn go_along(image: &Image, row: &[ImageKind], to: &[ImageKind]) -> bool
 
 /// Whether a row of kinds goes to another one, as long as it, one by one.
 #[tactic(auto, using(crate::proofs::Rows::all_go_along))]
-pub fn all_go(image: &Image, row: &[ImageKind], to: &[ImageKind]) -> bool
+pub fn all_go(image: &Indexed<'_>, row: &[ImageKind], to: &[ImageKind]) -> bool
     ensures { result ≡ kinds.all_go image.now row.now to.now }
 {
     row.len() == to.len() && go_along(image, row, to)

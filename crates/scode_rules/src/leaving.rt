@@ -1,5 +1,5 @@
 //! What an instruction leaves.
-ghost use Rattle.std.specs.Prelude.{◌≡◌, ◌≤◌, ◌∷◌, ◌++◌, drop, length, OnOk, reverse, true};
+ghost use Rattle.std.specs.Prelude.{◌≡◌, ◌≤◌, ◌-◌, [], ◌∷◌, ◌++◌, drop, length, OnOk, reverse, true};
 ghost use Rattle.scode_code.specs.CodeRules as rules;
 ghost use Rattle.scode_code.specs.Wants as wants;
 ghost use Rattle.scode_rules.specs.Words as words;
@@ -95,15 +95,22 @@ fn store(locals: &mut Vec<ImageKind>, stack: &[ImageKind], op: Op)
 
 /// Turns the kinds at a place into those that an instruction there leaves, whose cells are on the stack.
 ///
-/// Where memory is wanted, the kinds are lost.
+/// Of locals it changes one that is stored, and of cells that stay at most the top. Where memory is wanted, the kinds
+/// are lost.
+#[tactic(auto, using(crate::proofs::Kept::left_locals, crate::proofs::Kept::stack_kept))]
 pub fn leave(
     image: &Image,
     locals: &mut Vec<ImageKind>,
     stack: &mut Vec<ImageKind>,
     op: Op,
 ) -> Result<(), Memory>
-    requires { length (wants.needs image.now (words.shape locals.old.items stack.old.items) op) ≤ length stack.old.items }
-    ensures { OnOk result (words.shape locals.new.items stack.new.items ≡ rules.after image.now (words.shape locals.old.items stack.old.items) op) }
+    requires { length (wants.needs image.now (words.shape locals.old.items stack.old.items) op)
+        ≤ length stack.old.items }
+    ensures left { OnOk result (words.shape locals.new.items stack.new.items
+        ≡ rules.after image.now (words.shape locals.old.items stack.old.items) op) }
+    ensures locals { OnOk result (words.IsKeptBut (words.stored op) locals.old.items locals.new.items) }
+    ensures stack { OnOk result
+        (words.IsKeptBut ((length stack.new.items - 1) ∷ []) stack.old.items stack.new.items) }
 {
     let effect = effect_of(image, locals.as_slice(), op);
     store(locals, stack.as_slice(), op);

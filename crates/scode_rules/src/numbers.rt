@@ -5,6 +5,7 @@ ghost use Rattle.scode_code.specs.CodeRules as rules;
 ghost use Rattle.scode_rules.specs.Words as words;
 
 use crate::cells::cell_at;
+use crate::indexed::Indexed;
 use crate::kinds::goes_to;
 use scode_image::{Image, ImageKind, ImageMethod};
 use scode_ops::Op;
@@ -36,7 +37,7 @@ pub fn number_missing(image: &Image, method: &ImageMethod, op: Op) -> bool
 }
 
 // Whether the top does not go to a kind; of an empty stack nothing is said.
-fn top_differs(image: &Image, stack: &[ImageKind], kind: ImageKind) -> bool
+fn top_differs(image: &Indexed<'_>, stack: &[ImageKind], kind: ImageKind) -> bool
     ensures { result ≡ words.top_differs image.now (reverse stack.now) kind }
 {
     match cell_at(stack, 0) {
@@ -46,8 +47,15 @@ fn top_differs(image: &Image, stack: &[ImageKind], kind: ImageKind) -> bool
 }
 
 /// Whether an instruction ends the method otherwise than its result says.
-pub fn result_differs(image: &Image, method: &ImageMethod, stack: &[ImageKind], op: Op) -> bool
-    ensures { (locals : List AnyKind) → result ≡ rules.result_differs image.now method.now (record { locals = locals; stack = reverse stack.now }) op }
+pub fn result_differs(
+    image: &Indexed<'_>,
+    method: &ImageMethod,
+    stack: &[ImageKind],
+    op: Op,
+) -> bool
+    ensures { (locals : List AnyKind)
+        → result ≡ rules.result_differs image.now method.now
+        (record { locals = locals; stack = reverse stack.now }) op }
 {
     match op {
         Op::Return => method.result.kind != 0,

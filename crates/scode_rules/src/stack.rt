@@ -10,6 +10,7 @@ ghost use Rattle.scode_code.specs.declared.needs.Puts.TheVariants as kinds_put;
 
 use crate::cells::cell_at;
 use crate::effects::effect_of;
+use crate::indexed::Indexed;
 use crate::kinds::{goes_to, is_null, is_object, is_str, object};
 use scode_code::{Effect, Need, Puts, Takes};
 use scode_image::{Image, ImageKind, ImageMethod};
@@ -53,7 +54,8 @@ pub(crate) fn takes_count(image: &Image, takes: Takes) -> usize
 }
 
 fn answer_count(image: &Image, method: u16) -> usize
-    ensures count { (taken : List AnyKind) → result ≡ length (wants.cells_of image.now (kinds_put.Answer method) taken) }
+    ensures count { (taken : List AnyKind)
+        → result ≡ length (wants.cells_of image.now (kinds_put.Answer method) taken) }
     ensures most { result ≤ 1 }
 {
     match method_at(image, method) {
@@ -65,7 +67,8 @@ fn answer_count(image: &Image, method: u16) -> usize
 // How many cells are put for so many that are taken.
 fn puts_count(image: &Image, puts: Puts, taken: usize) -> usize
     requires { taken ≤ 9223372036854775807 }
-    ensures count { (cells : List AnyKind) → length cells ≡ taken → result ≡ length (wants.cells_of image.now puts cells) }
+    ensures count { (cells : List AnyKind) → length cells ≡ taken
+        → result ≡ length (wants.cells_of image.now puts cells) }
     ensures most { result ≤ taken + taken + 1 }
 {
     match puts {
@@ -97,7 +100,7 @@ pub fn stack_breaks(
 
 // ---- of which kinds
 
-fn meets(image: &Image, need: Need, kind: ImageKind) -> bool
+fn meets(image: &Indexed<'_>, need: Need, kind: ImageKind) -> bool
     ensures { result ≡ wants.meets image.now need kind }
 {
     match need {
@@ -109,7 +112,7 @@ fn meets(image: &Image, need: Need, kind: ImageKind) -> bool
 }
 
 // Whether the cell so deep is what is needed; of one that is not there nothing is said.
-fn meets_at(image: &Image, stack: &[ImageKind], depth: usize, need: Need) -> bool
+fn meets_at(image: &Indexed<'_>, stack: &[ImageKind], depth: usize, need: Need) -> bool
     ensures { result ≡ words.meets_at image.now need (slice_get (reverse stack.now) depth) }
 {
     match cell_at(stack, depth) {
@@ -119,7 +122,7 @@ fn meets_at(image: &Image, stack: &[ImageKind], depth: usize, need: Need) -> boo
 }
 
 // Whether the cells are what the parameters of a method need, the last on top.
-fn params_meet(image: &Image, stack: &[ImageKind], params: &[ImageKind]) -> bool
+fn params_meet(image: &Indexed<'_>, stack: &[ImageKind], params: &[ImageKind]) -> bool
     ensures { result ≡ rules.all_meet image.now (map kinds_need.Goes (reverse params.now)) (reverse stack.now) }
 {
     for depth in 0..params.len() {
@@ -132,7 +135,12 @@ fn params_meet(image: &Image, stack: &[ImageKind], params: &[ImageKind]) -> bool
 }
 
 #[tactic(auto, using(crate::proofs::Meeting::arguments_with, crate::proofs::Meeting::arguments_without))]
-fn arguments_meet(image: &Image, stack: &[ImageKind], method: &ImageMethod, class: u16) -> bool
+fn arguments_meet(
+    image: &Indexed<'_>,
+    stack: &[ImageKind],
+    method: &ImageMethod,
+    class: u16,
+) -> bool
     ensures { result ≡ rules.all_meet image.now (wants.argument_needs class method.now) (reverse stack.now) }
 {
     let params = method.params.as_slice();
@@ -143,17 +151,18 @@ fn arguments_meet(image: &Image, stack: &[ImageKind], method: &ImageMethod, clas
         && meets_at(image, stack, params.len(), Need::Goes(object(class)))
 }
 
-fn call_meets(image: &Image, stack: &[ImageKind], method: u16, class: u16) -> bool
-    ensures { result ≡ rules.all_meet image.now (words.arguments_of class (slice_get image.now.methods method)) (reverse stack.now) }
+fn call_meets(image: &Indexed<'_>, stack: &[ImageKind], method: u16, class: u16) -> bool
+    ensures { result ≡ rules.all_meet image.now (words.arguments_of class (slice_get image.now.methods method))
+        (reverse stack.now) }
 {
-    match method_at(image, method) {
+    match method_at(image.image(), method) {
         Some(found) => arguments_meet(image, stack, found, class),
         None => true,
     }
 }
 
-#[tactic(auto, using(crate::proofs::Meeting::one_meets, crate::proofs::Meeting::two_meet, crate::proofs::Meeting::three_meet))]
-fn all_meet(image: &Image, takes: Takes, stack: &[ImageKind]) -> bool
+#[tactic(auto, using(crate::proofs::Meeting::each_meets))]
+fn all_meet(image: &Indexed<'_>, takes: Takes, stack: &[ImageKind]) -> bool
     ensures { result ≡ rules.all_meet image.now (wants.needs_of image.now takes) (reverse stack.now) }
 {
     match takes {
@@ -172,9 +181,9 @@ fn all_meet(image: &Image, takes: Takes, stack: &[ImageKind]) -> bool
 }
 
 /// Whether a cell that an instruction takes has a kind that does not go to the one needed.
-pub fn kind_differs(image: &Image, locals: &[ImageKind], stack: &[ImageKind], op: Op) -> bool
+pub fn kind_differs(image: &Indexed<'_>, locals: &[ImageKind], stack: &[ImageKind], op: Op) -> bool
     ensures { result ≡ rules.kind_differs image.now (words.shape locals.now stack.now) op }
 {
-    let effect = effect_of(image, locals, op);
+    let effect = effect_of(image.image(), locals, op);
     !all_meet(image, effect.takes, stack)
 }

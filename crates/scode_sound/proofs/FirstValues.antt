@@ -2,7 +2,6 @@
 use Rattle.std.proofs.Common.{◌≡◌, ◌<◌, ◌+◌, ◌*◌, ◌-◌, ◌==◌, ◌||◌, not, nat_le, nat_lt, ℕ, zero, suc, Bool, true, false, if◌then◌else◌, List, [], ◌∷◌, ◌++◌, length, map, drop, Some, None, refl, sym, ap, subst, ◌∙◌, append_assoc, append-nil, arith}
 use Rattle.std.specs.Prelude.{slice_get}
 use Rattle.std.specs.List.{flat_map, enumerate_from, range_with_len}
-use Rattle.std.specs.Str.{bytes_eq}
 use Rattle.std.proofs.lemmas.Bool.{ltb-true}
 use Rattle.std.proofs.lemmas.Option.{slice_get_within}
 use Rattle.std.proofs.lemmas.Slice.Eq.{bytes_eq-Decides}
@@ -14,7 +13,7 @@ use Rattle.sed_typed.specs.declared.program.FieldForm.TheVariants as form
 use Rattle.sed_typed.specs.Contents.{Contents, Path, Shape}
 use Rattle.sed_engine.specs.Fits.{form_at, form_below, form_of as form_in}
 use Rattle.sed_engine.specs.Values.{Component, Statics}
-use Rattle.sed_engine.proofs.FirstPaths.{IsLeaf, has}
+use Rattle.sed_engine.proofs.FirstPaths.{IsLeaf, has, has_back, has_front}
 use Rattle.scode_image.specs.declared.image.Image.{Image}
 use Rattle.scode_image.specs.declared.image.ImageField.{ImageField}
 use Rattle.scode_code.specs.Contents.{buf_at, bytes_at, class_bytes, field_held, initial, initial_statics, object_held, primitive_at}
@@ -22,28 +21,11 @@ use Rattle.scode_code.specs.Fields.{Setting}
 use Rattle.scode_code.specs.TableRules as rule
 use Rattle.scode_code.specs.Tables.{class_fields, form_of, primitive_of, shape_of}
 use Rattle.scode_whole.proofs.SlotFields.{form_prim, form_str, form_buf}
-use Rattle.scode_whole.proofs.Truths.{no_truth, no_value, passes, same_value}
+use Rattle.scode_whole.proofs.Truths.{no_value, passes, same_value}
 use Rattle.scode_sound.specs.Cells.{Concrete, form_from, shapes_of}
 use Rattle.scode_sound.proofs.Rules.{Tables, form_object, form_array, statics_rule}
 use Rattle.scode_sound.proofs.Nesting.{Nested, all_nested}
 use Rattle.scode_sound.proofs.Booleans.{second}
-
-has_front : (a b : Contents) (path : Path) → has a path ≡ true → has (a ++ b) path ≡ true
-has_front [] b path h = no_truth h
-has_front (e ∷ es) b path h = go (bytes_eq e.0 path) (has_front es b path) h
-  where
-    go : (x : Bool) → (has es path ≡ true → has (es ++ b) path ≡ true) → (x || has es path) ≡ true
-        → (x || has (es ++ b) path) ≡ true
-    go true later h = refl
-    go false later h = later h
-
-has_back : (a b : Contents) (path : Path) → has b path ≡ true → has (a ++ b) path ≡ true
-has_back [] b path h = h
-has_back (e ∷ es) b path h = go (bytes_eq e.0 path) (has_back es b path h)
-  where
-    go : (x : Bool) → has (es ++ b) path ≡ true → (x || has (es ++ b) path) ≡ true
-    go true h = refl
-    go false h = h
 
 one_has : (a path : Path) (v : Value) → a ≡ path → has ((a, v) ∷ []) path ≡ true
 one_has a path v e = ap (λ (b : Bool). b || false) ((bytes_eq-Decides a path).1 e)

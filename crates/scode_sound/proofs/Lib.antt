@@ -9,7 +9,6 @@ pub mod FirstValues
 pub mod Keeping
 pub mod Plain
 pub mod Stacks
-pub mod Characters
 pub mod Objects
 pub mod Strs
 pub mod Straight

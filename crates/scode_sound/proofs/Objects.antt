@@ -42,7 +42,7 @@ use Rattle.scode_sound.specs.Cells.{Block, Concrete, HasKind, LeadsTo, Object, T
 use Rattle.scode_sound.proofs.Rules.{Tables}
 use Rattle.scode_sound.proofs.Cells.{an_object, classes_of, goes}
 use Rattle.scode_sound.proofs.Spots.{form_at_is, form_further, class_further, form_in_object, static_form, static_class, good}
-use Rattle.scode_sound.proofs.Characters.{byte_at}
+use Rattle.sed_engine.proofs.StrBytes.{byte_at}
 use Rattle.scode_sound.proofs.Members.{fields_grow}
 use Rattle.scode_sound.proofs.Keeping.{Now, load_holds, store_holds, read_buf_holds}
 use Rattle.scode_sound.proofs.Plain.{IsOf, cell_is, image_kind, nothing, plain_read, sound_from, to_plain}

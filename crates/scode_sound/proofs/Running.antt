@@ -41,7 +41,7 @@ use Rattle.scode_sound.proofs.Left.{first_start, paid}
 use Rattle.scode_sound.proofs.Rules.{MethodRule, Tables, method_rule}
 use Rattle.scode_sound.proofs.Cells.{an_object, all_goes, classes_of}
 use Rattle.scode_sound.proofs.Members.{InTable, Received, has_code, received, method_there as table_there, table_below}
-use Rattle.scode_sound.proofs.Characters.{byte_at}
+use Rattle.sed_engine.proofs.StrBytes.{byte_at}
 use Rattle.scode_sound.proofs.Keeping.{turn_fitting}
 use Rattle.scode_sound.proofs.Fine as machines
 use Rattle.scode_sound.proofs.Points as points

@@ -36,7 +36,7 @@ use Rattle.scode_sound.proofs.Keeping.{Now, read_str_holds, write_str_holds}
 use Rattle.scode_sound.proofs.Plain.{IsOf, nothing, reference_is, truth_is}
 use Rattle.scode_sound.proofs.Stacks.{Cell, Lands, Takes, one_off, two_off, three_off, push_it, no_push_it}
 use Rattle.scode_sound.proofs.Objects.{byte_int, index_cell, small_int}
-use Rattle.scode_sound.proofs.Characters.{chars_of, filled_str, literal_text, set_str, str_from}
+use Rattle.sed_engine.proofs.StrBytes.{chars_of, filled_str, literal_text, set_str, str_from}
 
 module _ (w : Setting) (is : Tables w.image) (own : Concrete w.image w.class) (given turns : ℕ)
     (locals : List Val) where

@@ -1,5 +1,6 @@
 -- Cells of a kind, as a machine that never goes wrong has them.
-use Rattle.std.specs.Prelude.{◌≡◌, ◌<◌, ◌≤◌, nat_le, ℕ, true, false, IsTrue, List, [], ◌∷◌, map, length, slice_get, Option, Some}
+use Rattle.std.specs.Prelude.{◌≡◌, ◌<◌, ◌≤◌, nat_le, ℕ, true, false, IsTrue, List, [], ◌∷◌, map, length, slice_get}
+use Rattle.std.specs.Prelude.{Option, Some}
 use Rattle.std.specs.Int.{w32, w64}
 use Rattle.sed_value.specs.Value.{is_signed}
 use Rattle.sed_typed.specs.declared.program.FieldForm.{FieldForm}

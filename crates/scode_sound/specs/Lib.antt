@@ -2,3 +2,4 @@ pub mod Over
 pub mod Cells
 pub mod Potential
 pub mod Fine
+pub mod Rooted

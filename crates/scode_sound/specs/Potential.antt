@@ -1,5 +1,6 @@
 -- How many steps a machine has left at most: each goes on in a method, or back to a `turn`, or it takes a turn.
-use Rattle.std.specs.Prelude.{ℕ, suc, ◌+◌, ◌*◌, ◌==◌, ◌||◌, Bool, true, false, if◌then◌else◌, List, [], ◌∷◌, length, map}
+use Rattle.std.specs.Prelude.{ℕ, suc, ◌+◌, ◌*◌, ◌==◌, ◌||◌, Bool, true, false, if◌then◌else◌, List, [], ◌∷◌, length}
+use Rattle.std.specs.Prelude.{map}
 use Rattle.scode_image.specs.declared.image.ImageMethod.{ImageMethod}
 use Rattle.scode_ops.specs.Decoding.{op_at}
 use Rattle.scode_code.specs.CodeRules.{is_turn, starts}
@@ -9,6 +10,7 @@ use Rattle.scode_code.specs.Steps.{code_of, longest_of}
 
 -- ---- in a list of places, some of which have a `turn`
 
+-- one where a `turn` stands before
 abbrev pub extra : Bool → ℕ
 extra true = 1
 extra false = 0
@@ -17,6 +19,7 @@ extra false = 0
 abbrev pub here_left : Bool → ℕ → Bool → ℕ
 here_left seen n turn = if turn then 1 else n + extra seen
 
+-- at the place `p` of these places, where a `turn` was seen before them or not; none where it is not among them
 abbrev pub left : (ℕ → Bool) → Bool → List ℕ → ℕ → ℕ
 left turn seen [] p = 0
 left turn seen (q ∷ qs) p =

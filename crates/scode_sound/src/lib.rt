@@ -5,8 +5,10 @@
 //! by a value or a trap, with contents that fit: the code that a verified image means is whole. There are laws alone.
 #![tactic(auto)]
 
+mod asked;
 mod laws;
 
+pub use asked::has_root;
 pub use laws::{
     fine_machines_go_on, verified_calls_are_over, verified_calls_end, verified_images_are_whole,
 };

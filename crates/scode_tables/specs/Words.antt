@@ -1,5 +1,6 @@
 -- Names for parts of the rule's definitions.
-use Rattle.std.specs.Prelude.{ℕ, ◌==◌, ◌&&◌, ◌||◌, nat_le, nat_lt, not, Bool, false, true, List, codes, filter, map, position, slice_get, Option, Some}
+use Rattle.std.specs.Prelude.{ℕ, ◌==◌, ◌&&◌, ◌||◌, nat_le, nat_lt, not, Bool, false, true, List, codes, filter, map}
+use Rattle.std.specs.Prelude.{position, slice_get, Option, Some}
 use Rattle.std.specs.List.{list_all}
 use Rattle.std.specs.Option.{option_and_then, option_map_or}
 use Rattle.std.specs.Str.{bytes_eq}
@@ -14,7 +15,8 @@ use Rattle.scode_image.specs.declared.image.ImageKit.{ImageKit}
 use Rattle.scode_image.specs.declared.image.ImageSlot.{ImageSlot}
 use Rattle.scode_image.specs.Grammar.{is_field_form, is_slot_form}
 use Rattle.scode_code.specs.Tables.{schema_of}
-use Rattle.scode_code.specs.TableRules.{action_has_method, has_class, is_action, is_kind_of_cell, may_stand_in_table, none_or, property_has_field, same_signature}
+use Rattle.scode_code.specs.TableRules.{action_has_method, has_class, is_action, is_kind_of_cell, may_stand_in_table}
+use Rattle.scode_code.specs.TableRules.{none_or, property_has_field, same_signature}
 
 -- ---- kinds
 

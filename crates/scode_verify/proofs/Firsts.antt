@@ -1,12 +1,12 @@
 -- The first rule of two lists.
-use Rattle.std.proofs.Common.{◌≡◌, ℕ, ◌≤◌, length, cond, Bool, true, false, List, [], ◌∷◌, ◌++◌, refl, ap, ◌∙◌, Option, Some, None}
+use Rattle.std.proofs.Common.{◌≡◌, ℕ, ◌≤◌, ◌||◌, length, cond, Bool, true, false, List, [], ◌∷◌, ◌++◌, refl, ap, ◌∙◌, Option, Some, None}
 use Rattle.std.proofs.lemmas.Bool.{ltb-false, or_parts}
 use Rattle.scode_image.specs.declared.image.Image.{Image}
 use Rattle.scode_image.specs.declared.image.ImageKind.{ImageKind}
 use Rattle.scode_image.specs.declared.image.ImageMethod.{ImageMethod}
 use Rattle.scode_ops.specs.declared.op.Op.{Op}
 use Rattle.scode_code.specs.Kinds.{Shape}
-use Rattle.scode_code.specs.CodeRules.{broken_by, first_of, kind_rules, plain_rules, stack_breaks}
+use Rattle.scode_code.specs.CodeRules.{arrives_wrong, broken_by, field_missing, first_of, kind_differs, kind_rules, plain_rules, stack_breaks}
 use Rattle.scode_code.specs.Wants.{needs}
 use Rattle.scode_rules.specs.Words.{shape}
 use Rattle.scode_verify.specs.Words.{carried}
@@ -67,6 +67,16 @@ none_behind (x ∷ xs) ys is = none_behind xs ys (cases_behind x.0 x.1 (first_of
 not_first : (n : ℕ) (b : Bool) (o : Option ℕ) → cond b (Some n) o ≡ None → b ≡ false
 not_first n true o is = cc
 not_first n false o is = refl
+
+-- and jumps go to entries
+pub arrived : (image : Image) (m : ImageMethod) (place : ℕ) (wrong : Bool) (s : Shape) (i : Op)
+    → broken_by image m place wrong (Some s) i ≡ None → arrives_wrong image m s i ≡ false
+arrived image m place wrong s i none =
+    let kinds = none_behind (plain_rules image m place i) (kind_rules image m wrong s i) none in
+    let behind_six = cases_behind 6 (stack_breaks image m s i) _ kinds in
+    let behind_seven = cases_behind 7 (kind_differs image s i) _ behind_six in
+    let behind_eight = cases_behind 8 (field_missing image s.stack i) _ behind_seven in
+    (or_parts wrong (arrives_wrong image m s i) (not_first 9 (wrong || arrives_wrong image m s i) _ behind_eight)).1
 
 pub room : (image : Image) (m : ImageMethod) (place : ℕ) (wrong : Bool) (s : Shape) (i : Op)
     → broken_by image m place wrong (Some s) i ≡ None → length (needs image s i) ≤ length s.stack

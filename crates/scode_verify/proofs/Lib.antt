@@ -4,3 +4,5 @@ pub mod Strays
 pub mod Firsts
 pub mod Rounds
 pub mod Sounds
+pub mod Going
+pub mod Watching

@@ -1,5 +1,6 @@
 -- The numbers of entries by their places.
 use Rattle.std.proofs.Common.{◌≡◌, ℕ, zero, suc, ◌+◌, ◌<◌, ◌==◌, cond, Bool, List, [], ◌∷◌, drop, find, length, get_or, replicate, slice_get, refl, ap, sym, ◌∙◌, arith, Option, Some, None, ◌⊎◌, inl, inr}
+use Rattle.std.specs.Prelude.{IfSome}
 use Rattle.std.specs.Option.{option_and_then}
 use Rattle.std.proofs.Math.ListN.{set}
 use Rattle.std.proofs.lemmas.Bool.{cases_eq, eq-eqb, ne_eqb}
@@ -66,3 +67,9 @@ found_by all p n (e ∷ es) is =
 pub entry_is : (es : List ImageEntry) (p : ℕ)
     → find (λ e. e.place == p) es ≡ option_and_then (λ i. slice_get es i) (first_number p 0 es)
 entry_is es p = found_by es p 0 es refl
+
+pub numbered : (es : List ImageEntry) (p : ℕ) (o : Option ℕ) → o ≡ first_number p 0 es
+    → IfSome o (λ n. slice_get es n ≡ find (λ e. e.place == p) es)
+numbered es p None is = tt
+numbered es p (Some n) is =
+    sym (entry_is es p ∙ ap (λ (o : Option ℕ). option_and_then (λ i. slice_get es i) o) (sym is))

@@ -1,5 +1,5 @@
 -- Tables that agree leave methods that can be walked.
-use Rattle.std.proofs.Common.{◌≡◌, ℕ, suc, ◌+◌, ◌<◌, ◌&&◌, nat_le, Bool, true, List, drop, length, get_or, ap, ◌∙◌, arith, Option, None}
+use Rattle.std.proofs.Common.{◌≡◌, ℕ, suc, ◌+◌, ◌<◌, nat_le, true, List, drop, length, get_or, ap, ◌∙◌, arith, Option, None}
 use Rattle.std.specs.List.{list_all}
 use Rattle.std.proofs.lemmas.Bool.{and_parts, leb-true}
 use Rattle.std.proofs.lemmas.List.Sums.{AllPass-from_list_all}
@@ -8,23 +8,12 @@ use Rattle.scode_image.specs.declared.image.ImageMethod.{ImageMethod}
 use Rattle.scode_code.specs.CodeRules.{Fault, code_fault}
 use Rattle.scode_code.specs.Faults.{methods_broken, or_later}
 use Rattle.scode_tables.proofs.Rests.{next_left}
+use Rattle.scode_code.proofs.Agreeing.{first_of_nine}
 use Rattle.scode_code.specs.TableRules.{keeps_limits, method_is_known, method_keeps_limits, parts_are_known, tables_agree}
 use Rattle.scode_verify.specs.Words.{AreSound, IsSound}
 
--- the first of nine
-front : (a b c d e f g h i : Bool) → (a && b && c && d && e && f && g && h && i) ≡ true → a ≡ true
-front a b c d e f g h i all =
-    let p = and_parts (a && b && c && d && e && f && g && h) i all in
-    let q = and_parts (a && b && c && d && e && f && g) h p.0 in
-    let r = and_parts (a && b && c && d && e && f) g q.0 in
-    let s = and_parts (a && b && c && d && e) f r.0 in
-    let t = and_parts (a && b && c && d) e s.0 in
-    let u = and_parts (a && b && c) d t.0 in
-    let v = and_parts (a && b) c u.0 in
-    (and_parts a b v.0).0
-
 known : (image : Image) → tables_agree image ≡ true → parts_are_known image ≡ true
-known image agree = front (parts_are_known image) _ _ _ _ _ _ _ _ agree
+known image agree = first_of_nine (parts_are_known image) _ _ _ _ _ _ _ _ agree
 
 limits : (image : Image) → tables_agree image ≡ true → keeps_limits image ≡ true
 limits image agree = (and_parts _ (keeps_limits image) agree).1

@@ -5,7 +5,8 @@ use Rattle.scode_code.specs.Breaks.{BreaksNone, IsFirstBroken}
 use Rattle.scode_verify.specs.declared.verified.VerifyRefusal.{VerifyRefusal}
 use Rattle.scode_verify.specs.declared.verified.VerifyRefusal.TheVariants as refusal
 
--- the image itself where it breaks no rule, and else the first rule that it breaks; nothing is said where memory is wanted
+-- the image itself where it breaks no rule, and else the first rule that it breaks; nothing is said where memory is
+-- wanted
 abbrev pub IsOutcome : Image → Result Image VerifyRefusal → Type 0
 IsOutcome image (Ok verified) = (verified ≡ image) × BreaksNone image
 IsOutcome image (Err (refusal.Fault method at rule)) =

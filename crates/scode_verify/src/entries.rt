@@ -1,5 +1,7 @@
 //! Entries by their places.
-ghost use Rattle.std.specs.Prelude.{◌≡◌, ◌<◌, ◌≤◌, ◌+◌, ℕ, length, IfOk, None, option_copied, option_map, replicate, slice_get, slice_set, Some, true};
+ghost use Rattle.std.specs.Prelude.{◌≡◌, ◌<◌, ◌≤◌, ◌+◌, ℕ, length, IfOk, IfSome, None, option_copied, option_map};
+ghost use Rattle.std.specs.Prelude.{replicate};
+ghost use Rattle.std.specs.Prelude.{slice_get, slice_set, Some, true};
 ghost use Rattle.scode_code.specs.CodeRules as rules;
 ghost use Rattle.scode_code.specs.TableRules as tables;
 ghost use Rattle.scode_verify.specs.Words as words;
@@ -49,7 +51,8 @@ fn found(entries: &[ImageEntry], place: usize) -> Option<&ImageEntry>
         .find(|entry| usize::from(entry.place) == place)
 }
 
-fn entry_numbered(entries: &[ImageEntry], number: usize) -> Option<&ImageEntry>
+/// The entry of a number.
+pub(crate) fn entry_numbered(entries: &[ImageEntry], number: usize) -> Option<&ImageEntry>
     ensures { option_copied result ≡ slice_get entries.now number }
 {
     entries.get(number)
@@ -72,6 +75,22 @@ pub(crate) fn entry_at<'a>(
         Some(number) => entry_numbered(entries, number),
         None => None,
     }
+}
+
+/// The number of the entry at a place, where it is one of the code.
+pub(crate) fn entry_number(
+    method: &ImageMethod,
+    numbers: &[Option<usize>],
+    place: usize,
+) -> Option<usize>
+    requires { words.AreNumbers numbers.now method.now }
+    ensures { IfSome result (λ n. slice_get method.now.entries n ≡ rules.entry_at method.now place) }
+{
+    let _method = method;
+    if place < numbers.len() {
+        return numbers[place];
+    }
+    None
 }
 
 /// How many entries stand at a place or before it, of which so many are known to.

@@ -2,16 +2,17 @@
 ghost use Rattle.std.specs.Prelude.{◌≡◌, ◌+◌, ◌||◌, [], ◌∷◌, drop, IfSome, option_copied, reverse, Some, None};
 ghost use Rattle.scode_code.specs.CodeRules as rules;
 ghost use Rattle.scode_ops.specs.Decoding as decoding;
-ghost use Rattle.scode_rules.specs.Words.{shape};
+ghost use Rattle.scode_rules.specs.Words.{IsKeptBut, shape};
 ghost use Rattle.scode_verify.specs.Words as words;
 
-use crate::entries::entry_at;
+use crate::changes::{Changes, goes_again};
+use crate::entries::{entry_at, entry_number, entry_numbered};
 use crate::kinds::Kinds;
 use crate::starts::is_start;
 use scode_image::{Image, ImageEntry, ImageKind, ImageMethod};
 use scode_ops::Op;
 use scode_rules::{
-    field_missing, goes_back, goes_to_entry, jumps_to, kind_differs, number_missing,
+    Indexed, field_missing, goes_back, goes_to_entry, jumps_to, kind_differs, number_missing,
     result_differs, runs_past, stack_breaks,
 };
 
@@ -62,7 +63,7 @@ fn plain_rule(
 }
 
 fn arrives(
-    image: &Image,
+    image: &Indexed<'_>,
     locals: &[ImageKind],
     stack: &[ImageKind],
     entry: Option<&ImageEntry>,
@@ -75,9 +76,39 @@ fn arrives(
     }
 }
 
+// Whether these locals and cells go to the entry at a place.
+fn arrives_at(
+    image: &Indexed<'_>,
+    places: &Places<'_>,
+    changes: &Changes,
+    locals: &[ImageKind],
+    stack: &[ImageKind],
+    place: u16,
+) -> bool
+    requires numbers { words.AreNumbers places.now.numbers.now places.now.method.now }
+    requires watched { words.AreWatched image.now places.now.method.now locals.now stack.now changes.now }
+    ensures { result
+        ≡ rules.arrives image.now (shape locals.now stack.now) (rules.entry_at places.now.method.now place) }
+{
+    let place = usize::from(place);
+    let Some(number) = entry_number(places.method, places.numbers, place) else {
+        return arrives(
+            image,
+            locals,
+            stack,
+            entry_at(places.method, places.numbers, place),
+        );
+    };
+    match entry_numbered(places.method.entries.as_slice(), number) {
+        Some(entry) => goes_again(image, changes, locals, stack, number, entry),
+        None => false,
+    }
+}
+
 // The cells below the top.
 fn below_top(stack: &[ImageKind]) -> &[ImageKind]
-    ensures { reverse result.now ≡ drop 1 (reverse stack.now) }
+    ensures below { reverse result.now ≡ drop 1 (reverse stack.now) }
+    ensures kept { IsKeptBut [] stack.now result.now }
 {
     match stack.split_last() {
         Some((_, below)) => below,
@@ -85,48 +116,39 @@ fn below_top(stack: &[ImageKind]) -> &[ImageKind]
     }
 }
 
-fn arrives_wrong(
-    image: &Image,
-    method: &ImageMethod,
-    numbers: &[Option<usize>],
-    locals: &[ImageKind],
-    stack: &[ImageKind],
-    op: Op,
-) -> bool
-    requires { words.AreNumbers numbers.now method.now }
-    ensures { result ≡ rules.arrives_wrong image.now method.now (shape locals.now stack.now) op }
+fn arrives_wrong(image: &Indexed<'_>, places: &Places<'_>, kinds: &Kinds, op: Op) -> bool
+    requires numbers { words.AreNumbers places.now.numbers.now places.now.method.now }
+    requires watched { words.IsWatched image.now places.now.method.now kinds.now }
+    ensures { result ≡ rules.arrives_wrong image.now places.now.method.now
+        (shape kinds.now.locals.items kinds.now.stack.items) op }
 {
+    let locals = kinds.locals.as_slice();
+    let stack = kinds.stack.as_slice();
     match op {
-        Op::Jump(to) => !arrives(
-            image,
-            locals,
-            stack,
-            entry_at(method, numbers, usize::from(to)),
-        ),
-        Op::JumpFalse(to) | Op::JumpTrue(to) => !arrives(
-            image,
-            locals,
-            below_top(stack),
-            entry_at(method, numbers, usize::from(to)),
-        ),
+        Op::Jump(to) => !arrives_at(image, places, &kinds.changes, locals, stack, to),
+        Op::JumpFalse(to) | Op::JumpTrue(to) => {
+            !arrives_at(image, places, &kinds.changes, locals, below_top(stack), to)
+        }
         _ => false,
     }
 }
 
 // Of rules 6 to 10.
 fn kind_rule(
-    image: &Image,
-    method: &ImageMethod,
-    numbers: &[Option<usize>],
+    image: &Indexed<'_>,
+    places: &Places<'_>,
     wrong: bool,
-    locals: &[ImageKind],
-    stack: &[ImageKind],
+    kinds: &Kinds,
     op: Op,
 ) -> Option<u8>
-    requires { words.AreNumbers numbers.now method.now }
-    ensures { result ≡ rules.first_of (rules.kind_rules image.now method.now wrong (shape locals.now stack.now) op) }
+    requires numbers { words.AreNumbers places.now.numbers.now places.now.method.now }
+    requires watched { words.IsWatched image.now places.now.method.now kinds.now }
+    ensures { result ≡ rules.first_of (rules.kind_rules image.now places.now.method.now wrong
+        (shape kinds.now.locals.items kinds.now.stack.items) op) }
 {
-    if stack_breaks(image, method, locals, stack, op) {
+    let locals = kinds.locals.as_slice();
+    let stack = kinds.stack.as_slice();
+    if stack_breaks(image.image(), places.method, locals, stack, op) {
         return Some(6);
     }
     if kind_differs(image, locals, stack, op) {
@@ -135,10 +157,10 @@ fn kind_rule(
     if field_missing(image, stack, op) {
         return Some(8);
     }
-    if wrong || arrives_wrong(image, method, numbers, locals, stack, op) {
+    if wrong || arrives_wrong(image, places, kinds, op) {
         return Some(9);
     }
-    if result_differs(image, method, stack, op) {
+    if result_differs(image, places.method, stack, op) {
         return Some(10);
     }
     None
@@ -146,7 +168,7 @@ fn kind_rule(
 
 /// The first rule that is broken at an instruction, where kinds stand or none do.
 pub(crate) fn first_rule(
-    image: &Image,
+    image: &Indexed<'_>,
     places: &Places<'_>,
     place: usize,
     behind: usize,
@@ -157,23 +179,23 @@ pub(crate) fn first_rule(
     requires starts { words.AreStarts places.now.starts.now places.now.method.now.code }
     requires numbers { words.AreNumbers places.now.numbers.now places.now.method.now }
     requires behind { behind ≡ place + decoding.size_of op }
+    requires watched { words.IsWatched image.now places.now.method.now kinds.now }
     ensures { result ≡ rules.broken_by image.now places.now.method.now place wrong (words.kinds_of kinds.now) op }
 {
-    match plain_rule(image, places.method, places.starts, place, behind, op) {
+    match plain_rule(
+        image.image(),
+        places.method,
+        places.starts,
+        place,
+        behind,
+        op,
+    ) {
         Some(rule) => Some(rule),
         None => {
             if !kinds.stands {
                 return Some(9);
             }
-            kind_rule(
-                image,
-                places.method,
-                places.numbers,
-                wrong,
-                kinds.locals.as_slice(),
-                kinds.stack.as_slice(),
-                op,
-            )
+            kind_rule(image, places, wrong, kinds, op)
         }
     }
 }

@@ -8,6 +8,7 @@ use crate::walk::code_fault;
 use scode_code::{first_broken_is_least, rules_are_broken_or_not};
 use scode_fields::tables_agree;
 use scode_image::Image;
+use scode_rules::Indexed;
 use sed_value::Memory;
 use std::alloc::Global;
 use std::marker::Model;
@@ -60,11 +61,11 @@ struct Found {
 }
 
 // The first fault of the methods.
-fn methods_broken(alloc: Global, image: &Image) -> Result<Option<Found>, Memory>
+fn methods_broken(alloc: Global, image: &Indexed<'_>) -> Result<Option<Found>, Memory>
     requires { words.AreSound image.now }
     ensures { IfOk result (λ f. words.broken_of f ≡ faults.methods_broken image.now 0 image.now.methods) }
 {
-    let methods = image.methods.as_slice();
+    let methods = image.image().methods.as_slice();
     for number in 0..methods.len() {
         let fault = code_fault(alloc, image, &methods[number])?;
         if let Some(fault) = fault {
@@ -90,7 +91,8 @@ fn first_broken(alloc: Global, image: &Image) -> Result<Option<Found>, Memory>
             rule: 1,
         }));
     }
-    methods_broken(alloc, image)
+    let indexed = Indexed::new(alloc, image)?;
+    methods_broken(alloc, &indexed)
 }
 
 /// The image as a verified one, where it breaks no rule, and else the first rule that it breaks.

@@ -24,7 +24,8 @@ use Rattle.sed_stores.specs.Stores.{assigned, compound, counted, arithmetic_of}
 use Rattle.sed_members.specs.declared.context.Before.{Before}
 use Rattle.sed_members.specs.declared.context.Before.TheVariants.{Value, Class, System}
 use Rattle.sed_members.specs.declared.context.Body.{Body}
-use Rattle.sed_members.specs.Calls.{row_length, kind_at, argument, with_argument, params_of, own_call, super_called, class_call, params_behind, called, system_call}
+use Rattle.sed_members.specs.Calls.{row_length, kind_at, argument, with_argument, params_of, own_call, super_called}
+use Rattle.sed_members.specs.Calls.{class_call, params_behind, called, system_call}
 use Rattle.sed_members.specs.Literals.{literal_judged}
 use Rattle.sed_members.specs.Members.{receiver, named, class_member, member_of, before_link, spelled, spelled_head}
 use Rattle.sed_bodies.specs.Places.{place_of, may_name}
@@ -44,7 +45,8 @@ counting update.Increment = arithmetic.Add
 counting update.Decrement = arithmetic.Subtract
 
 -- `=`, or an operator with `=`
-abbrev pub stored_by : {F : Type 0} → Marks F → Names → Option Arithmetic → ℕ → Bool → ℕ → Judged Term F → Judged Term F → Judged Term F
+abbrev pub stored_by : {F : Type 0} → Marks F → Names → Option Arithmetic
+    → ℕ → Bool → ℕ → Judged Term F → Judged Term F → Judged Term F
 stored_by m n None at may right x y = assigned m n.below at may right x y
 stored_by m n (Some a) at may right x y = compound m a at may right x y
 
@@ -67,7 +69,8 @@ abbrev mutual
   judge m n b s (Part (label.Paren at) x y) = judge m n b s x
   judge m n b s (Part (label.Prefix at op) x y) = prefixed m at op (may_name x) (place_of x) (judge m n b s x)
   judge m n b s (Part (label.Cast at kind) x y) = cast m at kind (place_of x) (judge m n b s x)
-  judge m n b s (Part (label.Update at op) x y) = counted m (counting op) Old at (may_name x) (place_of x) (judge m n b s x)
+  judge m n b s (Part (label.Update at op) x y) =
+      counted m (counting op) Old at (may_name x) (place_of x) (judge m n b s x)
   judge m n b s (Part (label.Conditional at) t (Part label.Both x y)) =
       chosen m (place_of t) (place_of x) (place_of y) (judge m n b s t) (judge m n b s x) (judge m n b s y)
   judge m n b s (Part (label.Assign at op) x y) =
@@ -79,29 +82,34 @@ abbrev mutual
       spelled m id (super_called m b at (row_length args) (super_method n b id.bytes)
       (judge_args m n b s at (params_of (super_method n b id.bytes)) 0 (Sound Absent) args))
   judge m n b s (Part (label.Chain at) x (Part label.More link links)) =
-      judge_links m n b s at (first_by (before_link n b s x link) (judge_step m n b s at (judge m n b s x) link) (λ class. spelled_head m x (judge_class m n b s at class link)) (judge_system m n b s at link)) links
+      judge_links m n b s at (first_by (before_link n b s x link) (judge_step m n b s at (judge m n b s x) link)
+      (λ class. spelled_head m x (judge_class m n b s at class link)) (judge_system m n b s at link)) links
   judge m n b s (Part (label.Chain at) x NoTree) = judge m n b s x
   -- no expression has another tree
   judge m n b s t = Unknown (m.one (broken 0 0))
 
   -- the arguments so far, with those behind them, for these parameters from a place on
-  pub judge_args : {F : Type 0} → Marks F → Names → Body → Scope → ℕ → List (Option Kind) → ℕ → Judged Term F → Tree → Judged Term F
+  pub judge_args : {F : Type 0} → Marks F → Names → Body → Scope → ℕ
+      → List (Option Kind) → ℕ → Judged Term F → Tree → Judged Term F
   judge_args m n b s at params i xs (Part label.More t rest) =
-      judge_args m n b s at params (suc i) (with_argument m xs (argument m n at (kind_at params i) (judge m n b s t))) rest
+      judge_args m n b s at params (suc i)
+      (with_argument m xs (argument m n at (kind_at params i) (judge m n b s t))) rest
   judge_args m n b s at params i xs t = xs
 
   -- what is on the left, with a link behind it; `at` is where the chain begins
   pub judge_step : {F : Type 0} → Marks F → Names → Body → Scope → ℕ → Judged Term F → Tree → Judged Term F
   judge_step m n b s at x (Part (label.Member p id) y z) = spelled m id (member_of m n id x)
   judge_step m n b s at x (Part (label.Method p id) args z) =
-      spelled m id (called m n id.bytes at (row_length args) x (judge_args m n b s at (params_behind n id.bytes x) 0 (Sound Absent) args))
+      spelled m id (called m n id.bytes at (row_length args) x
+      (judge_args m n b s at (params_behind n id.bytes x) 0 (Sound Absent) args))
   judge_step m n b s at x (Part (label.Index p) y z) = element m at (place_of y) x (judge m n b s y)
   judge_step m n b s at x (Part (label.Operand p op) y z) = operated m (form_of op) at (place_of y) x (judge m n b s y)
   judge_step m n b s at x t = x
 
   -- a link behind the name of a class, which means nothing before another one than `.`
   pub judge_class : {F : Type 0} → Marks F → Names → Body → Scope → ℕ → TypeNo → Tree → Judged Term F
-  judge_class m n b s at class (Part (label.Member p id) y z) = spelled m id (class_member m id.at (n.member class.0 id.bytes))
+  judge_class m n b s at class (Part (label.Member p id) y z) =
+      spelled m id (class_member m id.at (n.member class.0 id.bytes))
   judge_class m n b s at class (Part (label.Method p id) args z) =
       spelled m id (class_call m id.at at (row_length args) (n.method class.0 id.bytes)
       (judge_args m n b s at (params_of (n.method class.0 id.bytes)) 0 (Sound Absent) args))
@@ -121,4 +129,5 @@ abbrev mutual
 -- the head of a chain with its first link
 abbrev pub judge_first : {F : Type 0} → Marks F → Names → Body → Scope → ℕ → Tree → Tree → Judged Term F
 judge_first m n b s at x link =
-    first_by (before_link n b s x link) (judge_step m n b s at (judge m n b s x) link) (λ class. spelled_head m x (judge_class m n b s at class link)) (judge_system m n b s at link)
+    first_by (before_link n b s x link) (judge_step m n b s at (judge m n b s x) link)
+    (λ class. spelled_head m x (judge_class m n b s at class link)) (judge_system m n b s at link)

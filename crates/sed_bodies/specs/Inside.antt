@@ -1,6 +1,7 @@
 -- Where a body stands, once its program is there: what its names mean is what the program has. And what is found of an
 -- expression in it.
-use Rattle.std.specs.Prelude.{◌≡◌, ◌≢◌, ℕ, ◌<◌, ◌≤◌, Bool, true, false, IsTrue, IfSome, IsSomeAnd, List, length, map, slice_get, Some, None}
+use Rattle.std.specs.Prelude.{◌≡◌, ◌≢◌, ℕ, ◌<◌, ◌≤◌, Bool, true, false, IsTrue, IfSome, IsSomeAnd, List, length, map}
+use Rattle.std.specs.Prelude.{slice_get, Some, None}
 use Rattle.std.specs.Int.{w32, w64}
 use Rattle.std.specs.Option.{option_map, option_and_then}
 use Rattle.sed_value.specs.Value.{is_signed}
@@ -11,7 +12,8 @@ use Rattle.sed_typed.specs.declared.program.FieldForm.{FieldForm}
 use Rattle.sed_typed.specs.declared.program.FieldForm.TheVariants as form
 use Rattle.sed_typed.specs.declared.program.Method.{Method}
 use Rattle.sed_typed.specs.Classes.{base_of, find, method_name}
-use Rattle.sed_typed.specs.TypedExpr.{Context, IsKindOf, GoesTo, IsNoReceiver, field_form, static_form, part_kind, IsBuf}
+use Rattle.sed_typed.specs.TypedExpr.{Context, IsKindOf, GoesTo, IsNoReceiver, field_form, static_form, part_kind}
+use Rattle.sed_typed.specs.TypedExpr.{IsBuf}
 use Rattle.sed_typed.specs.TypedSchema.{is_below}
 use Rattle.sed_names.specs.declared.member.Constant.{Constant}
 use Rattle.sed_names.specs.declared.member.Constant.TheVariants as constant
@@ -31,7 +33,8 @@ pub record HasKinds (c : Context) : Type 0 where
   pub class : c.class < length c.program.schema.classes
   pub locals : (i : ℕ) (k : Kind) → slice_get c.locals i ≡ Some k → IsKindOf c.program k
   pub results : (m : ℕ) → IfSome (slice_get c.program.methods m) (λ x. IsKindOf c.program x.result)
-  pub fields : (x : Kind) (i : ℕ) (k : Kind) → option_and_then part_kind (field_form c.program x i) ≡ Some k → IsKindOf c.program k
+  pub fields : (x : Kind) (i : ℕ) (k : Kind) → option_and_then part_kind (field_form c.program x i) ≡ Some k
+      → IsKindOf c.program k
   pub statics : (i : ℕ) (k : Kind) → option_and_then part_kind (static_form c.program i) ≡ Some k → IsKindOf c.program k
 
 -- a define's value is one of its type
@@ -46,7 +49,8 @@ IsNoBuf f = Unit {0}
 
 -- a member of a class is the program's
 abbrev pub IsMember : Context → ℕ → Member → Type 0
-IsMember c class (member.Field f i) = (t : TypeNo) → t.0 ≡ class → IsSomeAnd f (λ x. field_form c.program (kind.Object t) i ≡ Some x)
+IsMember c class (member.Field f i) = (t : TypeNo) → t.0 ≡ class
+    → IsSomeAnd f (λ x. field_form c.program (kind.Object t) i ≡ Some x)
 IsMember c class (member.Static f i) = IsSomeAnd f (λ x. (static_form c.program i ≡ Some x) × IsNoBuf x)
 IsMember c class (member.Define v) = IsSomeAnd v IsConstant
 IsMember c class member.Method = Unit {0}
@@ -72,7 +76,8 @@ pub record IsIn (c : Context) (n : Names) (b : Body) (s : Scope) : Type 0 where
   pub below : AreBelow c n.below
   pub base : (class : ℕ) → option_map (λ t. t.0) (n.base class) ≡ base_of c.program.schema.classes class
   pub locals : (name : List ℕ) →
-      IfSome (local_named s.entries name) (λ l. IsSomeAnd l.kind (λ k. (slice_get c.locals l.number ≡ Some k) × IsNoReceiver c l.number))
+      IfSome (local_named s.entries name) (λ l.
+      IsSomeAnd l.kind (λ k. (slice_get c.locals l.number ≡ Some k) × IsNoReceiver c l.number))
   pub members : (class : ℕ) (name : List ℕ) → IfSome (n.member class name) (IsMember c class)
   pub methods : (class : ℕ) (name : List ℕ) →
       IfSome (n.method class name) (λ s. IsSomeAnd (slice_get c.program.methods s.number) (IsMethod c class s))

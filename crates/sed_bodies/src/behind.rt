@@ -25,7 +25,8 @@ fn member_of_class<N: Lookup>(
     class: TypeNo,
     id: &Ident,
 ) -> Result<Checked, Memory>
-    ensures { IfOk result (λ r. r ≡ members.spelled least_fault id.now (members.class_member least_fault id.now.at ((N.names names.now).member class.0 id.now.bytes))) }
+    ensures { IfOk result (λ r. r ≡ members.spelled least_fault id.now
+        (members.class_member least_fault id.now.at ((N.names names.now).member class.0 id.now.bytes))) }
 {
     let member = names.member(class, id.bytes.as_slice());
     let x = class_member(alloc, id.at, member)?;
@@ -50,7 +51,8 @@ pub(crate) fn behind_class<N: Lookup>(
     class: TypeNo,
     link: &Link,
 ) -> Result<Checked, Memory>
-    ensures { IfOk result (λ r. r ≡ meaning.judge_class least_fault (N.names names.now) body.now scope.now at class link.now) }
+    ensures { IfOk result (λ r. r ≡ meaning.judge_class least_fault (N.names names.now)
+        body.now scope.now at class link.now) }
 {
     match &link.step {
         Step::Member(id) => member_of_class(alloc, names, class, id),
@@ -71,7 +73,8 @@ fn class_method<N: Lookup>(
     id: &Ident,
     args: &[Expr],
 ) -> Result<Checked, Memory>
-    ensures { IfOk result (λ r. r ≡ meaning.judge_class least_fault (N.names names.now) body.now scope.now at class (Part (label.Method at id.now) (row args.now) NoTree)) }
+    ensures { IfOk result (λ r. r ≡ meaning.judge_class least_fault (N.names names.now)
+        body.now scope.now at class (Part (label.Method at id.now) (row args.now) NoTree)) }
 {
     match names.method(class, id.bytes.as_slice()) {
         Some(s) => {
@@ -97,7 +100,8 @@ pub(crate) fn behind_system<N: Lookup>(
     at: usize,
     link: &Link,
 ) -> Result<Checked, Memory>
-    ensures { IfOk result (λ r. r ≡ meaning.judge_system least_fault (N.names names.now) body.now scope.now at link.now) }
+    ensures { IfOk result (λ r. r ≡ meaning.judge_system least_fault
+        (N.names names.now) body.now scope.now at link.now) }
 {
     match &link.step {
         Step::Member(id) => Ok(no_member(id)),
@@ -117,7 +121,8 @@ fn system_method<N: Lookup>(
     id: &Ident,
     args: &[Expr],
 ) -> Result<Checked, Memory>
-    ensures { IfOk result (λ r. r ≡ meaning.judge_system least_fault (N.names names.now) body.now scope.now at (Part (label.Method at id.now) (row args.now) NoTree)) }
+    ensures { IfOk result (λ r. r ≡ meaning.judge_system least_fault
+        (N.names names.now) body.now scope.now at (Part (label.Method at id.now) (row args.now) NoTree)) }
 {
     let xs = arguments(alloc, names, body, scope, at, &[], args)?;
     let x = system_call(alloc, id.bytes.as_slice(), at, count_of(args), xs)?;

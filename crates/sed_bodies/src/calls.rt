@@ -48,7 +48,8 @@ pub(crate) fn call<N: Lookup>(
     id: &Ident,
     args: &[Expr],
 ) -> Result<Checked, Memory>
-    ensures { IfOk result (λ r. r ≡ meaning.judge least_fault (N.names names.now) body.now scope.now (Part (label.Call id.now) (row args.now) NoTree)) }
+    ensures { IfOk result (λ r. r ≡ meaning.judge least_fault (N.names names.now)
+        body.now scope.now (Part (label.Call id.now) (row args.now) NoTree)) }
 {
     match names.method(body.class, id.bytes.as_slice()) {
         Some(s) => {
@@ -75,7 +76,8 @@ pub(crate) fn super_call<N: Lookup>(
     id: &Ident,
     args: &[Expr],
 ) -> Result<Checked, Memory>
-    ensures { IfOk result (λ r. r ≡ meaning.judge least_fault (N.names names.now) body.now scope.now (Part (label.Super at id.now) (row args.now) NoTree)) }
+    ensures { IfOk result (λ r. r ≡ meaning.judge least_fault (N.names names.now)
+        body.now scope.now (Part (label.Super at id.now) (row args.now) NoTree)) }
 {
     match super_method(names, body, id.bytes.as_slice()) {
         Some(s) => {
@@ -103,7 +105,8 @@ pub(crate) fn arguments<N: Lookup>(
     params: &[Option<Kind>],
     args: &[Expr],
 ) -> Result<CheckedArguments, Memory>
-    ensures { IfOk result (λ r. r ≡ meaning.judge_args least_fault (N.names names.now) body.now scope.now at params.now 0 (Judged.Sound terms.Absent) (row args.now)) }
+    ensures { IfOk result (λ r. r ≡ meaning.judge_args least_fault (N.names names.now)
+        body.now scope.now at params.now 0 (Judged.Sound terms.Absent) (row args.now)) }
 {
     let mut xs = Judged::Sound(Arguments::new(alloc));
     for (i, e) in args.iter().enumerate() {

@@ -27,7 +27,8 @@ pub(crate) fn chain<N: Lookup>(
     x: &Expr,
     steps: &[Link],
 ) -> Result<Checked, Memory>
-    ensures { IfOk result (λ r. r ≡ meaning.judge least_fault (N.names names.now) body.now scope.now (Part (label.Chain at) x.now (row steps.now))) }
+    ensures { IfOk result (λ r. r ≡ meaning.judge least_fault (N.names names.now)
+        body.now scope.now (Part (label.Chain at) x.now (row steps.now))) }
 {
     match steps.split_first() {
         None => expression(alloc, names, body, scope, x),
@@ -49,7 +50,8 @@ fn first<N: Lookup>(
     x: &Expr,
     link: &Link,
 ) -> Result<Checked, Memory>
-    ensures { IfOk result (λ r. r ≡ meaning.judge_first least_fault (N.names names.now) body.now scope.now at x.now link.now) }
+    ensures { IfOk result (λ r. r ≡ meaning.judge_first least_fault (N.names names.now)
+        body.now scope.now at x.now link.now) }
 {
     match before_link(names, body, scope, x, link) {
         Before::Value => {
@@ -75,7 +77,8 @@ fn links<N: Lookup>(
     x: Checked,
     links: &[Link],
 ) -> Result<Checked, Memory>
-    ensures { IfOk result (λ r. r ≡ meaning.judge_links least_fault (N.names names.now) body.now scope.now at x (row links.now)) }
+    ensures { IfOk result (λ r. r ≡ meaning.judge_links least_fault (N.names names.now)
+        body.now scope.now at x (row links.now)) }
 {
     let mut x = x;
     for link in links {

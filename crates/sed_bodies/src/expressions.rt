@@ -63,7 +63,8 @@ fn stored<N: Lookup>(
     x: Checked,
     y: Checked,
 ) -> Result<Checked, Memory>
-    ensures { IfOk result (λ r. r ≡ meaning.stored_by least_fault (N.names names.now) (stores.arithmetic_of op) at may right x y) }
+    ensures { IfOk result (λ r. r ≡ meaning.stored_by least_fault (N.names names.now)
+        (stores.arithmetic_of op) at may right x y) }
 {
     match arithmetic_of(op) {
         None => assigned(alloc, names, at, may, right, x, y),
@@ -79,7 +80,8 @@ fn name<N: Lookup>(
     scope: &Locals,
     id: &Ident,
 ) -> Result<Checked, Memory>
-    ensures { IfOk result (λ r. r ≡ members.spelled least_fault id.now (members.named least_fault (N.names names.now) body.now scope.now id.now)) }
+    ensures { IfOk result (λ r. r ≡ members.spelled least_fault id.now
+        (members.named least_fault (N.names names.now) body.now scope.now id.now)) }
 {
     let x = named(alloc, names, body, scope, id)?;
     Ok(spelled(id, x))
@@ -87,7 +89,8 @@ fn name<N: Lookup>(
 
 // `ID::ID` where it is not before a `.`, and has no meaning.
 fn no_value(kit: &Ident, id: &Ident) -> Checked
-    ensures { result ≡ members.spelled least_fault kit.now (members.spelled least_fault id.now (Judged.Unknown (Some (faults.broken 12 kit.now.at)))) }
+    ensures { result ≡ members.spelled least_fault kit.now
+        (members.spelled least_fault id.now (Judged.Unknown (Some (faults.broken 12 kit.now.at)))) }
 {
     spelled(kit, spelled(id, broken(12, kit.at)))
 }
@@ -131,7 +134,8 @@ fn prefix<N: Lookup>(
     op: PrefixOp,
     x: &Expr,
 ) -> Result<Checked, Memory>
-    ensures { IfOk result (λ r. r ≡ meaning.prefixed least_fault at op (places.may_name x.now) (places.place_of x.now) (meaning.judge least_fault (N.names names.now) body.now scope.now x.now)) }
+    ensures { IfOk result (λ r. r ≡ meaning.prefixed least_fault at op (places.may_name x.now)
+        (places.place_of x.now) (meaning.judge least_fault (N.names names.now) body.now scope.now x.now)) }
 {
     let right = place_of(x);
     let may = may_name(x);
@@ -150,7 +154,8 @@ fn cast_operand<N: Lookup>(
     prim: Prim,
     x: &Expr,
 ) -> Result<Checked, Memory>
-    ensures { IfOk result (λ r. r ≡ operands.cast least_fault at prim (places.place_of x.now) (meaning.judge least_fault (N.names names.now) body.now scope.now x.now)) }
+    ensures { IfOk result (λ r. r ≡ operands.cast least_fault at prim
+        (places.place_of x.now) (meaning.judge least_fault (N.names names.now) body.now scope.now x.now)) }
 {
     let right = place_of(x);
     let x = expression(alloc, names, body, scope, x)?;
@@ -168,7 +173,9 @@ fn update<N: Lookup>(
     op: UpdateOp,
     x: &Expr,
 ) -> Result<Checked, Memory>
-    ensures { IfOk result (λ r. r ≡ stores.counted least_fault (meaning.counting op) gives.Old at (places.may_name x.now) (places.place_of x.now) (meaning.judge least_fault (N.names names.now) body.now scope.now x.now)) }
+    ensures { IfOk result (λ r. r ≡ stores.counted least_fault (meaning.counting op) gives.Old at
+        (places.may_name x.now) (places.place_of x.now)
+        (meaning.judge least_fault (N.names names.now) body.now scope.now x.now)) }
 {
     let left = place_of(x);
     let may = may_name(x);
@@ -205,7 +212,10 @@ fn conditional<N: Lookup>(
     x: &Expr,
     y: &Expr,
 ) -> Result<Checked, Memory>
-    ensures { IfOk result (λ r. r ≡ choices.chosen least_fault (places.place_of t.now) (places.place_of x.now) (places.place_of y.now) (meaning.judge least_fault (N.names names.now) body.now scope.now t.now) (meaning.judge least_fault (N.names names.now) body.now scope.now x.now) (meaning.judge least_fault (N.names names.now) body.now scope.now y.now)) }
+    ensures { IfOk result (λ r. r ≡ choices.chosen least_fault (places.place_of t.now) (places.place_of x.now)
+        (places.place_of y.now) (meaning.judge least_fault (N.names names.now) body.now scope.now t.now)
+        (meaning.judge least_fault (N.names names.now) body.now scope.now x.now)
+        (meaning.judge least_fault (N.names names.now) body.now scope.now y.now)) }
 {
     let at = place_of(t);
     let left = place_of(x);
@@ -227,7 +237,10 @@ fn assignment<N: Lookup>(
     x: &Expr,
     y: &Expr,
 ) -> Result<Checked, Memory>
-    ensures { IfOk result (λ r. r ≡ meaning.stored_by least_fault (N.names names.now) (stores.arithmetic_of op) at (places.may_name x.now) (places.place_of y.now) (meaning.judge least_fault (N.names names.now) body.now scope.now x.now) (meaning.judge least_fault (N.names names.now) body.now scope.now y.now)) }
+    ensures { IfOk result (λ r. r ≡ meaning.stored_by least_fault (N.names names.now) (stores.arithmetic_of op) at
+        (places.may_name x.now) (places.place_of y.now)
+        (meaning.judge least_fault (N.names names.now) body.now scope.now x.now)
+        (meaning.judge least_fault (N.names names.now) body.now scope.now y.now)) }
 {
     let may = may_name(x);
     let right = place_of(y);

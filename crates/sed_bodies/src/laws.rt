@@ -21,28 +21,33 @@ use sed_terms::least_of_two_lists;
 /// Where the names of a body mean what its program has, what an expression comes to is typed in that program, and it
 /// is unknown only with a fault inside. So an expression without a fault is typed.
 pub fn judged_expressions_are_typed()
-    ensures { (c : Context) (n : Names) (b : Body) (s : Scope) → IsIn c n b s → (t : Tree) → Right (IsReady c) (judge all_faults n b s t) }
+    ensures { (c : Context) (n : Names) (b : Body) (s : Scope) → IsIn c n b s
+        → (t : Tree) → Right (IsReady c) (judge all_faults n b s t) }
 {}
 
 /// The least of all faults of an expression is what the judgement with the least fault finds, and so what `expression`
 /// answers.
 pub fn least_fault_is_found()
-    ensures { (n : Names) (b : Body) (s : Scope) (t : Tree) → told (judge all_faults n b s t) ≡ judge least_fault n b s t }
+    ensures { (n : Names) (b : Body) (s : Scope) (t : Tree)
+        → told (judge all_faults n b s t) ≡ judge least_fault n b s t }
 {
     least_of_two_lists();
 }
 
 /// A condition is a typed bool where what is judged of it is right, and it is unknown only with a fault.
 pub fn truth_right()
-    ensures { (c : Context) → HasKinds c → (at : ℕ) (x : Judged Term (List Fault)) → Right (IsReady c) x → Right (HasKind c kinds.Bool) (truth all_faults at x) }
+    ensures { (c : Context) → HasKinds c → (at : ℕ) (x : Judged Term (List Fault))
+        → Right (IsReady c) x → Right (HasKind c kinds.Bool) (truth all_faults at x) }
 {}
 
 /// What an int is wanted of is a typed int where what is judged of it is right, and it is unknown only with a fault.
 pub fn wants_right()
-    ensures { (c : Context) (at : ℕ) (x : Judged Term (List Fault)) → Right (IsReady c) x → Right (HasKind c kinds.Int) (wants all_faults is_int at x) }
+    ensures { (c : Context) (at : ℕ) (x : Judged Term (List Fault)) → Right (IsReady c) x
+        → Right (HasKind c kinds.Int) (wants all_faults is_int at x) }
 {}
 
 /// What is put into a place is typed and goes there.
 pub fn placed_goes()
-    ensures { (c : Context) → HasKinds c → (below : ℕ → ℕ → Bool) → AreBelow c below → (to : Kind) → IsKindOf c.program to → (t : Term) → IsReady c t → IfSome (placed below to t) (Goes c to) }
+    ensures { (c : Context) → HasKinds c → (below : ℕ → ℕ → Bool) → AreBelow c below
+        → (to : Kind) → IsKindOf c.program to → (t : Term) → IsReady c t → IfSome (placed below to t) (Goes c to) }
 {}

@@ -21,7 +21,8 @@ use sed_value::Memory;
 use std::alloc::Global;
 
 fn member<N: Lookup>(alloc: Global, names: &N, id: &Ident, x: Checked) -> Result<Checked, Memory>
-    ensures { IfOk result (λ r. r ≡ members.spelled least_fault id.now (members.member_of least_fault (N.names names.now) id.now x)) }
+    ensures { IfOk result (λ r. r ≡ members.spelled least_fault id.now
+        (members.member_of least_fault (N.names names.now) id.now x)) }
 {
     let x = member_of(alloc, names, id, x)?;
     Ok(spelled(id, x))
@@ -38,7 +39,8 @@ pub(crate) fn step<N: Lookup>(
     x: Checked,
     link: &Link,
 ) -> Result<Checked, Memory>
-    ensures { IfOk result (λ r. r ≡ meaning.judge_step least_fault (N.names names.now) body.now scope.now at x link.now) }
+    ensures { IfOk result (λ r. r ≡ meaning.judge_step least_fault (N.names names.now)
+        body.now scope.now at x link.now) }
 {
     match &link.step {
         Step::Member(id) => member(alloc, names, id, x),
@@ -60,7 +62,8 @@ fn method<N: Lookup>(
     id: &Ident,
     args: &[Expr],
 ) -> Result<Checked, Memory>
-    ensures { IfOk result (λ r. r ≡ meaning.judge_step least_fault (N.names names.now) body.now scope.now at x (Part (label.Method at id.now) (row args.now) NoTree)) }
+    ensures { IfOk result (λ r. r ≡ meaning.judge_step least_fault (N.names names.now)
+        body.now scope.now at x (Part (label.Method at id.now) (row args.now) NoTree)) }
 {
     let name = id.bytes.as_slice();
     let params = params_behind(names, name, &x);
@@ -80,7 +83,8 @@ fn index<N: Lookup>(
     x: Checked,
     y: &Expr,
 ) -> Result<Checked, Memory>
-    ensures { IfOk result (λ r. r ≡ operands.element least_fault at (places.place_of y.now) x (meaning.judge least_fault (N.names names.now) body.now scope.now y.now)) }
+    ensures { IfOk result (λ r. r ≡ operands.element least_fault at (places.place_of y.now)
+        x (meaning.judge least_fault (N.names names.now) body.now scope.now y.now)) }
 {
     let right = place_of(y);
     let y = expression(alloc, names, body, scope, y)?;
@@ -99,7 +103,8 @@ fn operand<N: Lookup>(
     op: BinaryOp,
     y: &Expr,
 ) -> Result<Checked, Memory>
-    ensures { IfOk result (λ r. r ≡ operands.operated least_fault (operands.form_of op) at (places.place_of y.now) x (meaning.judge least_fault (N.names names.now) body.now scope.now y.now)) }
+    ensures { IfOk result (λ r. r ≡ operands.operated least_fault (operands.form_of op)
+        at (places.place_of y.now) x (meaning.judge least_fault (N.names names.now) body.now scope.now y.now)) }
 {
     let right = place_of(y);
     let y = expression(alloc, names, body, scope, y)?;

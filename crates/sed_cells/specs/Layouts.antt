@@ -1,5 +1,6 @@
 -- Layouts: each object, field and element that stands in an object has a number, so that it is found without its path.
-use Rattle.std.specs.Prelude.{ℕ, ◌≡◌, ◌+◌, ◌-◌, ◌<◌, ◌≤◌, Bool, true, false, nat_lt, if◌then◌else◌, List, [], ◌∷◌, ◌++◌, map, length, replicate, slice_index_or, slice_set, Option, Some, None}
+use Rattle.std.specs.Prelude.{ℕ, ◌≡◌, ◌+◌, ◌-◌, ◌<◌, ◌≤◌, Bool, true, false, nat_lt, if◌then◌else◌, List, [], ◌∷◌, ◌++◌}
+use Rattle.std.specs.Prelude.{map, length, replicate, slice_index_or, slice_set, Option, Some, None}
 use Rattle.sed_value.specs.declared.value.Value.{Value}
 use Rattle.sed_value.specs.declared.value.Value.TheVariants as kept
 use Rattle.sed_value.specs.declared.slot_type.Primitive.{Primitive}
@@ -100,7 +101,8 @@ pub record HasPieces (program : Program) (nodes : List Node) (values : List Valu
   pub room : HasRoom node.stands node.room
   pub fits : node.first + node.count ≤ length nodes
   pub each : (k : ℕ) (d : Piece) → k < length (pieces_of program node.stands) →
-      IsPiece nodes values n k (room_below node.stands node.room) (slice_index_or (pieces_of program node.stands) k d) (node.first + k)
+      IsPiece nodes values n k (room_below node.stands node.room) (slice_index_or (pieces_of program node.stands) k d)
+      (node.first + k)
 
 -- a node but the first is a piece of an earlier one
 pub record IsBelow (nodes : List Node) (m bound : ℕ) : Type 0 where
@@ -109,7 +111,8 @@ pub record IsBelow (nodes : List Node) (m bound : ℕ) : Type 0 where
   pub child : child nodes (node_at nodes m).parent (node_at nodes m).step ≡ Some m
 
 -- nodes of which the first so many have their pieces
-pub record IsGrowing (program : Program) (top : Stands) (nodes : List Node) (values : List Value) (done : ℕ) : Type 0 where
+pub record IsGrowing (program : Program) (top : Stands) (nodes : List Node)
+    (values : List Value) (done : ℕ) : Type 0 where
   pub some : 0 < length nodes
   pub root : (node_at nodes 0).stands ≡ top
   pub room : (node_at nodes 0).room ≡ length program.schema.classes
@@ -129,7 +132,8 @@ IsLayout program top layout = IsGrowing program top layout.nodes layout.values (
 
 -- a new node
 abbrev pub node_of : ℕ → ℕ → ℕ → FieldForm → Node
-node_of parent step room form = record { parent = parent; step = step; first = 0; count = 0; room = room; stands = Part form }
+node_of parent step room form =
+    record { parent = parent; step = step; first = 0; count = 0; room = room; stands = Part form }
 
 -- the nodes of the pieces of one
 abbrev pub children : ℕ → ℕ → ℕ → List Piece → List Node
@@ -146,5 +150,6 @@ with_pieces node first count = record node { first = first; count = count }
 -- nodes with the pieces of one of them behind
 abbrev pub grown : Program → List Node → ℕ → List Node
 grown program nodes n =
-    slice_set (nodes ++ children n 0 (room_below (node_at nodes n).stands (node_at nodes n).room) (pieces_of program (node_at nodes n).stands)) n
+    slice_set (nodes ++ children n 0 (room_below (node_at nodes n).stands (node_at nodes n).room)
+    (pieces_of program (node_at nodes n).stands)) n
     (with_pieces (node_at nodes n) (length nodes) (length (pieces_of program (node_at nodes n).stands)))

@@ -1,5 +1,6 @@
 -- Numbers of places, and the contents that cells stand for.
-use Rattle.std.specs.Prelude.{ℕ, zero, suc, ◌≡◌, ◌≤◌, nat_lt, if◌then◌else◌, List, [], ◌∷◌, length, map, slice_index_or, ◌+◌, Option, Some, None}
+use Rattle.std.specs.Prelude.{ℕ, zero, suc, ◌≡◌, ◌≤◌, nat_lt, if◌then◌else◌, List, [], ◌∷◌, length, map, slice_index_or}
+use Rattle.std.specs.Prelude.{◌+◌, Option, Some, None}
 use Rattle.sed_value.specs.declared.value.Value.{Value}
 use Rattle.sed_value.specs.declared.value.Value.TheVariants as kept
 use Rattle.sed_typed.specs.declared.program.FieldForm.TheVariants.{Object}
@@ -26,7 +27,8 @@ number_of nodes path = walk nodes path (Some 0)
 abbrev pub climb : List Node → ℕ → ℕ → Path → Path
 climb nodes zero n rest = rest
 climb nodes (suc most) zero rest = rest
-climb nodes (suc most) (suc n) rest = climb nodes most (node_at nodes (suc n)).parent ((node_at nodes (suc n)).step ∷ rest)
+climb nodes (suc most) (suc n) rest =
+    climb nodes most (node_at nodes (suc n)).parent ((node_at nodes (suc n)).step ∷ rest)
 
 -- a number that no node has stands for the whole
 abbrev pub known : List Node → ℕ → ℕ

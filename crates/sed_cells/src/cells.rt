@@ -1,5 +1,6 @@
 //! The cells of one object, or of the statics.
-ghost use Rattle.std.specs.Prelude.{◌≡◌, ◌++◌, ◌∷◌, [], map, IfOk, slice_get, slice_set, slice_index_or, length, false, if◌then◌else◌};
+ghost use Rattle.std.specs.Prelude.{◌≡◌, ◌++◌, ◌∷◌, [], map, IfOk, slice_get, slice_set, slice_index_or, length, false};
+ghost use Rattle.std.specs.Prelude.{if◌then◌else◌};
 ghost use Rattle.std.specs.Option.{option_copied, option_map, option_map_or};
 ghost use Rattle.sed_value.specs.declared.value.Value.{Value};
 ghost use Rattle.sed_value.specs.declared.value.Value.TheVariants as kept;

@@ -1,7 +1,8 @@
 //! A class with those above it, and its fields.
 ghost use Rattle.std.specs.Prelude.{◌≡◌, ◌++◌, IfOk, filter, ◌==◌, reverse};
 ghost use Rattle.std.specs.List.{flat_map};
-ghost use Rattle.sed_typed.specs.Classes.{base_of as base_of_class, lineage as lineage_of, declared_fields, fields as fields_in};
+ghost use Rattle.sed_typed.specs.Classes.{base_of as base_of_class, lineage as lineage_of, declared_fields};
+ghost use Rattle.sed_typed.specs.Classes.{fields as fields_in};
 
 use sed_typed::{ClassInfo, Field, Program};
 use sed_value::Memory;

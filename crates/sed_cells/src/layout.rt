@@ -1,6 +1,8 @@
 //! Layouts: the numbers of what stands in an object.
 ghost use Rattle.std.specs.Prelude.{◌≡◌, ◌≤◌, ◌<◌, ◌++◌, ◌∷◌, [], IfOk, length, map, replicate, slice_set, vec_len};
-ghost use Rattle.sed_cells.specs.Layouts.{Layout as LayoutSeen, IsLayout, IsGrowing, HasRoom, Piece, pieces_of, room_below, node_at, child, keeps_value, class_standing, HasFits, grown, children, node_of, starts, piece_of, element_of};
+ghost use Rattle.sed_cells.specs.Layouts.{Layout as LayoutSeen, IsLayout, IsGrowing, HasRoom, Piece, pieces_of};
+ghost use Rattle.sed_cells.specs.Layouts.{room_below, node_at, child, keeps_value, class_standing, HasFits, grown};
+ghost use Rattle.sed_cells.specs.Layouts.{children, node_of, starts, piece_of, element_of};
 ghost use Rattle.std.specs.Prelude.{Some, None, if◌then◌else◌};
 ghost use Rattle.std.specs.Option.{option_map};
 ghost use Rattle.sed_cells.specs.Places.{known};
@@ -108,7 +110,8 @@ impl Layout {
     /// The class of the object at a place.
     #[inline(always)]
     pub fn class_of(&self, place: usize) -> Option<TypeNo>
-        ensures { option_map (λ t. t.0) result ≡ class_standing (node_at self.now.nodes (known self.now.nodes place)).stands }
+        ensures { option_map (λ t. t.0) result
+            ≡ class_standing (node_at self.now.nodes (known self.now.nodes place)).stands }
     {
         match node_in(&self.nodes, self.known(place)).stands {
             Stands::Part(FieldForm::Object(class)) => Some(class),
@@ -119,7 +122,8 @@ impl Layout {
     /// The number of a place where a value is kept.
     #[inline(always)]
     pub fn cell(&self, place: usize) -> Option<usize>
-        ensures { result ≡ (if keeps_value (node_at self.now.nodes (known self.now.nodes place)).stands then Some (known self.now.nodes place) else None) }
+        ensures { result ≡ (if keeps_value (node_at self.now.nodes (known self.now.nodes place)).stands
+            then Some (known self.now.nodes place) else None) }
     {
         let known = self.known(place);
         match node_in(&self.nodes, known).stands {
@@ -164,8 +168,10 @@ fn grow(
 ) -> Result<(), Memory>
     requires { done < vec_len nodes.old }
     ensures nodes { IfOk result (λ _. nodes.new.items ≡ grown program.now nodes.old.items done) }
-    ensures values { IfOk result (λ _. fresh.new ≡ fresh.old ++ starts (pieces_of program.now (node_at nodes.old.items done).stands)) }
-    ensures room { IfOk result (λ _. HasRoom (node_at nodes.old.items done).stands (node_at nodes.old.items done).room) }
+    ensures values { IfOk result (λ _. fresh.new ≡ fresh.old
+        ++ starts (pieces_of program.now (node_at nodes.old.items done).stands)) }
+    ensures room { IfOk result (λ _.
+        HasRoom (node_at nodes.old.items done).stands (node_at nodes.old.items done).room) }
 {
     let node = nodes[done];
     let first = nodes.len();
@@ -192,7 +198,8 @@ fn push_pieces(
     nodes: &mut Vec<Node>,
     fresh: &mut Cells,
 ) -> Result<(), Memory>
-    ensures nodes { IfOk result (λ _. nodes.new.items ≡ nodes.old.items ++ children parent 0 (room_below stands room) (pieces_of program.now stands)) }
+    ensures nodes { IfOk result (λ _. nodes.new.items ≡ nodes.old.items
+        ++ children parent 0 (room_below stands room) (pieces_of program.now stands)) }
     ensures values { IfOk result (λ _. fresh.new ≡ fresh.old ++ starts (pieces_of program.now stands)) }
     ensures room { IfOk result (λ _. HasRoom stands room) }
 {
@@ -236,7 +243,8 @@ fn push_fields(
     nodes: &mut Vec<Node>,
     fresh: &mut Cells,
 ) -> Result<(), Memory>
-    ensures nodes { IfOk result (λ _. nodes.new.items ≡ nodes.old.items ++ children parent 0 room (map piece_of fields.now)) }
+    ensures nodes { IfOk result (λ _. nodes.new.items ≡ nodes.old.items
+        ++ children parent 0 room (map piece_of fields.now)) }
     ensures values { IfOk result (λ _. fresh.new ≡ fresh.old ++ starts (map piece_of fields.now)) }
 {
     for (step, field) in fields.iter().enumerate() {
@@ -264,7 +272,8 @@ fn push_elements(
     nodes: &mut Vec<Node>,
     fresh: &mut Cells,
 ) -> Result<(), Memory>
-    ensures nodes { IfOk result (λ _. nodes.new.items ≡ nodes.old.items ++ children parent 0 room (replicate count (element_of prim))) }
+    ensures nodes { IfOk result (λ _. nodes.new.items ≡ nodes.old.items
+        ++ children parent 0 room (replicate count (element_of prim))) }
     ensures values { IfOk result (λ _. fresh.new ≡ fresh.old ++ starts (replicate count (element_of prim))) }
 {
     let zero = zero_value(prim);

@@ -1,11 +1,13 @@
 //! A program with the layouts of its objects.
-ghost use Rattle.std.specs.Prelude.{◌≡◌, ◌≤◌, ◌<◌, ◌+◌, ◌++◌, ◌∷◌, [], ℕ, List, IfOk, IfSome, IfNone, Some, None, length, slice_get, slice_index_or, slice_set};
+ghost use Rattle.std.specs.Prelude.{◌≡◌, ◌≤◌, ◌<◌, ◌+◌, ◌++◌, ◌∷◌, [], ℕ, List, IfOk, IfSome, IfNone, Some, None};
+ghost use Rattle.std.specs.Prelude.{length, slice_get, slice_index_or, slice_set};
 ghost use Rattle.std.specs.Option.{option_map, option_map_or};
 ghost use Rattle.std.specs.Str.{bytes_eq};
 ghost use Rattle.sed_value.specs.declared.value.Value.{Value};
 ghost use Rattle.sed_value.specs.declared.value.Value.TheVariants as kept;
 ghost use Rattle.sed_typed.specs.Contents.{value_at, with_value};
-ghost use Rattle.sed_cells.specs.Places.{Plan as Planned, IsPlan, classes_in, place_of, contents_of, first_at, class_there, layout_at, known, walk, stands_at};
+ghost use Rattle.sed_cells.specs.Places.{Plan as Planned, IsPlan, classes_in, place_of, contents_of, first_at};
+ghost use Rattle.sed_cells.specs.Places.{class_there, layout_at, known, walk, stands_at};
 ghost use Rattle.sed_cells.specs.Layouts.{child, keeps_value};
 ghost use Rattle.sed_cells.specs.Nearest.{nearest_of};
 
@@ -43,7 +45,8 @@ impl Model for Plan {
 
     ghost view = { λ p. record { program = p.program; layouts = p.layouts.items } };
 
-    ghost invariant = { λ p. IsPlan (record { program = p.program; layouts = p.layouts.items }) × AreRows p.program p.rows.items };
+    ghost invariant = { λ p. IsPlan (record { program = p.program; layouts = p.layouts.items })
+        × AreRows p.program p.rows.items };
 }
 
 impl Plan {
@@ -89,8 +92,10 @@ impl Plan {
     pub fn inside(&self, top: usize, place: usize, step: usize) -> Option<usize>
         requires { top ≤ classes_in self.now }
         ensures found { IfSome result (λ m. place_of self.now top m ≡ place_of self.now top place ++ step ∷ []) }
-        ensures nothing { IfNone result ((values : List Value) (rest : List ℕ) → value_at (contents_of self.now top values) (place_of self.now top place ++ step ∷ rest) ≡ None) }
-        ensures no_class { IfNone result (class_there self.now.program top (place_of self.now top place ++ step ∷ []) ≡ None) }
+        ensures nothing { IfNone result ((values : List Value) (rest : List ℕ)
+            → value_at (contents_of self.now top values) (place_of self.now top place ++ step ∷ rest) ≡ None) }
+        ensures no_class { IfNone result
+            (class_there self.now.program top (place_of self.now top place ++ step ∷ []) ≡ None) }
     {
         self.layouts[top].step_from(place, step)
     }
@@ -108,8 +113,11 @@ impl Plan {
     #[inline(always)]
     pub fn cell(&self, top: usize, place: usize) -> Option<usize>
         requires { top ≤ classes_in self.now }
-        ensures read { (values : List Value) → value_at (contents_of self.now top values) (place_of self.now top place) ≡ option_map (λ n. slice_index_or values n kept.Nothing) result }
-        ensures written { IfSome result (λ n. (values : List Value) (v : Value) → n < length values → contents_of self.now top (slice_set values n v) ≡ with_value (contents_of self.now top values) (place_of self.now top place) v) }
+        ensures read { (values : List Value) → value_at (contents_of self.now top values) (place_of self.now top place)
+            ≡ option_map (λ n. slice_index_or values n kept.Nothing) result }
+        ensures written { IfSome result (λ n. (values : List Value) (v : Value) → n < length values
+            → contents_of self.now top (slice_set values n v)
+            ≡ with_value (contents_of self.now top values) (place_of self.now top place) v) }
     {
         self.layouts[top].cell(place)
     }

@@ -1,11 +1,11 @@
 //! Laws of the classes that units spell, where these break no rule on what they declare.
 //!
 //! No object stands in itself, so the size of an object is a sum that ends, and the program's data size of a class is
-//! the units' (`depth_laws`). The kits, the classes, the statics and the texts of the program that they spell are typed;
-//! of the names of kits and of the bytes in texts, of which no rule on declarations speaks, the laws take what the
-//! readers of manifests and of texts leave (`outlined_laws`). No two slots of a class have one name, and only components
-//! have any (`slotted_laws`). Each slot has its one field or its method, and the types of `sys` declare what they declare
-//! and no more (`actions_laws`). Each law is the contract of a function that does nothing.
+//! the units' (`depth_laws`). The kits, the classes, the statics and the texts of the program that they spell are
+//! typed; of the names of kits and of the bytes in texts, of which no rule on declarations speaks, the laws take what
+//! the readers of manifests and of texts leave (`outlined_laws`). No two slots of a class have one name, and only
+//! components have any (`slotted_laws`). Each slot has its one field or its method, and the types of `sys` declare what
+//! they declare and no more (`actions_laws`). Each law is the contract of a function that does nothing.
 #![tactic(auto)]
 
 mod actions_laws;

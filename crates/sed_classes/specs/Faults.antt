@@ -1,5 +1,6 @@
 -- The faults of units against the rules on classes and members, and the first of several faults.
-use Rattle.std.specs.Prelude.{ℕ, ◌+◌, Bool, ◌==◌, ◌&&◌, ◌||◌, nat_lt, if◌then◌else◌, List, [], ◌∷◌, ◌++◌, drop, map, Option, Some, None}
+use Rattle.std.specs.Prelude.{ℕ, ◌+◌, Bool, ◌==◌, ◌&&◌, ◌||◌, nat_lt, if◌then◌else◌, List, [], ◌∷◌, ◌++◌, drop, map}
+use Rattle.std.specs.Prelude.{Option, Some, None}
 use Rattle.std.specs.List.{flat_map}
 use Rattle.sed_units.specs.declared.leaves.Param.{Param}
 use Rattle.sed_units.specs.declared.classes.Member.{Member}
@@ -9,9 +10,12 @@ use Rattle.sed_classes.specs.declared.source_type.PlacedFault.{PlacedFault}
 use Rattle.sed_classes.specs.Declarations.{Declaration, all_classes}
 use Rattle.sed_classes.specs.Members.{form_params}
 use Rattle.sed_classes.specs.NameRules.{type_without_class, base_without_class, class_name_not_free, base_not_fit}
-use Rattle.sed_classes.specs.MemberRules.{name_repeated, inherited_name_taken, overrides_nothing, class_not_runnable, method_not_runnable, slot_not_fit}
+use Rattle.sed_classes.specs.MemberRules.{name_repeated, inherited_name_taken, overrides_nothing, class_not_runnable}
+use Rattle.sed_classes.specs.MemberRules.{method_not_runnable, slot_not_fit}
 use Rattle.sed_classes.specs.FieldRules.{object_not_fit, member_not_fit, param_not_fit, value_not_fit}
-use Rattle.sed_classes.specs.LimitRules.{too_many_types, too_many_params, too_many_methods, too_many_virtual, too_many_slots, too_large_config, too_large_runtime, too_much_data, too_many_statics, too_long_in_class, too_long_in_member, too_long_in_param}
+use Rattle.sed_classes.specs.LimitRules.{too_many_types, too_many_params, too_many_methods, too_many_virtual}
+use Rattle.sed_classes.specs.LimitRules.{too_many_slots, too_large_config, too_large_runtime, too_much_data}
+use Rattle.sed_classes.specs.LimitRules.{too_many_statics, too_long_in_class, too_long_in_member, too_long_in_param}
 use Rattle.sed_faults.specs.Faults.{said_from}
 
 -- the faults of a parameter of a method in a kit, by its number

@@ -1,6 +1,7 @@
 -- Rules on fields, types of members and initial values. Each gives the faults of a member or a parameter: where it
 -- breaks it.
-use Rattle.std.specs.Prelude.{ℕ, Bool, true, false, not, ◌==◌, ◌&&◌, ◌||◌, ◌+◌, nat_lt, if◌then◌else◌, List, [], ◌∷◌, ◌++◌, filter, length, is_none, Option, Some, None}
+use Rattle.std.specs.Prelude.{ℕ, Bool, true, false, not, ◌==◌, ◌&&◌, ◌||◌, ◌+◌, nat_lt, if◌then◌else◌, List, [], ◌∷◌}
+use Rattle.std.specs.Prelude.{◌++◌, filter, length, is_none, Option, Some, None}
 use Rattle.std.specs.List.{list_any, flat_map, enumerate_from}
 use Rattle.std.specs.Option.{option_map_or}
 use Rattle.sed_units.specs.declared.leaves.Init.{Init}
@@ -17,7 +18,8 @@ use Rattle.sed_classes.specs.Declarations.{Declaration, class_at}
 use Rattle.sed_classes.specs.SysSource.{component_class}
 use Rattle.sed_classes.specs.Bases.{is_below}
 use Rattle.sed_classes.specs.Types.{type_of, is_unknown, is_storable, is_void, is_field_type}
-use Rattle.sed_classes.specs.Members.{has_word, is_abstract_class, is_method, is_property, is_define, is_static, overrides, form_params, form_value}
+use Rattle.sed_classes.specs.Members.{has_word, is_abstract_class, is_method, is_property, is_define, is_static}
+use Rattle.sed_classes.specs.Members.{overrides, form_params, form_value}
 use Rattle.sed_classes.specs.Objects.{is_inline, has_field, inline_class, holds_itself}
 use Rattle.sed_classes.specs.Values.{constant_of, takes, is_text_below, define_leads_back}
 use Rattle.sed_faults.specs.Faults.{broken_if}

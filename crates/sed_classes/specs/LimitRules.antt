@@ -1,7 +1,9 @@
 -- The limits on classes, members, sizes and names. Each gives the faults of a class, a member or a parameter: where
 -- it passes it. A limit is passed at one place: at the declaration or literal that is one too many, or that makes a
 -- sum too large.
-use Rattle.std.specs.Prelude.{ℕ, zero, suc, ◌+◌, ◌*◌, ◌==◌, ◌&&◌, ◌||◌, Bool, true, false, not, nat_lt, nat_le, if◌then◌else◌, List, [], ◌∷◌, ◌++◌, count_by, filter, length, map, sum_by, take, Option, Some, None}
+use Rattle.std.specs.Prelude.{ℕ, zero, suc, ◌+◌, ◌*◌, ◌==◌, ◌&&◌, ◌||◌, Bool, true, false, not, nat_lt, nat_le}
+use Rattle.std.specs.Prelude.{if◌then◌else◌, List, [], ◌∷◌, ◌++◌, count_by, filter, length, map, sum_by, take, Option}
+use Rattle.std.specs.Prelude.{Some, None}
 use Rattle.std.specs.List.{list_any, flat_map, enumerate_from}
 use Rattle.std.specs.Str.{bytes_eq}
 use Rattle.sed_units.specs.declared.leaves.Facet.{Facet}
@@ -22,7 +24,8 @@ use Rattle.sed_classes.specs.declared.kit_units.KitUnits.{KitUnits}
 use Rattle.sed_faults.specs.declared.fault.Fault.{Fault}
 use Rattle.sed_classes.specs.Declarations.{Declaration, all_classes}
 use Rattle.sed_classes.specs.Bases.{bases}
-use Rattle.sed_classes.specs.Members.{kit_of, members_of, form_params, form_value, is_instance_field, is_static_field, is_method, is_open, overrides}
+use Rattle.sed_classes.specs.Members.{kit_of, members_of, form_params, form_value, is_instance_field, is_static_field}
+use Rattle.sed_classes.specs.Members.{is_method, is_open, overrides}
 use Rattle.sed_classes.specs.Objects.{data_of, field_size, data_size}
 use Rattle.sed_classes.specs.Slots.{shape_of}
 use Rattle.sed_faults.specs.Faults.{broken_if}

@@ -1,5 +1,6 @@
 -- The characters of a text literal.
-use Rattle.std.specs.Prelude.{ℕ, ◌-◌, Bool, true, false, ◌==◌, if◌then◌else◌, unwrap_or, take, drop, length, List, [], ◌∷◌}
+use Rattle.std.specs.Prelude.{ℕ, ◌-◌, Bool, true, false, ◌==◌, if◌then◌else◌, unwrap_or, take, drop, length, List, []}
+use Rattle.std.specs.Prelude.{◌∷◌}
 use Rattle.std.specs.Str.{byte}
 use Rattle.sed_lexer.specs.Spellings.{escaped}
 

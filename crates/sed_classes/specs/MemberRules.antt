@@ -1,5 +1,6 @@
 -- Rules on members and on what they override. Each gives the faults of a class or a member: where it breaks it.
-use Rattle.std.specs.Prelude.{ℕ, Bool, true, false, not, ◌==◌, ◌&&◌, ◌||◌, if◌then◌else◌, List, [], ◌∷◌, length, take, is_some, Option, Some, None, codes}
+use Rattle.std.specs.Prelude.{ℕ, Bool, true, false, not, ◌==◌, ◌&&◌, ◌||◌, if◌then◌else◌, List, [], ◌∷◌, length, take}
+use Rattle.std.specs.Prelude.{is_some, Option, Some, None, codes}
 use Rattle.std.specs.List.{list_all, list_any, zip}
 use Rattle.std.specs.Option.{option_map_or}
 use Rattle.sed_units.specs.declared.leaves.ModifierWord.TheVariants as word
@@ -13,7 +14,8 @@ use Rattle.sed_classes.specs.Declarations.{Declaration}
 use Rattle.sed_classes.specs.SysSource.{virtual_class, component_class}
 use Rattle.sed_classes.specs.Bases.{bases, is_below, lineage}
 use Rattle.sed_classes.specs.Types.{type_of, is_same_type, is_unknown, is_void, is_property_type, is_argument_type}
-use Rattle.sed_classes.specs.Members.{Owned, has_word, has_name, is_abstract_class, is_method, is_property, is_action, is_open, overrides, form_params, form_body, inherits, kit_of, members_of, nearest}
+use Rattle.sed_classes.specs.Members.{Owned, has_word, has_name, is_abstract_class, is_method, is_property, is_action}
+use Rattle.sed_classes.specs.Members.{is_open, overrides, form_params, form_body, inherits, kit_of, members_of, nearest}
 use Rattle.sed_faults.specs.Faults.{broken_if}
 
 -- ---- 4: a member has a name of its own in its class

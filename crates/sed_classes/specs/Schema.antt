@@ -1,5 +1,6 @@
 -- The schema of units.
-use Rattle.std.specs.Prelude.{ℕ, ◌+◌, ℤ, pos, zero, suc, Bool, true, false, ◌==◌, List, [], ◌∷◌, ◌++◌, length, map, position, slice_get, Option, Some, None, codes}
+use Rattle.std.specs.Prelude.{ℕ, ◌+◌, ℤ, pos, zero, suc, Bool, true, false, ◌==◌, List, [], ◌∷◌, ◌++◌, length, map}
+use Rattle.std.specs.Prelude.{position, slice_get, Option, Some, None, codes}
 use Rattle.std.specs.List.{filter_map, enumerate_from}
 use Rattle.std.specs.Option.{option_and_then, option_map}
 use Rattle.sed_value.specs.declared.kit.KitRef.{KitRef}

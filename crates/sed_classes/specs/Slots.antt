@@ -1,5 +1,6 @@
 -- The slots of a class.
-use Rattle.std.specs.Prelude.{ℕ, ◌+◌, Bool, true, false, not, ◌&&◌, ◌||◌, if◌then◌else◌, List, [], ◌∷◌, reverse, Option, Some, None}
+use Rattle.std.specs.Prelude.{ℕ, ◌+◌, Bool, true, false, not, ◌&&◌, ◌||◌, if◌then◌else◌, List, [], ◌∷◌, reverse, Option}
+use Rattle.std.specs.Prelude.{Some, None}
 use Rattle.std.specs.List.{filter_map, flat_map}
 use Rattle.sed_value.specs.declared.slot_type.Primitive.TheVariants as prim
 use Rattle.sed_value.specs.declared.slot_type.SlotType.{SlotType}
@@ -16,7 +17,8 @@ use Rattle.sed_classes.specs.declared.source_type.SourceType.{SourceType}
 use Rattle.sed_classes.specs.declared.source_type.SourceType.TheVariants.{Prim, Buf}
 use Rattle.sed_classes.specs.Bases.{lineage}
 use Rattle.sed_classes.specs.Types.{type_of}
-use Rattle.sed_classes.specs.Members.{kit_of, members_of, is_config, is_property, is_action, is_method, overrides, form_params}
+use Rattle.sed_classes.specs.Members.{kit_of, members_of, is_config, is_property, is_action, is_method, overrides}
+use Rattle.sed_classes.specs.Members.{form_params}
 
 -- the type of a property; what is none has no slot
 abbrev pub slot_type : SourceType → Option SlotType

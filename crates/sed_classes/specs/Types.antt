@@ -1,5 +1,6 @@
 -- What a type in a source stands for. A type whose name has no class is unknown: only the rule on names speaks of it.
-use Rattle.std.specs.Prelude.{ℕ, ◌+◌, ◌≤◌, pos, Bool, true, false, ◌==◌, ◌&&◌, ◌||◌, nat_le, if◌then◌else◌, ℤ, negsuc, List, length, drop, take_while, Option, Some, None, codes}
+use Rattle.std.specs.Prelude.{ℕ, ◌+◌, ◌≤◌, pos, Bool, true, false, ◌==◌, ◌&&◌, ◌||◌, nat_le, if◌then◌else◌, ℤ, negsuc}
+use Rattle.std.specs.Prelude.{List, length, drop, take_while, Option, Some, None, codes}
 use Rattle.std.specs.Int.{w32}
 use Rattle.std.specs.List.{starts_with}
 use Rattle.std.specs.Option.{option_map_or}
@@ -18,7 +19,8 @@ use Rattle.sed_units.specs.declared.leaves.TypeName.{TypeName}
 use Rattle.sed_units.specs.declared.leaves.TypeRef.{TypeRef}
 use Rattle.sed_classes.specs.declared.kit_units.KitUnits.{KitUnits}
 use Rattle.sed_classes.specs.declared.source_type.SourceType.{SourceType}
-use Rattle.sed_classes.specs.declared.source_type.SourceType.TheVariants.{Void, Prim, Text, SizedText, Buf, Array, Object, Unknown, Outside}
+use Rattle.sed_classes.specs.declared.source_type.SourceType.TheVariants.{Void, Prim, Text, SizedText, Buf, Array}
+use Rattle.sed_classes.specs.declared.source_type.SourceType.TheVariants.{Object, Unknown, Outside}
 use Rattle.sed_names.specs.Spelled.{integer_of}
 use Rattle.sed_classes.specs.Names.{class_of_name, is_text_name, is_buffer_name}
 

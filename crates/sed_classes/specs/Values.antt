@@ -1,5 +1,6 @@
 -- What initial values come to.
-use Rattle.std.specs.Prelude.{ℕ, zero, suc, ◌+◌, ℤ, pos, negsuc, ◌-ℤ◌, Bool, true, false, not, ◌==◌, ◌&&◌, ◌||◌, nat_lt, if◌then◌else◌, List, length, sum_by, Option, Some, None}
+use Rattle.std.specs.Prelude.{ℕ, zero, suc, ◌+◌, ℤ, pos, negsuc, ◌-ℤ◌, Bool, true, false, not, ◌==◌, ◌&&◌, ◌||◌, nat_lt}
+use Rattle.std.specs.Prelude.{if◌then◌else◌, List, length, sum_by, Option, Some, None}
 use Rattle.std.specs.Int.{w32, w64}
 use Rattle.sed_value.specs.Wrap.{wrap}
 use Rattle.sed_value.specs.Value.{kept, widened}

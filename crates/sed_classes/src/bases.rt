@@ -74,7 +74,8 @@ impl<'a> Model for Based<'a> {
 
     ghost view = { λ t. t.classes };
 
-    ghost invariant = { λ t. t.bases.items ≡ map (base_of t.classes) (range_with_len 0 (length (all_classes t.classes))) };
+    ghost invariant = { λ t. t.bases.items
+        ≡ map (base_of t.classes) (range_with_len 0 (length (all_classes t.classes))) };
 }
 
 impl<'a> Based<'a> {
@@ -144,7 +145,8 @@ impl<'a> Based<'a> {
 
 // The base of each class, by its place.
 fn bases_of(alloc: Global, classes: &Classes<'_>) -> Result<Vec<Option<usize>>, Memory>
-    ensures { IfOk result (λ v. v.items ≡ map (bases.base_of classes.now) (range_with_len 0 (length (declared.all_classes classes.now)))) }
+    ensures { IfOk result (λ v. v.items ≡ map (bases.base_of classes.now)
+        (range_with_len 0 (length (declared.all_classes classes.now)))) }
 {
     let mut all = Vec::new(alloc);
     for class in 0..classes.len() {

@@ -64,7 +64,8 @@ fn push_text<'a>(
     classes: &'a [Class],
 ) -> Result<(), Memory>
     requires { start ≤ length all.old.items }
-    ensures entries { OnOk result (declarations all.new.items ≡ declarations all.old.items ++ text_declares kit text (length all.old.items - start) classes.now) }
+    ensures entries { OnOk result (declarations all.new.items
+        ≡ declarations all.old.items ++ text_declares kit text (length all.old.items - start) classes.now) }
     ensures len { OnOk result (length all.new.items ≡ length all.old.items + length classes.now) }
 {
     for class in classes {

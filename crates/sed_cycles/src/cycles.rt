@@ -35,7 +35,8 @@ fn text_of(alloc: Global, program: Program, class: TypeNo, cycles: u32) -> Resul
     requires typed { Typed program }
     requires creatable { IsTrue (is_creatable (meaning_of program) class.0) }
     requires most_cycles { cycles ≤ 1000000 }
-    ensures { IfOk result (λ text. text.items ≡ meaning.printed (meaning_of program) (meaning.component_after program cycles class.0)) }
+    ensures { IfOk result (λ text. text.items
+        ≡ meaning.printed (meaning_of program) (meaning.component_after program cycles class.0)) }
 {
     let mut walker = Walker::new(alloc, program, MOST_DATA)?;
     let Ok(mut component) = add_component(&mut walker, class) else {
@@ -45,12 +46,12 @@ fn text_of(alloc: Global, program: Program, class: TypeNo, cycles: u32) -> Resul
     Ok(component_text(alloc, &walker, &component)?)
 }
 
-/// The lines of a component of a program's first class after so many cycles: its properties in the order of their slots, and
-/// its fault. Cycle n, counted from 1, is at the moment of n seconds, and has 10,000 turns; a faulted component is not
-/// executed.
+/// The lines of a component of a program's first class after so many cycles: its properties in the order of their
+/// slots, and its fault. Cycle n, counted from 1, is at the moment of n seconds, and has 10,000 turns; a faulted
+/// component is not executed.
 ///
-/// At most 1,000,000 cycles. The program's first class is a component type that is not abstract. Want of memory is the only
-/// refusal.
+/// At most 1,000,000 cycles. The program's first class is a component type that is not abstract. Want of memory is the
+/// only refusal.
 pub fn cycles_text(alloc: Global, program: Program, cycles: u32) -> Result<Vec<u8>, Memory>
     requires typed { Typed program }
     requires runnable { IsRunnable program }

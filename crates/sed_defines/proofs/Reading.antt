@@ -2,9 +2,9 @@
 use Rattle.std.proofs.Common.{◌≡◌, ◌<◌, ◌≤◌, ◌+◌, ◌-◌, ◌==◌, if◌then◌else◌, ◌&&◌, ◌||◌, Bool, true, false, ℕ, zero, suc, List, [], ◌∷◌, ◌++◌, drop, take, length, get_or, slice_get, Option, Some, None, refl, sym, ap, ◌∙◌, arith}
 use Rattle.std.specs.List.{sum_by}
 use Rattle.std.specs.Option.{option_map_or}
-use Rattle.std.proofs.lemmas.List.Sums.{sum_by-cons}
 use Rattle.std.proofs.Math.Numerals.{add-one}
 use Rattle.std.proofs.Math.Seq.{drop-cons}
+use Rattle.sed_value.proofs.Found.{sum_taken}
 use Rattle.sed_units.specs.declared.leaves.Init.{Init}
 use Rattle.sed_units.specs.declared.leaves.InitValue.{InitValue}
 use Rattle.sed_units.specs.declared.leaves.InitValue.TheVariants as init
@@ -171,16 +171,6 @@ counted bytes i byte count new slashed now h at n w f =
 
 -- ---- members of all classes
 
-get_more : {X : Type 0} (count : X → ℕ) (i : ℕ) (xs : List X) →
-    sum_by count (take (suc i) xs) ≡ sum_by count (take i xs) + option_map_or count (slice_get xs i) 0
-get_more count zero [] = refl
-get_more count (suc i) [] = refl
-get_more count zero (x ∷ xs) = refl
-get_more count (suc i) (x ∷ xs) =
-    sum_by-cons count x (take (suc i) xs)
-    ∙ ap (λ n. count x + n) (get_more count i xs)
-    ∙ omega (arith, sum_by-cons count x (take i xs))
-
 pub sum_more : {X : Type 0} (count : X → ℕ) (i : ℕ) (xs : List X) (far one new : ℕ) →
     one ≡ option_map_or count (slice_get xs i) 0 → new ≡ far + one → far ≡ sum_by count (take i xs) →
     new ≡ sum_by count (take (i + 1) xs)
@@ -188,4 +178,4 @@ sum_more count i xs far one new o n f =
     n
     ∙ ap (λ k. k + one) f
     ∙ ap (λ k. sum_by count (take i xs) + k) o
-    ∙ sym (ap (λ k. sum_by count (take k xs)) (add-one i) ∙ get_more count i xs)
+    ∙ sym (ap (λ k. sum_by count (take k xs)) (add-one i) ∙ sum_taken count i xs)

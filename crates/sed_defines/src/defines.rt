@@ -56,7 +56,8 @@ pub fn next_define<'a>(
     class: usize,
     value: Option<&Init>,
 ) -> Result<Option<Found<'a>>, Memory>
-    ensures { IfOk result (λ o. option_map owned_of o ≡ values.next_define based.now class (option_copied value.entry)) }
+    ensures { IfOk result (λ o. option_map owned_of o
+        ≡ values.next_define based.now class (option_copied value.entry)) }
 {
     match value {
         Some(init) => match &init.value {

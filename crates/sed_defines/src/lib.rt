@@ -1,7 +1,7 @@
 //! Initial values: what they come to, and the rule on them.
 //!
-//! A define may name another one. What it comes to is found by going from define to define and back, so nothing goes deeper
-//! on the stack than a call, however long the row of defines is.
+//! A define may name another one. What it comes to is found by going from define to define and back, so nothing goes
+//! deeper on the stack than a call, however long the row of defines is.
 #![tactic(auto)]
 
 mod constants;

@@ -36,7 +36,8 @@ fn value_goes_not(
     member: &Member,
     init: &Init,
 ) -> Result<bool, Memory>
-    ensures { IfOk result (λ b. b ≡ rules.is_no_value_of based.now class init.now (type_of based.now kit member.now.kind)) }
+    ensures { IfOk result (λ b. b ≡ rules.is_no_value_of based.now class
+        init.now (type_of based.now kit member.now.kind)) }
 {
     let kind = based.classes().type_of(kit, &member.kind);
     let value = constant_of(alloc, based, class, init)?;

@@ -12,8 +12,8 @@ use Rattle.sed_judged.specs.Bodies.{AreBodies, body_faults}
 
 -- ---- faults
 
--- all of them: of what is declared, of what stands in bodies, and of what `cycles` asks where it is that. A pair that never
--- comes first may be left out, or stand twice.
+-- all of them: of what is declared, of what stands in bodies, and of what `cycles` asks where it is that. A pair that
+-- never comes first may be left out, or stand twice.
 abbrev pub faults : List KitUnits → Bool → List PlacedFault
 faults units cycles = declared_faults units ++ body_faults units ++ cycle_faults units cycles
 
@@ -33,8 +33,8 @@ pub record IsFault (units : List KitUnits) (rule file at : ℕ) (f : PlacedFault
 
 -- ---- the program
 
--- What is declared, and each body as it is judged. A body is told by its term and its tree is flat, so there is one such
--- program, but for where its trees lie in memory.
+-- What is declared, and each body as it is judged. A body is told by its term and its tree is flat, so there is one
+-- such program, but for where its trees lie in memory.
 pub record IsSpelled (units : List KitUnits) (program : Program) : Type 0 where
   pub outlined : IsOutlined units program
   pub bodies : AreBodies units (methods_of units) (map (λ (m : Method). m.body) program.methods)

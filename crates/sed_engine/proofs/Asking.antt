@@ -1,13 +1,11 @@
 -- The parts of what may be asked.
-use Rattle.std.proofs.Common.{◌≡◌, ◌≤◌, ℕ, true, List, refl}
-use Rattle.std.specs.Prelude.{IsTrue}
-use Rattle.std.specs.Int.{w64}
-use Rattle.sed_value.specs.Value.{is_signed}
+use Rattle.std.proofs.Common.{◌≡◌, ℕ, true, List, refl}
 use Rattle.std.proofs.lemmas.Bool.{leb-true, le-leb, and_parts, and_from}
 use Rattle.std.proofs.lemmas.Slice.Eq.{slice_eq-Decides, bytes_eq-Decides}
 use Rattle.sed_typed.specs.Contents.{Contents, Shape}
+pub use Rattle.sed_engine.specs.Asked.{Asked}
 use Rattle.sed_engine.specs.Asked.{MayAsk, may_ask, do_fit, masked}
-use Rattle.sed_engine.specs.Code.{Meaning, Question, is_creatable, may_call}
+use Rattle.sed_engine.specs.Code.{Meaning, Question}
 use Rattle.sed_engine.specs.Fits.{Fits}
 
 told : (fields : ℕ → List Shape) (shapes : List Shape) (first contents : Contents) → do_fit fields shapes first contents ≡ true → Fits fields shapes first contents
@@ -15,15 +13,6 @@ told fields shapes first contents h = let parts = and_parts _ _ h in record { pa
 
 tells : (fields : ℕ → List Shape) (shapes : List Shape) (first contents : Contents) → Fits fields shapes first contents → do_fit fields shapes first contents ≡ true
 tells fields shapes first contents h = and_from _ _ ((slice_eq-Decides bytes_eq-Decides _ _ _ refl).1 h.paths) h.values
-
-pub record Asked (m : Meaning) (q : Question) : Type 0 where
-  pub creatable : IsTrue (is_creatable m q.class)
-  pub contents : Fits m.fields (m.fields q.class) (m.initial q.class) q.contents
-  pub statics : Fits m.fields m.static_fields m.initial_statics q.statics
-  pub argument : IsTrue (may_call m q.class q.which q.argument)
-  pub some_turns : 1 ≤ q.turns
-  pub most_turns : q.turns ≤ 1000000
-  pub moment : IsTrue (is_signed w64 q.moment)
 
 pub may_from : (m : Meaning) (q : Question) → MayAsk m q → Asked m q
 unfolding may_ask

@@ -30,7 +30,7 @@ use Rattle.sed_engine.proofs.FieldLists.{of_fields}
 abbrev pub has : Contents → Path → Bool
 has m path = list_any (λ (e : Path × Value). bytes_eq e.0 path) m
 
-has_front : (a b : Contents) (path : Path) → has a path ≡ true → has (a ++ b) path ≡ true
+pub has_front : (a b : Contents) (path : Path) → has a path ≡ true → has (a ++ b) path ≡ true
 has_front [] b path h = no h
 has_front (e ∷ es) b path h = go (bytes_eq e.0 path) (has_front es b path) h
   where
@@ -38,7 +38,7 @@ has_front (e ∷ es) b path h = go (bytes_eq e.0 path) (has_front es b path) h
     go true later h = refl
     go false later h = later h
 
-has_back : (a b : Contents) (path : Path) → has b path ≡ true → has (a ++ b) path ≡ true
+pub has_back : (a b : Contents) (path : Path) → has b path ≡ true → has (a ++ b) path ≡ true
 has_back [] b path h = h
 has_back (e ∷ es) b path h = go (bytes_eq e.0 path) (has_back es b path h)
   where

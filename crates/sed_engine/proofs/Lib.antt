@@ -24,6 +24,7 @@ pub mod FirstValues
 pub mod Asking
 pub mod MaskedCodes
 pub mod OneCode
+pub mod KeptSlots
 pub mod KeptObjects
 pub mod Numbering
 pub mod SchemaTables
@@ -40,6 +41,7 @@ pub mod Frames
 pub mod Ready
 pub mod Parts
 pub mod CallSteps
+pub mod StrBytes
 pub mod TextSteps
 pub mod TypedRuns
 pub mod TypedBodies

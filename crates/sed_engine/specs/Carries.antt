@@ -3,8 +3,8 @@ use Rattle.std.specs.Prelude.{ℕ, ◌≡◌, ◌<◌, IsSome, length}
 use Rattle.sed_engine.specs.Asked.{MayAsk}
 use Rattle.sed_engine.specs.Code.{Meaning, Question, slot_type}
 
--- one code has the schema of another and, at each class, its fields, first contents and size, at each property its field,
--- and at each question that it may be asked its answer
+-- one code has the schema of another and, at each class, its fields, first contents and size, at each property its
+-- field, and at each question that it may be asked its answer
 pub record Carries (m n : Meaning) : Type 0 where
   pub schema : m.schema ≡ n.schema
   pub fields : (class : ℕ) → class < length m.schema.classes → m.fields class ≡ n.fields class

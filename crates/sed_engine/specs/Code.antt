@@ -1,5 +1,6 @@
 -- A code, as everything above an engine knows it, and the objects that an engine keeps of it.
-use Rattle.std.specs.Prelude.{ℕ, ℤ, Bool, true, false, ◌==◌, ◌&&◌, not, sum_by, List, [], ◌∷◌, slice_get, Option, Some, None}
+use Rattle.std.specs.Prelude.{ℕ, ℤ, Bool, true, false, ◌==◌, ◌&&◌, not, sum_by, List, [], ◌∷◌, slice_get, Option, Some}
+use Rattle.std.specs.Prelude.{None}
 use Rattle.std.specs.Option.{option_map, option_map_or}
 use Rattle.std.specs.FinMap as map
 use Rattle.std.specs.Ordering.{nat_cmp}
@@ -79,7 +80,10 @@ slot_keeps m class slot v = option_map_or (λ t. stored t v) (slot_type m class 
 -- an object with another value in a slot
 abbrev pub with_slot : Meaning → Object → ℕ → Value → Object
 with_slot m o slot v =
-    record { class = o.class; contents = with_value o.contents (slot_path m o.class slot) (slot_keeps m o.class slot v) }
+    record {
+      class = o.class;
+      contents = with_value o.contents (slot_path m o.class slot) (slot_keeps m o.class slot v);
+    }
 
 -- a new object of a class
 abbrev pub new_object : Meaning → ℕ → Object
@@ -88,7 +92,15 @@ new_object m class = record { class = class; contents = m.initial class }
 -- what a root call on an object gives, and the object that it leaves
 abbrev pub asked_of : Object → Contents → Root-type → Value → ℕ → ℤ → Question
 asked_of o statics which argument turns moment =
-    record { class = o.class; contents = o.contents; statics = statics; which = which; argument = argument; turns = turns; moment = moment }
+    record {
+      class = o.class;
+      contents = o.contents;
+      statics = statics;
+      which = which;
+      argument = argument;
+      turns = turns;
+      moment = moment;
+    }
 
 abbrev pub root_of : Meaning → Object → Contents → Root-type → Value → ℕ → ℤ → RootEnd
 root_of m o statics which argument turns moment = m.root (asked_of o statics which argument turns moment)
@@ -106,7 +118,8 @@ is_property m class slot = option_map_or (λ _. true) (slot_type m class slot) f
 
 -- two slots that have a field each, and the same one: what is stored in the one is read in the other
 abbrev pub is_same_field : Meaning → ℕ → ℕ → ℕ → Bool
-is_same_field m class a b = option_map_or (λ i. option_map_or (λ j. i == j) (m.slot_field class b) false) (m.slot_field class a) false
+is_same_field m class a b =
+    option_map_or (λ i. option_map_or (λ j. i == j) (m.slot_field class b) false) (m.slot_field class a) false
 
 -- a value that may be stored in a slot of this class
 abbrev pub may_store : Meaning → ℕ → ℕ → Value → Bool

@@ -1,5 +1,6 @@
 -- What the operators compute.
-use Rattle.std.specs.Prelude.{ℕ, ℤ, pos, neg_ℤ, ◌+ℤ◌, ◌-ℤ◌, ◌*ℤ◌, int_lt, int_le, Bool, not, Option, Some, None, Result, Ok, Err, ◌==◌}
+use Rattle.std.specs.Prelude.{ℕ, ℤ, pos, neg_ℤ, ◌+ℤ◌, ◌-ℤ◌, ◌*ℤ◌, int_lt, int_le, Bool, not, Option, Some, None, Result}
+use Rattle.std.specs.Prelude.{Ok, Err, ◌==◌}
 use Rattle.std.specs.Int.{Width as Bits, w8, w16, w32, w64, int_bit_and, int_bit_or, int_bit_xor, int_bit_not}
 use Rattle.std.specs.Ordering.{int_eq}
 use Rattle.sed_value.specs.Wrap.{wrap, low_bits}

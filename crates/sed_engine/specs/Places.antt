@@ -35,13 +35,17 @@ abbrev pub fetch : Target → State → End Val
 fetch (OfLocal kind i) s = read_local kind i s
 fetch (OfStatic p i) s = read_spot (static_spot i) s
 fetch (OfField p object i) s = then_do (field_spot object i s) (λ spot s1. read_spot spot s1)
-fetch (OfElement p count object i index) s = then_do (field_element count object i index s) (λ spot s1. read_spot spot s1)
-fetch (OfStaticElement p count i index) s = then_do (element_spot count (static_spot i) index s) (λ spot s1. read_spot spot s1)
+fetch (OfElement p count object i index) s =
+    then_do (field_element count object i index s) (λ spot s1. read_spot spot s1)
+fetch (OfStaticElement p count i index) s =
+    then_do (element_spot count (static_spot i) index s) (λ spot s1. read_spot spot s1)
 
 -- stores into a target, with its tests
 abbrev pub put : Target → Val → State → End Val
 put (OfLocal kind i) v s = write_local i v s
 put (OfStatic p i) v s = write_spot p (static_spot i) v s
 put (OfField p object i) v s = then_do (field_spot object i s) (λ spot s1. write_spot p spot v s1)
-put (OfElement p count object i index) v s = then_do (field_element count object i index s) (λ spot s1. write_spot p spot v s1)
-put (OfStaticElement p count i index) v s = then_do (element_spot count (static_spot i) index s) (λ spot s1. write_spot p spot v s1)
+put (OfElement p count object i index) v s =
+    then_do (field_element count object i index s) (λ spot s1. write_spot p spot v s1)
+put (OfStaticElement p count i index) v s =
+    then_do (element_spot count (static_spot i) index s) (λ spot s1. write_spot p spot v s1)

@@ -1,5 +1,6 @@
 -- What a root call does.
-use Rattle.std.specs.Prelude.{ℕ, zero, suc, ℤ, List, [], codes, if◌then◌else◌, is_some, slice_get, slice_set, Option, Some, None, Result, Ok, Err}
+use Rattle.std.specs.Prelude.{ℕ, zero, suc, ℤ, List, [], codes, if◌then◌else◌, is_some, slice_get, slice_set, Option}
+use Rattle.std.specs.Prelude.{Some, None, Result, Ok, Err}
 use Rattle.sed_value.specs.declared.value.Value.{Value}
 use Rattle.sed_value.specs.declared.value.Value.TheVariants as kept
 use Rattle.sed_typed.specs.declared.kind.Kind.{Kind}
@@ -52,7 +53,8 @@ run_method w (Some m) frame shared = run_body w m.result m.body frame shared
 unfoldable pub calls_with : Program → ℕ → ℕ → Calls
 calls_with program class zero method frame shared = record { result = Err (Traps TooDeep); shared = shared }
 calls_with program class (suc frames) method frame shared =
-    run_method (record { program = program; class = class; calls = calls_with program class frames }) (slice_get program.methods method) frame shared
+    run_method (record { program = program; class = class; calls = calls_with program class frames })
+    (slice_get program.methods method) frame shared
 
 -- 32 frames at most are live, the root call's the first
 abbrev pub most_frames : ℕ
@@ -67,11 +69,12 @@ callback_name callback.Changed = codes "changed"
 abbrev pub method_at : Program → ℕ → List ℕ → Result (Option ℕ) Stop
 method_at program class name = map_ok (λ m. Some m) (there (find program class name))
 
--- the method of a callback, where `sys::Component` has one of that name, as that of a typed program does; else none, and
--- nothing is done
+-- the method of a callback, where `sys::Component` has one of that name, as that of a typed program does; else none,
+-- and nothing is done
 abbrev pub callback_method : Program → ℕ → List ℕ → Result (Option ℕ) Stop
 callback_method program class name =
-    and_then (there (type_at program.schema.classes 0 component_type)) (λ (component : ℕ). if is_some (find program component name) then method_at program class name else Ok None)
+    and_then (there (type_at program.schema.classes 0 component_type))
+    (λ (component : ℕ). if is_some (find program component name) then method_at program class name else Ok None)
 
 -- what a root call runs: the nearest method at or above the class
 abbrev pub root_method : Program → ℕ → Root-type → Result (Option ℕ) Stop

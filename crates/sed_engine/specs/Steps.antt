@@ -7,7 +7,8 @@ use Rattle.sed_typed.specs.declared.kind.Kind.{Kind}
 use Rattle.sed_typed.specs.Contents.{Contents, value_at, with_value}
 use Rattle.sed_engine.specs.declared.trap.Trap.TheVariants.{TurnsSpent}
 use Rattle.sed_engine.specs.Stops.{Stop, Traps, Untyped, there, map_ok}
-use Rattle.sed_engine.specs.Values.{Val, Nothing, Long, Base, Component, Statics, Spot, is_met, read_as, stored_as, bytes_of, is_alike, begun, receiver}
+use Rattle.sed_engine.specs.Values.{Val, Nothing, Long, Base, Component, Statics, Spot, is_met, read_as, stored_as}
+use Rattle.sed_engine.specs.Values.{bytes_of, is_alike, begun, receiver}
 use Rattle.sed_engine.specs.State.{Shared, State, End, gives, answers, then_do}
 
 -- the place of a field or an element
@@ -76,7 +77,8 @@ read_this s = then_do (local_at 0 s) (λ v s1. answers (receiver v) s1)
 
 abbrev pub write_local : ℕ → Val → State → End Val
 write_local i v s =
-    then_do (answers (with_local s.locals i v) s) (λ locals s1. gives v (record { shared = s1.shared; locals = locals }))
+    then_do (answers (with_local s.locals i v) s) (λ locals s1.
+    gives v (record { shared = s1.shared; locals = locals }))
 
 -- ---- moment and turns
 
@@ -92,4 +94,7 @@ turn_taken s = record { contents = s.contents; statics = s.statics; turns = s.tu
 
 -- takes a turn; where none is left it traps
 abbrev pub take_turn : State → End (Unit {0})
-take_turn s = record { result = turn_of s.shared.turns; state = record { shared = turn_taken s.shared; locals = s.locals } }
+take_turn s = record {
+  result = turn_of s.shared.turns;
+  state = record { shared = turn_taken s.shared; locals = s.locals };
+}

@@ -1,5 +1,6 @@
 -- Strs and Bufs: what their calls answer, and what they leave.
-use Rattle.std.specs.Prelude.{ℕ, ◌-◌, ◌==◌, ℤ, pos, negsuc, nat_lt, not, if◌then◌else◌, List, [], ◌∷◌, ◌++◌, length, take, take_while, replicate, slice_set, Result, Ok, Err}
+use Rattle.std.specs.Prelude.{ℕ, ◌-◌, ◌==◌, ℤ, pos, negsuc, nat_lt, not, if◌then◌else◌, List, [], ◌∷◌, ◌++◌, length}
+use Rattle.std.specs.Prelude.{take, take_while, replicate, slice_set, Result, Ok, Err}
 use Rattle.std.specs.Int.{w8}
 use Rattle.sed_value.specs.Wrap.{low_bits}
 use Rattle.sed_typed.specs.declared.operators.Width.TheVariants as width

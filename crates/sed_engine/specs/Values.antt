@@ -1,5 +1,6 @@
 -- The values that expressions come to, and how they are kept.
-use Rattle.std.specs.Prelude.{ℕ, ◌-◌, ◌==◌, ◌&&◌, ◌||◌, ℤ, pos, Bool, true, false, not, if◌then◌else◌, List, length, slice_index, Result, Ok, Err}
+use Rattle.std.specs.Prelude.{ℕ, ◌-◌, ◌==◌, ◌&&◌, ◌||◌, ℤ, pos, Bool, true, false, not, if◌then◌else◌, List, length}
+use Rattle.std.specs.Prelude.{slice_index, Result, Ok, Err}
 use Rattle.std.specs.Str.{bytes_eq}
 pub use Rattle.sed_value.specs.Value.{are_bytes}
 use Rattle.sed_value.specs.Value.{stored, widened, is_of_type}
@@ -113,7 +114,8 @@ last_byte bytes = slice_index bytes (length bytes - 1)
 
 -- bytes that may stand where others are: as many, and with a last 0 where there was one
 abbrev pub are_alike : List ℕ → Value → Bool
-are_alike old (kept.Buf new) = are_bytes new && (length new == length old) && (not (last_byte old == 0) || (last_byte new == 0))
+are_alike old (kept.Buf new) = are_bytes new && (length new == length old)
+    && (not (last_byte old == 0) || (last_byte new == 0))
 are_alike old v = false
 
 -- a value that may stand where another is: it is of the same type

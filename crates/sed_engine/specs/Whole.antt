@@ -1,5 +1,6 @@
 -- What everything above a code relies on.
-use Rattle.std.specs.Prelude.{ℕ, ◌≡◌, ◌==◌, ◌<◌, ◌≤◌, true, IsTrue, All, IfSome, IsSome, IsSomeAnd, [], length, count_by, slice_get, codes, Some, None}
+use Rattle.std.specs.Prelude.{ℕ, ◌≡◌, ◌==◌, ◌<◌, ◌≤◌, true, IsTrue, All, IfSome, IsSome, IsSomeAnd, [], length}
+use Rattle.std.specs.Prelude.{count_by, slice_get, codes, Some, None}
 use Rattle.std.specs.Int.{w64}
 use Rattle.sed_value.specs.Value.{is_signed}
 use Rattle.sed_value.specs.declared.slot_type.SlotType.{SlotType}
@@ -14,7 +15,8 @@ use Rattle.sed_typed.specs.Classes.{base_of, slots}
 use Rattle.sed_typed.specs.Contents.{value_at}
 use Rattle.sed_typed.specs.Sizes.{config_size, runtime_size}
 use Rattle.sed_typed.specs.TypedSchema.{Begins, types_at, is_below_sys}
-pub use Rattle.sed_typed.specs.SysTypes.{HasSysTypes, HasSysType, IsSysType, component_type, app_type, meta_slot, save_slot}
+pub use Rattle.sed_typed.specs.SysTypes.{HasSysTypes, HasSysType, IsSysType, component_type, app_type, meta_slot}
+pub use Rattle.sed_typed.specs.SysTypes.{save_slot}
 use Rattle.sed_engine.specs.declared.call.CallEnd.{CallEnd}
 use Rattle.sed_engine.specs.declared.call.CallEnd.TheVariants.{Done, Trap}
 use Rattle.sed_engine.specs.Asked.{MayAsk, unasked}
@@ -29,7 +31,8 @@ HasBufSize (Prop (slot.Prim p)) = Unit {0}
 HasBufSize (Prop (slot.Buf n)) = (1 ≤ n) × (n ≤ 128)
 HasBufSize (Action a) = Unit {0}
 
--- 16 kits with `sys`, 64 types to a kit; to a class 64 slots, 65,535 bytes of data, and 400 bytes each of config and runtime values
+-- 16 kits with `sys`, 64 types to a kit; to a class 64 slots, 65,535 bytes of data, and 400 bytes each of config and
+-- runtime values
 pub record KeepsLimits (schema : Schema) : Type 0 where
   pub kits : length schema.kits ≤ 16
   pub types : (kit : ℕ) → count_by (λ c. c.kit == kit) schema.classes ≤ 64
@@ -80,10 +83,14 @@ pub record HasTables (m : Meaning) : Type 0 where
   pub bases : (class base : ℕ) → base_of m.schema.classes class ≡ Some base → FollowsBase m class base
   pub sizes : (class : ℕ) → IfSome (slice_get m.schema.classes class) (λ c. m.data_size class ≡ c.size)
   -- a property has a field of its form, and what is no property has none
-  pub slot_fields : (class n : ℕ) → IfSome (slot_type m class n) (λ t. IsSomeAnd (m.slot_field class n) (λ i. form_at (m.fields class) i ≡ Some (field_form t)))
+  pub slot_fields : (class n : ℕ)
+      → IfSome (slot_type m class n) (λ t.
+      IsSomeAnd (m.slot_field class n) (λ i. form_at (m.fields class) i ≡ Some (field_form t)))
   pub no_fields : (class n : ℕ) → slot_type m class n ≡ None → m.slot_field class n ≡ None
-  pub values : (class n : ℕ) → IfSome (slot_type m class n) (λ t. IsSome (value_at (m.initial class) (slot_path m class n)))
-  pub first : (class : ℕ) → class < length m.schema.classes → Fits m.fields (m.fields class) (m.initial class) (m.initial class)
+  pub values : (class n : ℕ)
+      → IfSome (slot_type m class n) (λ t. IsSome (value_at (m.initial class) (slot_path m class n)))
+  pub first : (class : ℕ) → class < length m.schema.classes
+      → Fits m.fields (m.fields class) (m.initial class) (m.initial class)
   pub first_statics : Fits m.fields m.static_fields m.initial_statics m.initial_statics
   pub beyond : (class : ℕ) → length m.schema.classes ≤ class → SaysNothing m class
 
@@ -92,8 +99,10 @@ pub record HasTables (m : Meaning) : Type 0 where
 -- what a root call leaves fits, where what it was given fits
 abbrev pub RootFits : Meaning → Type 0
 RootFits m =
-    (q : Question) → Fits m.fields (m.fields q.class) (m.initial q.class) q.contents → Fits m.fields m.static_fields m.initial_statics q.statics →
-    Fits m.fields (m.fields q.class) (m.initial q.class) (m.root q).contents × Fits m.fields m.static_fields m.initial_statics (m.root q).statics
+    (q : Question) → Fits m.fields (m.fields q.class) (m.initial q.class) q.contents
+    → Fits m.fields m.static_fields m.initial_statics q.statics →
+    Fits m.fields (m.fields q.class) (m.initial q.class) (m.root q).contents
+    × Fits m.fields m.static_fields m.initial_statics (m.root q).statics
 
 -- a root call with so many turns ends normally and leaves no more of them, or ends by one of the five traps
 abbrev pub EndsWell : ℕ → CallEnd → Type 0
@@ -106,8 +115,8 @@ pub record AnswersWell (m : Meaning) (q : Question) : Type 0 where
   pub statics : Fits m.fields m.static_fields m.initial_statics (m.root q).statics
   pub end : EndsWell q.turns (m.root q).end
 
--- A code that may be run: what is said of it in whole. It answers well whatever it may be asked, and all else in one way, by
--- which nothing changes, and which tells of no trap.
+-- A code that may be run: what is said of it in whole. It answers well whatever it may be asked, and all else in one
+-- way, by which nothing changes, and which tells of no trap.
 pub record IsWhole (m : Meaning) : Type 0 where
   pub tables : HasTables m
   pub unasked : (q : Question) → (MayAsk m q → ⊥) → m.root q ≡ unasked q
@@ -116,7 +125,8 @@ pub record IsWhole (m : Meaning) : Type 0 where
 -- a root call on a component ends well, with any number of turns
 abbrev pub NeverGoesWrong : Meaning → Type 0
 NeverGoesWrong m =
-    (q : Question) → IsTrue (is_creatable m q.class) → Fits m.fields (m.fields q.class) (m.initial q.class) q.contents → Fits m.fields m.static_fields m.initial_statics q.statics →
+    (q : Question) → IsTrue (is_creatable m q.class) → Fits m.fields (m.fields q.class) (m.initial q.class) q.contents
+    → Fits m.fields m.static_fields m.initial_statics q.statics →
     IsTrue (may_call m q.class q.which q.argument) → IsTrue (is_signed w64 q.moment) → EndsWell q.turns (m.root q).end
 
 -- ---- objects

@@ -1,9 +1,11 @@
 //! The trait of an engine.
 
-ghost use Rattle.std.specs.Prelude.{◌≡◌, ◌↔◌, ℕ, ◌+◌, ◌<◌, ◌≤◌, Bool, false, IsTrue, IfOk, OnErr, IfSome, IsSome, IsSomeAnd};
+ghost use Rattle.std.specs.Prelude.{◌≡◌, ◌↔◌, ℕ, ◌+◌, ◌<◌, ◌≤◌, Bool, false, IsTrue, IfOk, OnErr, IfSome, IsSome};
+ghost use Rattle.std.specs.Prelude.{IsSomeAnd};
 ghost use Rattle.std.specs.FinMap as map;
 ghost use Rattle.sed_typed.specs.Contents.{Contents};
-ghost use Rattle.sed_engine.specs.Code.{Meaning, Places, is_creatable, is_property, is_same_field, may_store, may_call, data_of, new_object, slot_value, with_slot, root_of, called};
+ghost use Rattle.sed_engine.specs.Code.{Meaning, Places, is_creatable, is_property, is_same_field, may_store, may_call};
+ghost use Rattle.sed_engine.specs.Code.{data_of, new_object, slot_value, with_slot, root_of, called};
 ghost use Rattle.sed_engine.specs.Fits.{Fits};
 ghost use Rattle.sed_engine.specs.Whole.{IsObject, IsWhole};
 
@@ -37,10 +39,11 @@ pub trait Engine: Drop {
         ensures same { result.now ≡ (meaning self.now).schema }
         ensures whole { IsWhole (meaning self.now) }
         ensures objects { (p : ℕ) → IfSome (map.get (live self.now) p) (IsObject (meaning self.now)) }
-        ensures statics { Fits (meaning self.now).fields (meaning self.now).static_fields (meaning self.now).initial_statics (statics self.now) };
+        ensures statics { Fits (meaning self.now).fields (meaning self.now).static_fields
+            (meaning self.now).initial_statics (statics self.now) };
 
-    /// Whether two properties of a class are kept in one field, so that what is stored in the one is read in the other. A
-    /// property is kept in one field with itself.
+    /// Whether two properties of a class are kept in one field, so that what is stored in the one is read in the other.
+    /// A property is kept in one field with itself.
     fn same_field(&self, t: TypeNo, a: SlotNo, b: SlotNo) -> bool
         requires first { IsTrue (is_property (meaning self.now) t.0 a.0) }
         requires other { IsTrue (is_property (meaning self.now) t.0 b.0) }
@@ -54,9 +57,11 @@ pub trait Engine: Drop {
         requires creatable { IsTrue (is_creatable (meaning self.old) t.0) }
         requires few { map.len (live self.old) < 4096 }
         ensures fresh { IfOk result (λ p. map.get (live self.old) p.0 ≡ None) }
-        ensures added { IfOk result (λ p. live self.new ≡ map.insert (live self.old) p.0 (new_object (meaning self.old) t.0)) }
+        ensures added { IfOk result (λ p. live self.new
+            ≡ map.insert (live self.old) p.0 (new_object (meaning self.old) t.0)) }
         ensures refused { OnErr result (live self.new ≡ live self.old) }
-        ensures full { (result ≡ Err AddRefusal.DataFull) ↔ (limit self.old < data_of (meaning self.old) (live self.old) + (meaning self.old).data_size t.0) }
+        ensures full { (result ≡ Err AddRefusal.DataFull) ↔ (limit self.old
+            < data_of (meaning self.old) (live self.old) + (meaning self.old).data_size t.0) }
         ensures memory { result ≡ Err AddRefusal.Memory → fixed self.old ≡ false }
         ensures meaning { meaning self.new ≡ meaning self.old }
         ensures statics { statics self.new ≡ statics self.old }
@@ -80,8 +85,10 @@ pub trait Engine: Drop {
     /// Stores a value in a property, as an assignment does: a byte keeps the low 8 bits of a number
     /// and a short the low 16. Nothing else changes.
     fn set(&mut self, p: Place, s: SlotNo, v: &SlotBuf)
-        requires { IsSomeAnd (map.get (live self.old) p.0) (λ o. IsTrue (may_store (meaning self.old) o.class s.0 v.now)) }
-        ensures written { IfSome (map.get (live self.old) p.0) (λ o. live self.new ≡ map.insert (live self.old) p.0 (with_slot (meaning self.old) o s.0 v.now)) }
+        requires { IsSomeAnd (map.get (live self.old) p.0) (λ o.
+            IsTrue (may_store (meaning self.old) o.class s.0 v.now)) }
+        ensures written { IfSome (map.get (live self.old) p.0) (λ o.
+            live self.new ≡ map.insert (live self.old) p.0 (with_slot (meaning self.old) o s.0 v.now)) }
         ensures meaning { meaning self.new ≡ meaning self.old }
         ensures statics { statics self.new ≡ statics self.old }
         ensures limit { limit self.new ≡ limit self.old }
@@ -92,12 +99,17 @@ pub trait Engine: Drop {
     /// It ends as the code's root call does, and leaves the contents and statics that this leaves;
     /// the other places stay. `arg` is the action's argument, and `Nothing` where there is none.
     fn call(&mut self, p: Place, r: Root, arg: &SlotBuf, turns: u32, ticks: i64) -> CallEnd
-        requires live { IsSomeAnd (map.get (live self.old) p.0) (λ o. IsTrue (may_call (meaning self.old) o.class r arg.now)) }
+        requires live { IsSomeAnd (map.get (live self.old) p.0) (λ o.
+            IsTrue (may_call (meaning self.old) o.class r arg.now)) }
         requires some_turns { 1 ≤ turns }
         requires most_turns { turns ≤ 1000000 }
-        ensures end { IfSome (map.get (live self.old) p.0) (λ o. result ≡ (root_of (meaning self.old) o (statics self.old) r arg.now turns ticks).end) }
-        ensures left { IfSome (map.get (live self.old) p.0) (λ o. live self.new ≡ map.insert (live self.old) p.0 (called o (root_of (meaning self.old) o (statics self.old) r arg.now turns ticks))) }
-        ensures statics { IfSome (map.get (live self.old) p.0) (λ o. statics self.new ≡ (root_of (meaning self.old) o (statics self.old) r arg.now turns ticks).statics) }
+        ensures end { IfSome (map.get (live self.old) p.0) (λ o. result
+            ≡ (root_of (meaning self.old) o (statics self.old) r arg.now turns ticks).end) }
+        ensures left { IfSome (map.get (live self.old) p.0) (λ o. live self.new
+            ≡ map.insert (live self.old) p.0
+            (called o (root_of (meaning self.old) o (statics self.old) r arg.now turns ticks))) }
+        ensures statics { IfSome (map.get (live self.old) p.0) (λ o.
+            statics self.new ≡ (root_of (meaning self.old) o (statics self.old) r arg.now turns ticks).statics) }
         ensures meaning { meaning self.new ≡ meaning self.old }
         ensures limit { limit self.new ≡ limit self.old }
         ensures fixed { fixed self.new ≡ fixed self.old };

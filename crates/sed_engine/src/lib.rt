@@ -17,6 +17,6 @@ pub use engine::Engine;
 pub use laws::{
     carried_codes_are_one, masked_codes_answer, masked_codes_are_whole, more_turns_end_alike,
     paths_stay, turns_do_not_grow, typed_programs_are_whole, typed_programs_never_go_wrong,
-    what_is_kept_fits, what_is_left_fits,
+    what_is_kept_fits, what_is_left_fits, what_may_be_asked,
 };
 pub use trap::Trap;

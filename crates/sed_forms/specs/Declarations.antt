@@ -1,5 +1,5 @@
--- The rules on declarations of locals and parameters. They are broken at the first byte of the declaration, but rule 1 at the name
--- that has no class, and rule 15 at the initial value.
+-- The rules on declarations of locals and parameters. They are broken at the first byte of the declaration, but rule 1
+-- at the name that has no class, and rule 15 at the initial value.
 use Rattle.std.specs.Prelude.{ℕ, ◌==◌, Bool, nat_lt, not, if◌then◌else◌, is_some, List, [], ◌∷◌}
 use Rattle.sed_units.specs.declared.leaves.Param.{Param}
 use Rattle.sed_units.specs.declared.leaves.TypeRef.{TypeRef}
@@ -22,8 +22,8 @@ is_storable m at (Is k) = Sound k
 is_storable m at (NoClass name_at) = Unknown (m.one (broken 1 name_at))
 is_storable m at Outside = Unknown (m.one (broken 10 at))
 
--- Rule 22: there is a number left for it. It is broken at the first local past the limit; those behind that one have no number
--- either, and no fault of their own.
+-- Rule 22: there is a number left for it. It is broken at the first local past the limit; those behind that one have no
+-- number either, and no fault of their own.
 abbrev pub has_number : {F : Type 0} → Marks F → ℕ → ℕ → ℕ → Judged ℕ F
 has_number m at limit next =
     if nat_lt next limit then Sound next else if next == limit then Unknown (m.one (broken 22 at)) else Unknown m.none
@@ -41,7 +41,8 @@ new_number m at s name =
 
 -- a local that is declared at a place: its kind and its number
 abbrev pub declared : {F : Type 0} → Marks F → Names → Scope → ℕ → TypeRef → List ℕ → Judged (Kind × ℕ) F
-declared m n s at type name = joined m (is_storable m at (type_meaning n type)) (new_number m at s name) (λ k i. Sound (k, i))
+declared m n s at type name =
+    joined m (is_storable m at (type_meaning n type)) (new_number m at s name) (λ k i. Sound (k, i))
 
 -- ---- the statement
 
@@ -52,7 +53,8 @@ begun_bare l = after {A = Kind × ℕ} l (λ p. Sound (leaf (sign.Begin p.0 p.1)
 -- with one, which stands at this place and goes to the local by rule 15
 abbrev pub begun : {F : Type 0} → Marks F → Names → Judged (Kind × ℕ) F → ℕ → Judged Term F → Judged Term F
 begun m n l at x =
-    joined {A = Kind × ℕ} m l x (λ p t. after (going m n.below p.0 at t) (λ v. Sound (Node (sign.Begin p.0 p.1) v Absent)))
+    joined {A = Kind × ℕ} m l x (λ p t.
+    after (going m n.below p.0 at t) (λ v. Sound (Node (sign.Begin p.0 p.1) v Absent)))
 
 -- ---- parameters
 
@@ -64,4 +66,5 @@ free_too m x y = joined m x y (λ a b. Sound b)
 abbrev pub are_free_names : {F : Type 0} → Marks F → Names → Scope → Judged Bool F → List Param → Judged Bool F
 are_free_names m n s x [] = x
 are_free_names m n s x (p ∷ ps) =
-    are_free_names m n (with_local n s p.kind p.name.bytes) (free_too m x (has_free_name m p.at (is_free s p.name.bytes))) ps
+    are_free_names m n (with_local n s p.kind p.name.bytes)
+    (free_too m x (has_free_name m p.at (is_free s p.name.bytes))) ps

@@ -1,5 +1,5 @@
--- Rule 20: a case is an int literal or a define of an int, no two cases of a `switch` are of one value, and it has one default at
--- most. The rule is broken at the expression of a case, and at a `default`.
+-- Rule 20: a case is an int literal or a define of an int, no two cases of a `switch` are of one value, and it has one
+-- default at most. The rule is broken at the expression of a case, and at a `default`.
 use Rattle.std.specs.Prelude.{ℕ, ℤ, Bool, not, List, [], ◌∷◌, ◌++◌, Option}
 use Rattle.std.specs.List.{list_any}
 use Rattle.sed_typed.specs.declared.statement.Label.{Label}
@@ -28,7 +28,8 @@ new_case m labels at i = unless m (is_new_case labels i) (broken 20 at) (Case i)
 abbrev pub spelled_case : {F : Type 0} → Marks F → List Label → ℕ → Option ℤ → Judged Label F
 spelled_case m labels at spelled = after (some_or m (broken 20 at) spelled) (λ i. new_case m labels at i)
 
--- A case at a place, behind these labels, with what its expression comes to. Of one with a fault inside the rule does not speak.
+-- A case at a place, behind these labels, with what its expression comes to. Of one with a fault inside the rule does
+-- not speak.
 abbrev pub case_of : {F : Type 0} → Marks F → List Label → ℕ → Option ℤ → Judged Term F → Judged Label F
 case_of m labels at spelled x = after x (λ t. spelled_case m labels at spelled)
 
@@ -45,7 +46,8 @@ with_label labels (Unknown f) = labels
 -- the labels so far and their statements, with one more label and the row of statements behind it
 abbrev pub with_case : {F : Type 0} → Marks F → Judged Term F → Judged Label F → Judged Term F → Judged Term F
 with_case m xs l all =
-    joined {B = Label × Term} m xs (paired m l all) (λ ts p. Sound (appended ts (Node (sign.Label p.0) (Node sign.Block p.1 Absent) Absent)))
+    joined {B = Label × Term} m xs (paired m l all) (λ ts p.
+    Sound (appended ts (Node (sign.Label p.0) (Node sign.Block p.1 Absent) Absent)))
 
 -- the value, with its place, is an int by rule 13
 abbrev pub switched : {F : Type 0} → Marks F → ℕ → Judged Term F → Judged Term F → Judged Term F

@@ -12,7 +12,8 @@ use Rattle.sed_conversions.specs.Wants.{truth}
 -- a condition, with its place
 abbrev pub conditional : {F : Type 0} → Marks F → ℕ → Judged Term F → Judged Term F → Judged Term F → Judged Term F
 conditional m at t x y =
-    joined {B = Term × Term} m (truth m at t) (paired m x y) (λ c both. Sound (Node sign.If c (Node sign.Pair both.0 both.1)))
+    joined {B = Term × Term} m (truth m at t) (paired m x y) (λ c both.
+    Sound (Node sign.If c (Node sign.Pair both.0 both.1)))
 
 abbrev pub repeated : {F : Type 0} → Marks F → ℕ → Judged Term F → Judged Term F → Judged Term F
 repeated m at t x = joined m (truth m at t) x (λ c u. Sound (Node sign.While c u))
@@ -27,7 +28,10 @@ test_of m at t = after (truth m at t) (λ c. Sound (Some c))
 abbrev pub last_of : {F : Type 0} → Judged Term F → Judged (Option Term) F
 last_of x = after x (λ t. Sound (Some t))
 
-abbrev pub repeated_for : {F : Type 0} → Marks F → Judged Term F → Judged (Option Term) F → Judged (Option Term) F → Judged Term F → Judged Term F
+abbrev pub repeated_for : {F : Type 0} → Marks F → Judged Term F → Judged (Option Term) F
+    → Judged (Option Term) F → Judged Term F → Judged Term F
 repeated_for m first test last x =
-    joined {A = Term × (Option Term × Option Term)} m (paired {B = Option Term × Option Term} m first (paired m test last)) x
-    (λ head u. Sound (Node sign.For (Node sign.Pair head.0 (Node sign.Pair (optional head.1.0) (optional (option_map discarded head.1.1)))) u))
+    joined {A = Term × (Option Term × Option Term)} m
+    (paired {B = Option Term × Option Term} m first (paired m test last)) x
+    (λ head u. Sound (Node sign.For
+    (Node sign.Pair head.0 (Node sign.Pair (optional head.1.0) (optional (option_map discarded head.1.1)))) u))

@@ -1,5 +1,6 @@
--- Rule 19: a value is returned exactly where the method has a result, and goes to it. Of a result that is declared with a fault the
--- rule does not speak. Nothing asks that a body returns: where its end is reached, the answer is 0, false or null.
+-- Rule 19: a value is returned exactly where the method has a result, and goes to it. Of a result that is declared with
+-- a fault the rule does not speak. Nothing asks that a body returns: where its end is reached, the answer is 0, false
+-- or null.
 use Rattle.std.specs.Prelude.{ℕ, Option, Some, None}
 use Rattle.sed_typed.specs.declared.kind.Kind.{Kind}
 use Rattle.sed_typed.specs.declared.kind.Kind.TheVariants as kind

@@ -148,7 +148,8 @@ pub fn enter_params<N: Lookup>(
     scope: &mut Locals,
     params: &[Param],
 ) -> Result<Judged<bool, Option<Fault>>, Memory>
-    ensures judged { IfOk result (λ r. r ≡ rules.are_free_names least_fault (N.names names.now) scope.old (Judged.Sound true) params.now) }
+    ensures judged { IfOk result (λ r.
+        r ≡ rules.are_free_names least_fault (N.names names.now) scope.old (Judged.Sound true) params.now) }
     ensures entered { IfOk result (λ _. scope.new ≡ scopes.behind_params (N.names names.now) scope.old params.now) }
 {
     let mut x: Judged<bool, Option<Fault>> = Judged::Sound(true);

@@ -70,8 +70,8 @@ fn spelled_case(labels: &[Label], at: usize, spelled: Option<i32>) -> CheckedLab
     }
 }
 
-/// A case at a place, behind these labels: the int that its expression spells, if it is an int literal or a define of an int, and
-/// what the expression comes to.
+/// A case at a place, behind these labels: the int that its expression spells, if it is an int literal or a define of
+/// an int, and what the expression comes to.
 pub fn case_of(labels: &[Label], at: usize, spelled: Option<i32>, x: &Checked) -> CheckedLabel
     ensures { result ≡ rules.case_of least_fault labels.now at spelled x.now }
 {

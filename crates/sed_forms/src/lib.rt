@@ -1,7 +1,7 @@
 //! The forms of statements: what each comes to by what its parts come to, and the rules on it.
 //!
-//! Each rule is a definition in specs/ that is read with all faults or with the least, and each function here is that definition
-//! with the least fault. What stands inside of a statement is judged before, by whoever goes over the tree.
+//! Each rule is a definition in specs/ that is read with all faults or with the least, and each function here is that
+//! definition with the least fault. What stands inside of a statement is judged before, by whoever goes over the tree.
 #![tactic(auto)]
 
 pub mod choices;

@@ -67,11 +67,12 @@ body_faults units = flat_map (method_faults units) (methods_of units)
 
 -- ---- bodies
 
--- A tree is that of a method's body: flat, so that there is only one, wherever it lies, and at most 2,080 levels high. A
--- method without a body has none.
+-- A tree is that of a method's body: flat, so that there is only one, wherever it lies, and at most 2,080 levels high.
+-- A method without a body has none.
 abbrev pub HasTree : List KitUnits → MethodAt → Option (List Tree) → Option Stmt → Type 0
 HasTree units e None None = Unit {0}
-HasTree units e (Some all) (Some body) = (judged_body units e all ≡ Sound (stmt_term body)) × IsFlatStmt body × (stmt_height body ≤ 2080)
+HasTree units e (Some all) (Some body) = (judged_body units e all ≡ Sound (stmt_term body))
+    × IsFlatStmt body × (stmt_height body ≤ 2080)
 HasTree units e all body = ⊥
 
 abbrev pub IsBodyOf : List KitUnits → MethodAt → Option Stmt → Type 0

@@ -12,10 +12,10 @@ use Rattle.sed_typed.specs.SysTypes.{component_type}
 use Rattle.sed_typed.specs.Typed.{Typed}
 use Rattle.sed_typed.specs.TypedSchema.{Begins, is_below, is_below_sys}
 use Rattle.sed_typed.specs.Virtual.{new_virtual_names, virtual_names}
-use Rattle.sed_typed.proofs.Callbacks.{begin, goes_on, keep_places}
+use Rattle.sed_typed.proofs.SystemMethods.{begin, goes_on, keep_places}
 use Rattle.sed_typed.proofs.Lineages.{none_is}
 use Rattle.sed_typed.proofs.Nearest.{found_where}
-use Rattle.sed_layout.specs.MethodTables.{HasCallbacks, KeepsPlaces, place_of}
+use Rattle.sed_layout.specs.MethodTables.{HasSystemMethods, KeepsPlaces, place_of}
 
 -- ---- the first that passes, in front of more
 
@@ -50,8 +50,8 @@ above_places program typed above class h = kept program above class (keep_places
 
 -- ---- what an engine calls
 
-pub callbacks : (program : Program) → Typed program → (class : ℕ) → IsTrue (is_below_sys program.schema.classes component_type class) → HasCallbacks program class
-callbacks program typed class h =
+pub system_methods : (program : Program) → Typed program → (class : ℕ) → IsTrue (is_below_sys program.schema.classes component_type class) → HasSystemMethods program class
+system_methods program typed class h =
     let front = begin program typed class h in
     let placed : (name : List ℕ) (n : ℕ) → position (λ (other : List ℕ). bytes_eq other name) component_names ≡ Some n → place_of program class name ≡ Some n =
     λ name n e. in_front (λ (other : List ℕ). bytes_eq other name) n (virtual_names program class) component_names front.0 front.1 e in

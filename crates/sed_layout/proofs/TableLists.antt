@@ -16,7 +16,7 @@ use Rattle.sed_typed.specs.Classes.{base_of, lineage, first_found, declared_meth
 use Rattle.sed_typed.specs.Typed.{Typed}
 use Rattle.sed_typed.specs.TypedSchema.{fields_named}
 use Rattle.sed_typed.specs.Virtual.{begins_virtual, new_virtual_names, virtual_names}
-use Rattle.sed_typed.proofs.Callbacks.{alone, goes_on}
+use Rattle.sed_typed.proofs.SystemMethods.{alone, goes_on}
 use Rattle.sed_typed.proofs.Lineages.{lineage_alone, lineage_of_base, none_is}
 use Rattle.sed_typed.proofs.Nearest.{Goes, Inherits, Declares, goes, found_here, found_later, found_where}
 use Rattle.sed_layout.specs.MethodTables.{table_of}

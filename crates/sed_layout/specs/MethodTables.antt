@@ -27,8 +27,8 @@ pub record KeepsPlaces (program : Program) (above class : ℕ) : Type 0 where
   pub places : (name : List ℕ) (place : ℕ) → place_of program above name ≡ Some place →
       place_of program class name ≡ Some place
 
--- the places of what an engine calls on a component
-pub record HasCallbacks (program : Program) (class : ℕ) : Type 0 where
+-- the places of the system methods of a component, which an engine calls
+pub record HasSystemMethods (program : Program) (class : ℕ) : Type 0 where
   pub execute : place_of program class (codes "execute") ≡ Some 0
   pub start : place_of program class (codes "start") ≡ Some 1
   pub stop : place_of program class (codes "stop") ≡ Some 2

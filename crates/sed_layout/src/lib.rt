@@ -23,7 +23,7 @@ pub use offset_laws::{
 };
 pub use places::Layout;
 pub use table_laws::{
-    callbacks_have_the_first_places, names_keep_their_places, places_hold_the_nearest_method,
+    names_keep_their_places, places_hold_the_nearest_method, system_methods_have_the_first_places,
     tables_have_each_virtual_method, tables_hold_virtual_methods, virtual_methods_have_places,
 };
 pub use whole::layout;

@@ -7,7 +7,7 @@ ghost use Rattle.sed_typed.specs.Typed.{Typed};
 ghost use Rattle.sed_typed.specs.TypedSchema.{is_below, is_below_sys};
 ghost use Rattle.sed_typed.specs.Virtual.{virtual_names};
 ghost use Rattle.sed_typed.specs.declared.program.Program.{Program as AnyProgram};
-ghost use Rattle.sed_layout.specs.MethodTables.{HasCallbacks, KeepsPlaces, MayStand, place_of, table_of};
+ghost use Rattle.sed_layout.specs.MethodTables.{HasSystemMethods, KeepsPlaces, MayStand, place_of, table_of};
 
 /// A table leaves no virtual method of its class out: at each place stands the nearest method of the name there.
 pub fn tables_have_each_virtual_method()
@@ -46,7 +46,7 @@ pub fn names_keep_their_places()
 {}
 
 /// Of `Component` and each class below it, `execute`, `start`, `stop` and `changed` have the places 0 to 3.
-pub fn callbacks_have_the_first_places()
+pub fn system_methods_have_the_first_places()
     ensures { (program : AnyProgram) → Typed program → (class : ℕ)
-        → IsTrue (is_below_sys program.schema.classes component_type class) → HasCallbacks program class }
+        → IsTrue (is_below_sys program.schema.classes component_type class) → HasSystemMethods program class }
 {}

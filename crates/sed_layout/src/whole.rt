@@ -13,7 +13,7 @@ use std::alloc::Global;
 
 /// The layout of a typed program.
 ///
-/// `Memory` comes where memory is refused, and from no other cause.
+/// `Memory` comes where memory is refused, and is the only refusal.
 pub fn layout(alloc: Global, program: &Program) -> Result<Layout, Memory>
     requires typed { Typed program.now }
     ensures offsets { IfOk result (λ made. made.offsets ≡ of_classes program.now (offsets_of program.now)) }

@@ -26,8 +26,8 @@ pub record Stands (text : List ℕ) (piece : Piece) : Type 0 where
   pub within : piece.len ≤ length text
   pub stands : CanStand (segment_of text piece) text (drop piece.len text)
 
--- The text is cut up to this place, and these are its tokens so far: however it goes on, the tokens that follow are those
--- from this place on. `first` says whether a token that begins here is first on its line.
+-- The text is cut up to this place, and these are its tokens so far: however it goes on, the tokens that follow are
+-- those from this place on. `first` says whether a token that begins here is first on its line.
 pub record IsCut (text : List ℕ) (spans : List Span) (at : ℕ) (first : Bool) : Type 0 where
   pub within : at ≤ length text
   pub lie : All (Lies text) spans

@@ -1,5 +1,6 @@
 -- What a text begins with: the longest of its fronts that have a property.
-use Rattle.std.specs.Prelude.{◌≡◌, ℕ, ◌+◌, ◌≤◌, Bool, false, ◌==◌, List, [], ◌∷◌, ◌++◌, length, take, drop, Option, MatchOption}
+use Rattle.std.specs.Prelude.{◌≡◌, ℕ, ◌+◌, ◌≤◌, Bool, false, ◌==◌, List, [], ◌∷◌, ◌++◌, length, take, drop, Option}
+use Rattle.std.specs.Prelude.{MatchOption}
 
 -- no front of the text has the property
 abbrev pub NoFront : (List ℕ → Type 0) → List ℕ → Type 0

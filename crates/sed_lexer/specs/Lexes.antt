@@ -1,5 +1,6 @@
 -- Which tokens a text has. A text is cut, from its start on, into the longest pieces that begin there.
-use Rattle.std.specs.Prelude.{◌≡◌, ◌≢◌, ◌≤◌, ℕ, ◌+◌, Bool, true, false, ◌||◌, IsTrue, List, [], ◌∷◌, ◌++◌, length, Option, Some, None}
+use Rattle.std.specs.Prelude.{◌≡◌, ◌≢◌, ◌≤◌, ℕ, ◌+◌, Bool, true, false, ◌||◌, IsTrue, List, [], ◌∷◌, ◌++◌, length}
+use Rattle.std.specs.Prelude.{Option, Some, None}
 use Rattle.sed_lexer.specs.declared.kind.TokenKind.{TokenKind}
 use Rattle.sed_lexer.specs.Token.{Token}
 use Rattle.sed_lexer.specs.Gaps.{has_line_end}
@@ -27,7 +28,8 @@ abbrev pub tokens_of : ℕ → Bool → Option TokenKind → List ℕ → List T
 tokens_of at first None bytes = []
 tokens_of at first (Some kind) bytes = record { kind = kind; start = at; bytes = bytes; first = first } ∷ []
 
--- whether a token that follows is first on its line: a line end lies between it and the token before it, or no token does
+-- whether a token that follows is first on its line: a line end lies between it and the token before it, or no token
+-- does
 abbrev pub first_after : Bool → Option TokenKind → List ℕ → Bool
 first_after first None bytes = first || has_line_end bytes
 first_after first (Some kind) bytes = false

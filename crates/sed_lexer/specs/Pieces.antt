@@ -24,8 +24,8 @@ IsPiece (Some Character) bytes = IsCharacter bytes
 IsPiece (Some Text) bytes = IsText bytes
 IsPiece (Some Mark) bytes = IsTrue (is_mark bytes)
 
--- The piece can end before the rest of a text: no letter or digit stands directly after an integer, and no `*` after the
--- mark `/`, since that would begin a comment without an end.
+-- The piece can end before the rest of a text: no letter or digit stands directly after an integer, and no `*` after
+-- the mark `/`, since that would begin a comment without an end.
 abbrev pub can_end : Option TokenKind → List ℕ → List ℕ → Bool
 can_end (Some Integer) bytes (b ∷ rest) = not (is_letter_or_digit b)
 can_end (Some Mark) bytes (b ∷ rest) = not (bytes_eq bytes (codes "/") && (b == byte "*"))

@@ -1,5 +1,6 @@
 -- What integers denote.
-use Rattle.std.specs.Prelude.{◌≡◌, ℕ, ◌+◌, ◌-◌, ◌*◌, ◌^◌, pos, not, ◌==◌, nat_le, if◌then◌else◌, ◌⊎◌, IsTrue, List, [], ◌++◌, codes, fold, filter, Option, Some, None, option_and_then}
+use Rattle.std.specs.Prelude.{◌≡◌, ℕ, ◌+◌, ◌-◌, ◌*◌, ◌^◌, pos, not, ◌==◌, nat_le, if◌then◌else◌, ◌⊎◌, IsTrue, List, []}
+use Rattle.std.specs.Prelude.{◌++◌, codes, fold, filter, Option, Some, None, option_and_then}
 use Rattle.std.specs.Int.{w32, w64}
 use Rattle.std.specs.Str.{byte, bytes_eq}
 use Rattle.sed_value.specs.Characters.{is_between, is_digit}

@@ -61,7 +61,8 @@ pub fn hex_digits(text: &[u8]) -> Option<usize>
 }
 
 fn suffix(suffixes: &[&str], text: &[u8]) -> usize
-    ensures { IsLongestFront (λ bytes. IsTrue (words.is_among ([] ∷ map (λ word. word.now) suffixes.now) bytes)) text.now result }
+    ensures { IsLongestFront (λ bytes. IsTrue (words.is_among ([] ∷ map (λ word. word.now) suffixes.now) bytes))
+        text.now result }
 {
     longest_among(suffixes, text).unwrap_or(0)
 }

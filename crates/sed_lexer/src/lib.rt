@@ -1,7 +1,8 @@
 //! The tokens of a source text.
 //!
-//! A text is cut, from its start on, into the longest pieces that begin there: tokens, and what lies between them. `lex`
-//! gives the tokens of a text exactly where it has any, and else the place where nothing begins. The parser stands on it.
+//! A text is cut, from its start on, into the longest pieces that begin there: tokens, and what lies between them.
+//! `lex` gives the tokens of a text exactly where it has any, and else the place where nothing begins. The parser
+//! stands on it.
 #![tactic(auto)]
 
 mod fronts;

@@ -161,7 +161,8 @@ fn hex_value(bytes: &[u8]) -> Option<Number>
     }
 }
 
-/// The number that the integer denotes. There is none where it is above the bound of its form, or the bytes are no integer.
+/// The number that the integer denotes. There is none where it is above the bound of its form, or the bytes are no
+/// integer.
 pub fn integer_value(bytes: &[u8]) -> Option<Number>
     ensures one { FindsOne (Denotes bytes.now) result }
     ensures bounds { IsSome result ↔ IsWithinBounds bytes.now }

@@ -104,7 +104,8 @@ fn longer(found: Option<usize>, len: usize) -> usize
 
 /// The longest of these words that begins the text.
 pub fn longest_among(words: &[&str], text: &[u8]) -> Option<usize>
-    ensures { FindsLongest (λ bytes. IsTrue (spelled.is_among (map (λ word. word.now) words.now) bytes)) text.now result }
+    ensures { FindsLongest (λ bytes. IsTrue (spelled.is_among (map (λ word. word.now) words.now) bytes))
+        text.now result }
 {
     let mut longest = None;
     for word in words {

@@ -1,10 +1,11 @@
 -- Sums that stand still at the end of 64 bits, in loops over rows.
-use Rattle.std.proofs.Common.{◌≡◌, ℕ, zero, suc, ◌+◌, ◌-◌, ◌^◌, ◌<◌, Bool, List, [], ◌∷◌, take, length, get_or, slice_get, Option, refl, sym, ap, ◌∙◌, arith}
+use Rattle.std.proofs.Common.{◌≡◌, ℕ, ◌+◌, ◌-◌, ◌^◌, ◌<◌, Bool, List, take, length, get_or, slice_get, Option, sym, ap, ◌∙◌, arith}
 use Rattle.std.specs.List.{sum_by}
 use Rattle.std.specs.Option.{option_map_or}
 use Rattle.std.proofs.Math.Numerals.{add-one}
-use Rattle.std.proofs.lemmas.List.Sums.{sum_by_more, sum_by-cons}
+use Rattle.std.proofs.lemmas.List.Sums.{sum_by_more}
 use Rattle.std.proofs.lemmas.Bool.Decides.{nat_tests}
+use Rattle.sed_value.proofs.Found.{sum_taken}
 use Rattle.sed_units.specs.declared.classes.Member.{Member}
 use Rattle.sed_faults.specs.declared.fault.Fault.{Fault}
 use Rattle.sed_faults.specs.Faults.{broken_if, least}
@@ -60,17 +61,6 @@ passing_at most start i count members m before more test one h b c t o =
     ∙ ap (passes most (capped (start + sum_by count (take i members)))) c
     ∙ passes_capped most (start + sum_by count (take i members)) (count m) h)
 
--- the sum over one item more of a row, be it behind its end
-get_more : {X : Type 0} (count : X → ℕ) (i : ℕ) (xs : List X) →
-    sum_by count (take (suc i) xs) ≡ sum_by count (take i xs) + option_map_or count (slice_get xs i) 0
-get_more count zero [] = refl
-get_more count (suc i) [] = refl
-get_more count zero (x ∷ xs) = refl
-get_more count (suc i) (x ∷ xs) =
-    sum_by-cons count x (take (suc i) xs)
-    ∙ ap (λ n. count x + n) (get_more count i xs)
-    ∙ omega (arith, sum_by-cons count x (take i xs))
-
 pub found_step : {X : Type 0} (count : X → ℕ) (i : ℕ) (xs : List X) (far new one : ℕ) →
     one ≡ capped (option_map_or count (slice_get xs i) 0) → new ≡ capped (far + one) →
     far ≡ capped (sum_by count (take i xs)) → new ≡ capped (sum_by count (take (i + 1) xs))
@@ -79,4 +69,4 @@ found_step count i xs far new one o n f =
     ∙ ap (λ k. capped (k + one)) f
     ∙ ap (λ k. capped (capped (sum_by count (take i xs)) + k)) o
     ∙ capped_sum (sum_by count (take i xs)) (option_map_or count (slice_get xs i) 0)
-    ∙ ap capped (sym (ap (λ k. sum_by count (take k xs)) (add-one i) ∙ get_more count i xs))
+    ∙ ap capped (sym (ap (λ k. sum_by count (take k xs)) (add-one i) ∙ sum_taken count i xs))

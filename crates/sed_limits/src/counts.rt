@@ -37,7 +37,8 @@ const MOST_DATA: u64 = 65_535;
 const MOST_STATICS: u64 = 65_535;
 
 fn methods_fault(measured: &Measured<'_>, entry: &Entry<'_>) -> Option<Fault>
-    ensures { result ≡ least (said_from (rules.too_many_methods (declaration_of entry.now)) 0 entry.now.class.now.members) }
+    ensures { result ≡ least (said_from (rules.too_many_methods (declaration_of entry.now))
+        0 entry.now.class.now.members) }
 {
     passed_fault(
         measured,
@@ -60,7 +61,8 @@ fn summed_fault(
 ) -> Option<Fault>
     requires bases { bases.now ≡ ancestry.bases measured.now class }
     requires most { most < 2 ^ 64 - 1 }
-    ensures { result ≡ least (said_from (summed most counted measured.now class (declaration_of entry.now)) 0 entry.now.class.now.members) }
+    ensures { result ≡ least (said_from (summed most counted measured.now class (declaration_of entry.now))
+        0 entry.now.class.now.members) }
 {
     let start = classes_sum(measured, counted, bases);
     passed_fault(
@@ -80,7 +82,8 @@ fn virtual_fault(
     entry: &Entry<'_>,
 ) -> Option<Fault>
     requires { bases.now ≡ ancestry.bases measured.now class }
-    ensures { result ≡ least (said_from (rules.too_many_virtual measured.now class (declaration_of entry.now)) 0 entry.now.class.now.members) }
+    ensures { result ≡ least (said_from (rules.too_many_virtual measured.now class (declaration_of entry.now))
+        0 entry.now.class.now.members) }
 {
     summed_fault(
         measured,
@@ -99,7 +102,8 @@ fn slots_fault(
     entry: &Entry<'_>,
 ) -> Option<Fault>
     requires { bases.now ≡ ancestry.bases measured.now class }
-    ensures { result ≡ least (said_from (rules.too_many_slots measured.now class (declaration_of entry.now)) 0 entry.now.class.now.members) }
+    ensures { result ≡ least (said_from (rules.too_many_slots measured.now class (declaration_of entry.now))
+        0 entry.now.class.now.members) }
 {
     summed_fault(measured, class, bases, entry, Counted::Slots, MOST_SLOTS)
 }
@@ -111,7 +115,8 @@ fn config_fault(
     entry: &Entry<'_>,
 ) -> Option<Fault>
     requires { bases.now ≡ ancestry.bases measured.now class }
-    ensures { result ≡ least (said_from (rules.too_large_config measured.now class (declaration_of entry.now)) 0 entry.now.class.now.members) }
+    ensures { result ≡ least (said_from (rules.too_large_config measured.now class (declaration_of entry.now))
+        0 entry.now.class.now.members) }
 {
     summed_fault(measured, class, bases, entry, Counted::Config, MOST_VALUES)
 }
@@ -123,7 +128,8 @@ fn runtime_fault(
     entry: &Entry<'_>,
 ) -> Option<Fault>
     requires { bases.now ≡ ancestry.bases measured.now class }
-    ensures { result ≡ least (said_from (rules.too_large_runtime measured.now class (declaration_of entry.now)) 0 entry.now.class.now.members) }
+    ensures { result ≡ least (said_from (rules.too_large_runtime measured.now class (declaration_of entry.now))
+        0 entry.now.class.now.members) }
 {
     summed_fault(measured, class, bases, entry, Counted::Runtime, MOST_VALUES)
 }
@@ -135,7 +141,8 @@ fn data_fault(
     entry: &Entry<'_>,
 ) -> Option<Fault>
     requires { bases.now ≡ ancestry.bases measured.now class }
-    ensures { result ≡ least (said_from (rules.too_much_data measured.now class (declaration_of entry.now)) 0 entry.now.class.now.members) }
+    ensures { result ≡ least (said_from (rules.too_much_data measured.now class (declaration_of entry.now))
+        0 entry.now.class.now.members) }
 {
     summed_fault(measured, class, bases, entry, Counted::Data, MOST_DATA)
 }
@@ -167,7 +174,8 @@ fn statics_fault(
     entry: &Entry<'_>,
 ) -> Option<Fault>
     requires { before ≡ capped (rules.statics_before measured.now class) }
-    ensures { result ≡ least (said_from (rules.too_many_statics measured.now class (declaration_of entry.now)) 0 entry.now.class.now.members) }
+    ensures { result ≡ least (said_from (rules.too_many_statics measured.now class (declaration_of entry.now))
+        0 entry.now.class.now.members) }
 {
     passed_fault(
         measured,
@@ -188,7 +196,8 @@ pub fn count_fault(
     measured: &Measured<'_>,
     class: usize,
 ) -> Result<Option<Fault>, Memory>
-    ensures { IfOk result (λ f. f ≡ option_map_or (λ d. least (faults.count_faults measured.now class d)) (class_at measured.now class) None) }
+    ensures { IfOk result (λ f. f ≡ option_map_or (λ d. least (faults.count_faults measured.now class d))
+        (class_at measured.now class) None) }
 {
     match measured.based().classes().entry_at(class) {
         Some(entry) => {
@@ -200,8 +209,8 @@ pub fn count_fault(
     }
 }
 
-/// The first fault of the class at a place against the limits on the data of an object and on statics, where the statics of
-/// the classes before it take so much; a place without a class has none.
+/// The first fault of the class at a place against the limits on the data of an object and on statics, where the
+/// statics of the classes before it take so much; a place without a class has none.
 ///
 /// Want of memory is the only refusal.
 pub fn size_fault(
@@ -211,7 +220,8 @@ pub fn size_fault(
     before: u64,
 ) -> Result<Option<Fault>, Memory>
     requires { before ≡ capped (rules.statics_before measured.now class) }
-    ensures { IfOk result (λ f. f ≡ option_map_or (λ d. least (size_faults measured.now class d)) (class_at measured.now class) None) }
+    ensures { IfOk result (λ f. f ≡ option_map_or (λ d. least (size_faults measured.now class d))
+        (class_at measured.now class) None) }
 {
     match measured.based().classes().entry_at(class) {
         Some(entry) => {

@@ -68,7 +68,8 @@ pub fn passed_fault(
     members: &[Member],
 ) -> Option<Fault>
     requires { most < 2 ^ 64 - 1 }
-    ensures { result ≡ least (said_from (passing most (count_as counted measured.now kit) start members.now) 0 members.now) }
+    ensures { result ≡ least (said_from (passing most (count_as counted measured.now kit) start members.now)
+        0 members.now) }
 {
     let mut first = None;
     let mut before = start;

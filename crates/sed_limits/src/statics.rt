@@ -30,7 +30,8 @@ fn class_statics(measured: &Measured<'_>, class: usize) -> u64
 ///
 /// Want of memory is the only refusal.
 pub fn statics_before(alloc: Global, measured: &Measured<'_>) -> Result<Vec<u64>, Memory>
-    ensures { IfOk result (λ v. v.items ≡ row_of measured.now (λ class. capped (rules.statics_before measured.now class))) }
+    ensures { IfOk result (λ v. v.items
+        ≡ row_of measured.now (λ class. capped (rules.statics_before measured.now class))) }
 {
     let mut all = Vec::new(alloc);
     let mut before = 0;

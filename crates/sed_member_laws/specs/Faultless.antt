@@ -10,7 +10,8 @@ use Rattle.sed_classes.specs.Types.{type_of}
 use Rattle.sed_classes.specs.Members.{has_name, overrides, is_method, inherits}
 use Rattle.sed_classes.specs.Objects.{inline_class}
 use Rattle.sed_classes.specs.NameRules.{type_without_class}
-use Rattle.sed_classes.specs.MemberRules.{fits_one_of, is_virtual_elsewhere, is_abstract_elsewhere, has_wrong_body, is_no_slot}
+use Rattle.sed_classes.specs.MemberRules.{fits_one_of, is_virtual_elsewhere, is_abstract_elsewhere, has_wrong_body}
+use Rattle.sed_classes.specs.MemberRules.{is_no_slot}
 use Rattle.sed_classes.specs.FieldRules.{is_no_object_class, is_no_member, value_not_fit}
 use Rattle.sed_classes.specs.LimitRules.{passes, passes_at, new_virtual, one_if}
 use Rattle.sed_classes.specs.Faults.{declaration_faults, params_faults}
@@ -22,7 +23,8 @@ pub record Keeps (units : List KitUnits) (class : ℕ) (d : Declaration) (i : �
   pub overriding : (overrides m && not (is_method m && list_any (fits_one_of units d.kit m) (bases units class)))
       ≡ false
   pub runnable :
-      (is_method m && (is_virtual_elsewhere units class m || is_abstract_elsewhere d.class m || has_wrong_body m)) ≡ false
+      (is_method m && (is_virtual_elsewhere units class m || is_abstract_elsewhere d.class m || has_wrong_body m))
+      ≡ false
   pub slot : is_no_slot units class d.kit m ≡ false
   pub fit : is_no_member (type_of units d.kit m.kind) m ≡ false
   pub params : params_faults units d.kit m ≡ []

@@ -1,13 +1,13 @@
 //! Laws of the members that units spell, where no class breaks a rule on what it declares.
 //!
-//! Each rule on a member is a test that fails, each name stands once in a class, and types that are known have forms and
-//! kinds (`faultless_laws`). Initial values come to values of the types that they are given to, and chains of defines come
-//! to an end (`constants_laws`). A field, a static or a method has the number of its place behind those of the classes
-//! before its own, and what is found by a name in a class of the program is what the name stands for in the units
-//! (`placed_laws`). A method and the nearest member of its name above its class have one signature, and both are virtual
-//! (`overrides_laws`). The members of the program are typed: fields with their forms and what they begin with, methods but
-//! for their bodies, names, what overrides, and the limits on methods (`membered_laws`). Each law is the contract of a
-//! function that does nothing.
+//! Each rule on a member is a test that fails, each name stands once in a class, and types that are known have forms
+//! and kinds (`faultless_laws`). Initial values come to values of the types that they are given to, and chains of
+//! defines come to an end (`constants_laws`). A field, a static or a method has the number of its place behind those of
+//! the classes before its own, and what is found by a name in a class of the program is what the name stands for in the
+//! units (`placed_laws`). A method and the nearest member of its name above its class have one signature, and both are
+//! virtual (`overrides_laws`). The members of the program are typed: fields with their forms and what they begin with,
+//! methods but for their bodies, names, what overrides, and the limits on methods (`membered_laws`). Each law is the
+//! contract of a function that does nothing.
 #![tactic(auto)]
 
 mod constants_laws;

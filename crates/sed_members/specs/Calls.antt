@@ -1,7 +1,8 @@
 -- What calls come to. Rule 16 is broken at a call of no method of its name, with another number of arguments, or with
 -- one that does not go to its parameter. Of a parameter that is declared with a fault, and of an argument that is
 -- unknown, it does not speak.
-use Rattle.std.specs.Prelude.{ℕ, suc, ◌==◌, Bool, false, not, ◌&&◌, ◌||◌, if◌then◌else◌, List, [], ◌∷◌, length, codes, slice_get, Option, Some, None}
+use Rattle.std.specs.Prelude.{ℕ, suc, ◌==◌, Bool, false, not, ◌&&◌, ◌||◌, if◌then◌else◌, List, [], ◌∷◌, length, codes}
+use Rattle.std.specs.Prelude.{slice_get, Option, Some, None}
 use Rattle.std.specs.Option.{option_and_then}
 use Rattle.std.specs.Str.{bytes_eq}
 use Rattle.sed_units.specs.Tree.{Tree, Part}
@@ -62,11 +63,13 @@ abbrev pub reached : {F : Type 0} → Marks F → Bool → ℕ → Callee → Ju
 reached m has_receiver id_at c = unless m (c.is_static || has_receiver) (broken 17 id_at) c
 
 abbrev pub own_callee : {F : Type 0} → Marks F → Bool → ℕ → ℕ → ℕ → Signature → Judged Callee F
-own_callee m has_receiver id_at at count s = joined m (callee m at count s) (reached m has_receiver id_at (callee_of s)) (λ c d. Sound c)
+own_callee m has_receiver id_at at count s =
+    joined m (callee m at count s) (reached m has_receiver id_at (callee_of s)) (λ c d. Sound c)
 
 -- by `super`: rule 24 where it is abstract
 abbrev pub super_callee : {F : Type 0} → Marks F → ℕ → ℕ → Signature → Judged Callee F
-super_callee m at count s = joined m (callee m at count s) (unless m (not s.is_abstract) (broken 24 at) s.is_abstract) (λ c d. Sound c)
+super_callee m at count s =
+    joined m (callee m at count s) (unless m (not s.is_abstract) (broken 24 at) s.is_abstract) (λ c d. Sound c)
 
 -- ---- with its arguments
 
@@ -100,13 +103,15 @@ super_called m b at count (Some s) xs =
 -- `.ID(..)` behind the name of a class
 abbrev pub class_call : {F : Type 0} → Marks F → ℕ → ℕ → ℕ → Option Signature → Judged Term F → Judged Term F
 class_call m id_at at count None xs = no_method m at xs
-class_call m id_at at count (Some s) xs = joined m (own_callee m false id_at at count s) xs (λ c args. static_call m c args)
+class_call m id_at at count (Some s) xs =
+    joined m (own_callee m false id_at at count s) xs (λ c args. static_call m c args)
 
 -- behind an object; a static method is called through it, and it is evaluated before
 abbrev pub object_call : {F : Type 0} → Marks F → ℕ → ℕ → Term → Option Signature → Judged Term F → Judged Term F
 object_call m at count x None xs = no_method m at xs
 object_call m at count x (Some s) xs =
-    joined m (callee m at count s) xs (λ c args. if c.is_static then through x (static_call m c args) else invocation m c x args)
+    joined m (callee m at count s) xs (λ c args. if c.is_static then through x (static_call m c args)
+    else invocation m c x args)
 
 -- ---- calls of a Str
 
@@ -130,7 +135,8 @@ text_callee m at count c = unless m (length (text_params (Some c)) == count) (br
 
 abbrev pub text_called : {F : Type 0} → Marks F → ℕ → ℕ → Term → Option TextCall → Judged Term F → Judged Term F
 text_called m at count x None xs = no_method m at xs
-text_called m at count x (Some c) xs = joined m (text_callee m at count c) xs (λ c args. Sound (Node (sign.TextCall c) x args))
+text_called m at count x (Some c) xs =
+    joined m (text_callee m at count c) xs (λ c args. Sound (Node (sign.TextCall c) x args))
 
 -- ---- `.ID(..)` behind an expression
 
@@ -160,4 +166,5 @@ called m n name at count (Unknown f) xs = unknown_receiver m f xs
 
 abbrev pub system_call : {F : Type 0} → Marks F → List ℕ → ℕ → ℕ → Judged Term F → Judged Term F
 system_call m name at count xs =
-    joined m (unless m (bytes_eq name (codes "ticks") && (count == 0)) (broken 16 at) (leaf sign.Ticks)) xs (λ t args. Sound t)
+    joined m (unless m (bytes_eq name (codes "ticks") && (count == 0)) (broken 16 at) (leaf sign.Ticks))
+    xs (λ t args. Sound t)

@@ -169,7 +169,8 @@ name_before n name None None = no_member_before n name
 
 -- what stands before a `.`, where it is the name of a class or of the system's calls
 abbrev pub before : Names → Body → Scope → Tree → Before
-before n b s (Part (label.Name id) x y) = name_before n id.bytes (local_named s.entries id.bytes) (n.member b.class.0 id.bytes)
+before n b s (Part (label.Name id) x y) =
+    name_before n id.bytes (local_named s.entries id.bytes) (n.member b.class.0 id.bytes)
 before n b s (Part (label.Of kit id) x y) = class_or_value (n.class_in kit.bytes id.bytes)
 before n b s t = Value
 

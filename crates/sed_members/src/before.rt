@@ -29,7 +29,8 @@ fn no_member_before<N: Lookup>(names: &N, name: &[u8]) -> Before
 }
 
 fn name_before<N: Lookup>(names: &N, body: &Body, scope: &Locals, name: &[u8]) -> Before
-    ensures { result ≡ meaning.name_before (N.names names.now) name.now (scopes.local_named scope.now.entries name.now) ((N.names names.now).member body.now.class.0 name.now) }
+    ensures { result ≡ meaning.name_before (N.names names.now) name.now
+        (scopes.local_named scope.now.entries name.now) ((N.names names.now).member body.now.class.0 name.now) }
 {
     match scope.local(name) {
         Some(_) => Before::Value,

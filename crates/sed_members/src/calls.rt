@@ -446,7 +446,8 @@ fn called_of<N: Lookup>(
     xs: CheckedArguments,
 ) -> Result<Checked, Memory>
     requires { is_value x ≡ true }
-    ensures { IfOk result (λ r. r ≡ meaning.object_call least_fault at count x ((N.names names.now).method class.0 name.now) xs) }
+    ensures { IfOk result (λ r. r ≡ meaning.object_call least_fault at
+        count x ((N.names names.now).method class.0 name.now) xs) }
 {
     match names.method(class, name) {
         Some(s) => object_call(alloc, at, count, x, s, xs),

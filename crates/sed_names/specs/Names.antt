@@ -1,5 +1,5 @@
--- What the names of a program mean. Whoever keeps the classes of a program gives these functions, and whoever judges the bodies
--- in them asks for nothing else. Names are lists of bytes, and may be of any length.
+-- What the names of a program mean. Whoever keeps the classes of a program gives these functions, and whoever judges
+-- the bodies in them asks for nothing else. Names are lists of bytes, and may be of any length.
 use Rattle.std.specs.Prelude.{ℕ, Bool, List, Option}
 use Rattle.sed_typed.specs.declared.number.TypeNo.{TypeNo}
 use Rattle.sed_names.specs.declared.member.Member.{Member}

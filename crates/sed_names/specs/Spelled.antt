@@ -1,4 +1,5 @@
--- The number that an integer literal spells, and the character that a character literal spells, read from left to right.
+-- The number that an integer literal spells, and the character that a character literal spells, read from left to
+-- right.
 use Rattle.std.specs.Prelude.{ℕ, Bool, ◌==◌, ◌&&◌, ◌||◌, if◌then◌else◌, List, [], ◌∷◌, length, drop, Option, Some, None}
 use Rattle.std.specs.Option.{option_or}
 use Rattle.std.specs.Str.{byte}

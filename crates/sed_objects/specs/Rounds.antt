@@ -1,5 +1,6 @@
 -- Rows with an item for each class, made anew in rounds.
-use Rattle.std.specs.Prelude.{ℕ, zero, suc, ◌-◌, ◌^◌, Bool, false, ◌==◌, ◌||◌, if◌then◌else◌, List, length, map, min, slice_get, sum_by, unwrap_or, Option, None}
+use Rattle.std.specs.Prelude.{ℕ, zero, suc, ◌-◌, ◌^◌, Bool, false, ◌==◌, ◌||◌, if◌then◌else◌, List, length, map, min}
+use Rattle.std.specs.Prelude.{slice_get, sum_by, unwrap_or, Option, None}
 use Rattle.std.specs.List.{filter_map, flat_map, list_any, range_with_len}
 use Rattle.sed_units.specs.declared.classes.Member.{Member}
 use Rattle.sed_classes.specs.declared.kit_units.KitUnits.{KitUnits}

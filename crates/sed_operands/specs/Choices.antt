@@ -22,9 +22,11 @@ branches x y = equal_branches (beside (sort_of y) (sort_of x) x) (beside (sort_o
 -- branches of unequal kinds are a fault at the second one
 abbrev pub branched : {F : Type 0} → Marks F → ℕ → ℕ → Judged Term F → Judged Term F → Judged (Term × Term) F
 branched m left right x y =
-    joined m (wants m is_operand left x) (wants m is_operand right y) (λ u v. some_or {A = Term × Term} m (broken 13 right) (branches u v))
+    joined m (wants m is_operand left x) (wants m is_operand right y)
+    (λ u v. some_or {A = Term × Term} m (broken 13 right) (branches u v))
 
 -- `at` is the place of the condition, `left` and `right` those of the branches
 abbrev pub chosen : {F : Type 0} → Marks F → ℕ → ℕ → ℕ → Judged Term F → Judged Term F → Judged Term F → Judged Term F
 chosen m at left right t x y =
-    joined {B = Term × Term} m (truth m at t) (branched m left right x y) (λ test both. Sound (Node sign.Choose test (Node sign.Pair both.0 both.1)))
+    joined {B = Term × Term} m (truth m at t) (branched m left right x y)
+    (λ test both. Sound (Node sign.Choose test (Node sign.Pair both.0 both.1)))

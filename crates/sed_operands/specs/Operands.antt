@@ -23,7 +23,8 @@ use Rattle.sed_terms.specs.Faults.{Marks, broken, after, joined, unless, some_or
 use Rattle.sed_terms.specs.Forms.{indexed, has_elements}
 use Rattle.sed_terms.specs.Sorts.{sort_of}
 use Rattle.sed_terms.specs.Term.{Term, Absent, Node}
-use Rattle.sed_conversions.specs.Conversions.{is_number, is_bool, is_int, is_reference, width_of, meeting, in_width, beside}
+use Rattle.sed_conversions.specs.Conversions.{is_number, is_bool, is_int, is_reference, width_of, meeting, in_width}
+use Rattle.sed_conversions.specs.Conversions.{beside}
 use Rattle.sed_conversions.specs.Wants.{wants, truth}
 
 -- ---- one operand
@@ -51,7 +52,8 @@ is_cast p = true
 
 -- `at` is the place of the cast, and `right` that of its operand
 abbrev pub cast : {F : Type 0} → Marks F → ℕ → Primitive → ℕ → Judged Term F → Judged Term F
-cast m at p right x = joined m (unless m (is_cast p) (broken 13 at) p) (wants m is_number right x) (λ q t. Sound (cast_to q (width_of t) t))
+cast m at p right x = joined m (unless m (is_cast p) (broken 13 at) p)
+    (wants m is_number right x) (λ q t. Sound (cast_to q (width_of t) t))
 
 -- ---- two operands
 
@@ -100,14 +102,16 @@ equated_pair c truths references x y =
     else None
 
 abbrev pub equated : Comparison → Binary → Binary → Term → Term → Option Term
-equated c truths references x y = equated_pair c truths references (beside (sort_of y) (sort_of x) x) (beside (sort_of x) (sort_of y) y)
+equated c truths references x y =
+    equated_pair c truths references (beside (sort_of y) (sort_of x) x) (beside (sort_of x) (sort_of y) y)
 
 -- `at` is the place of the left operand, and of the whole; `right` that of the right one
 abbrev pub operated : {F : Type 0} → Marks F → Form → ℕ → ℕ → Judged Term F → Judged Term F → Judged Term F
 operated m (Numbers a) at right x y =
     joined m (wants m is_number at x) (wants m is_number right y) (λ s t. Sound (calculated a (meeting s t) s t))
 operated m (Shift a) at right x y =
-    joined m (wants m is_number at x) (wants m is_int right y) (λ s t. Sound (Node (sign.Binary (binary.Arithmetic a (width_of s))) s t))
+    joined m (wants m is_number at x) (wants m is_int right y) (λ s t.
+    Sound (Node (sign.Binary (binary.Arithmetic a (width_of s))) s t))
 operated m (Order c) at right x y =
     joined m (wants m is_number at x) (wants m is_number right y) (λ s t. Sound (compared c (meeting s t) s t))
 operated m (Equality c truths references) at right x y =
@@ -117,4 +121,5 @@ operated m Either at right x y = joined m (truth m at x) (truth m right y) (λ s
 
 -- an index: what stands before the bracket, with its place, and what is in it
 abbrev pub element : {F : Type 0} → Marks F → ℕ → ℕ → Judged Term F → Judged Term F → Judged Term F
-element m at right x y = joined m (wants m has_elements at x) (wants m is_int right y) (λ t index. Sound (indexed t index))
+element m at right x y =
+    joined m (wants m has_elements at x) (wants m is_int right y) (λ t index. Sound (indexed t index))

@@ -23,7 +23,8 @@ fn equal_branches(
     x: Found,
     y: Found,
 ) -> Result<CheckedBranches, Memory>
-    ensures is { IfOk result (λ r. r ≡ faults.some_or least_fault (faults.broken 13 right) (choices.equal_branches x y)) }
+    ensures is { IfOk result (λ r. r ≡ faults.some_or least_fault (faults.broken 13 right)
+        (choices.equal_branches x y)) }
     ensures values { IfOk result (λ r. IfSound r (λ p. (is_value p.0 ≡ true) × (is_value p.1 ≡ true))) }
 {
     if is_number(x.sort()) && is_number(y.sort()) {

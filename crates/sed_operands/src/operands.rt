@@ -217,7 +217,7 @@ fn are_references(x: Sort, y: Sort) -> bool
 }
 
 // Two numbers, two bools or two references.
-#[tactic(auto, using(sed_conversions::specs::Values::number_value, sed_conversions::specs::Values::bool_value, sed_conversions::specs::Values::reference_value))]
+#[tactic(auto, using(crate::proofs::Values::values))]
 fn equated_pair(
     alloc: Global,
     op: Comparison,
@@ -227,7 +227,8 @@ fn equated_pair(
     x: Found,
     y: Found,
 ) -> Result<Checked, Memory>
-    ensures { IfOk result (λ r. r ≡ faults.some_or least_fault (faults.broken 13 at) (operands.equated_pair op truths references x y)) }
+    ensures { IfOk result (λ r. r ≡ faults.some_or least_fault (faults.broken 13 at)
+        (operands.equated_pair op truths references x y)) }
 {
     if are_numbers(x.sort(), y.sort()) {
         let z = compared(alloc, op, x, y)?;
@@ -254,7 +255,8 @@ fn equality(
     x: Checked,
     y: Checked,
 ) -> Result<Checked, Memory>
-    ensures { IfOk result (λ r. r ≡ operands.operated least_fault (operands.Equality op truths references) at right x y) }
+    ensures { IfOk result (λ r. r ≡ operands.operated least_fault (operands.Equality op truths references)
+        at right x y) }
 {
     match paired(x, y) {
         Judged::Sound((x, y)) => {
@@ -297,7 +299,8 @@ fn either(alloc: Global, at: usize, right: usize, x: Checked, y: Checked) -> Res
     }
 }
 
-/// An operator between two operands; `at` is the place of the left one, and of the whole, and `right` that of the right one.
+/// An operator between two operands; `at` is the place of the left one, and of the whole, and `right` that of the right
+/// one.
 pub fn operated(
     alloc: Global,
     op: BinaryOp,

@@ -25,8 +25,8 @@ pub record Written (kits : ℕ) (d : Declaration) : Type 0 where
 abbrev pub IsNamed : Member → Type 0
 IsNamed m = IsTrue (is_word m.name.bytes)
 
--- At most 15 kits, of at most 64 classes each, whose names and whose members' names are words, and whose objects take no
--- more than 65,535 bytes.
+-- At most 15 kits, of at most 64 classes each, whose names and whose members' names are words, and whose objects take
+-- no more than 65,535 bytes.
 pub record Fits (units : List KitUnits) : Type 0 where
   pub kits : length units ≤ 15
   pub count : length (all_classes units) ≤ 5 + 64 * 15

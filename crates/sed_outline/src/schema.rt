@@ -30,8 +30,8 @@ fn outline(alloc: Global, units: &[KitUnits]) -> Result<Schema, Memory>
     })
 }
 
-/// The schema of kits whose units break no rule on classes and members: their kits with checksums, `sys` first, and their
-/// classes, each base before the classes based on it.
+/// The schema of kits whose units break no rule on classes and members: their kits with checksums, `sys` first, and
+/// their classes, each base before the classes based on it.
 ///
 /// Want of memory is the only refusal.
 pub fn classes(alloc: Global, units: &[KitUnits]) -> Result<Schema, Memory>

@@ -42,8 +42,10 @@ pub trait Files {
         ensures err { OnErr result (into.new.items ≡ into.old.items) }
         ensures files { known self.new ≡ known self.old }
 
-        ensures cause { HasCause (failed_reads self.old name.now) (failed_reads self.new name.now) (IsErrOf result FileFault.Failed) }
-        ensures counts { KeepsCounts (IsSome (known self.old)) (failed_reads self.old) (failed_reads self.new) name.now (IsErrOf result FileFault.Failed) }
+        ensures cause { HasCause (failed_reads self.old name.now) (failed_reads self.new name.now)
+            (IsErrOf result FileFault.Failed) }
+        ensures counts { KeepsCounts (IsSome (known self.old)) (failed_reads self.old)
+            (failed_reads self.new) name.now (IsErrOf result FileFault.Failed) }
         ensures writes { failed_writes self.new ≡ failed_writes self.old };
 
     /// Makes the file of that name hold these bytes and no others, whether or not there was one. After a refusal it
@@ -55,7 +57,9 @@ pub trait Files {
         ensures ok { OnOk result (WritesFile (known self.new) name.now bytes.now) }
         ensures others { KeepsOthers (known self.old) (known self.new) name.now }
 
-        ensures cause { HasCause (failed_writes self.old name.now) (failed_writes self.new name.now) (IsErrOf result FileFault.Failed) }
-        ensures counts { KeepsCounts (IsSome (known self.old)) (failed_writes self.old) (failed_writes self.new) name.now (IsErrOf result FileFault.Failed) }
+        ensures cause { HasCause (failed_writes self.old name.now) (failed_writes self.new name.now)
+            (IsErrOf result FileFault.Failed) }
+        ensures counts { KeepsCounts (IsSome (known self.old)) (failed_writes self.old)
+            (failed_writes self.new) name.now (IsErrOf result FileFault.Failed) }
         ensures reads { failed_reads self.new ≡ failed_reads self.old };
 }

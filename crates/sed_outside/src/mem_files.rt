@@ -43,8 +43,10 @@ impl MemFiles {
 // Counts a call on that name that failed, and gives its fault. Without memory for the count it stays, and memory is
 // what is wanted.
 fn counted(counts: &mut Vec<(String, u64)>, name: &str) -> FileFault
-    ensures cause { HasCause (count_of counts.old.items name.now) (count_of counts.new.items name.now) (result ≡ FileFault.Failed) }
-    ensures counts { KeepsCounts ⊤ (count_of counts.old.items) (count_of counts.new.items) name.now (result ≡ FileFault.Failed) }
+    ensures cause { HasCause (count_of counts.old.items name.now) (count_of counts.new.items name.now)
+        (result ≡ FileFault.Failed) }
+    ensures counts { KeepsCounts ⊤ (count_of counts.old.items) (count_of counts.new.items)
+        name.now (result ≡ FileFault.Failed) }
 {
     let count = match named::find(counts, name) {
         Some(count) => *count,

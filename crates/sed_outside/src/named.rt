@@ -25,7 +25,8 @@ fn place_of<T>(entries: &[(String, T)], name: &str) -> Option<usize>
 /// Without memory for it the list stays.
 pub fn put<T: Drop>(entries: &mut Vec<(String, T)>, name: &str, value: T) -> Result<(), Memory>
     ensures ok { OnOk result (value_of entries.new.items name.now ≡ Some value) }
-    ensures others { (other : List ℕ) → other ≢ name.now → value_of entries.new.items other ≡ value_of entries.old.items other }
+    ensures others { (other : List ℕ) → other ≢ name.now
+        → value_of entries.new.items other ≡ value_of entries.old.items other }
     ensures err { OnErr result (entries.new.items ≡ entries.old.items) }
 {
     match place_of(entries, name) {

@@ -1,5 +1,6 @@
 //! The edge over the system's files, which tells nothing of what they hold.
-ghost use Rattle.std.specs.Prelude.{◌≡◌, ◌↔◌, ◌+◌, ◌≤◌, List, [], ℕ, None, OnOk, OnErr, IfOk, IfSome, IsTrue, take, vec_len};
+ghost use Rattle.std.specs.Prelude.{◌≡◌, ◌↔◌, ◌+◌, ◌≤◌, List, [], ℕ, None, OnOk, OnErr, IfOk, IfSome, IsTrue, take};
+ghost use Rattle.std.specs.Prelude.{vec_len};
 ghost use Rattle.std.specs.IoError.{error_kind};
 ghost use Rattle.sed_outside.specs.Files.{ReadsFile, largest_file};
 ghost use Rattle.sed_outside.specs.Reading.{ReadsWhole, ReadsBytes};
@@ -40,8 +41,8 @@ fn fault_of(error: &io::Error) -> FileFault
     }
 }
 
-// Reads what the reader has behind the bytes of `into`, up to one byte more than the largest file, and says whether that
-// is all.
+// Reads what the reader has behind the bytes of `into`, up to one byte more than the largest file, and says whether
+// that is all.
 fn read_whole<R: Read + Drop>(reader: R, into: &mut Vec<u8>) -> io::Result<bool>
     ensures whole { IfOk result (λ whole.
         IfSome (R.remaining reader) (ReadsWhole into.old.items into.new.items whole)) }

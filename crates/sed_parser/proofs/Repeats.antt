@@ -2,8 +2,8 @@
 use Rattle.std.proofs.Common.{◌≡◌, ℕ, zero, suc, ◌-◌, ◌+◌, ◌≤◌, ◌<◌, Bool, true, false, List, [], ◌∷◌, ◌++◌, Err, refl, sym, ap, ◌∙◌, append_assoc, arith}
 use Rattle.std.proofs.lemmas.List.{append-nil}
 use Rattle.sed_lexer.specs.Token.{Token}
-use Rattle.sed_parser.specs.declared.halt.Halt.{Halt}
-use Rattle.sed_parser.specs.declared.halt.Halt.TheVariants.{Fault, Memory}
+use Rattle.sed_value.specs.declared.halt.Halt.{Halt}
+use Rattle.sed_value.specs.declared.halt.Halt.TheVariants.{Fault, Memory}
 use Rattle.sed_parser.specs.Reading.{Reading, Found, Stuck, Reads, read_on, many_at}
 use Rattle.sed_parser.specs.Halts.{Gives}
 

@@ -12,8 +12,8 @@ use Rattle.sed_parser.specs.Derives.{Derives, FaultsAt}
 use Rattle.sed_parser.specs.Halts.{Gives}
 use Rattle.sed_parser.specs.declared.parsing.ParseRefusal.{ParseRefusal}
 use Rattle.sed_parser.specs.declared.parsing.ParseRefusal.TheVariants as refusal
-use Rattle.sed_parser.specs.declared.halt.Halt.{Halt}
-use Rattle.sed_parser.specs.declared.halt.Halt.TheVariants.{Fault, Memory}
+use Rattle.sed_value.specs.declared.halt.Halt.{Halt}
+use Rattle.sed_value.specs.declared.halt.Halt.TheVariants.{Fault, Memory}
 
 -- a row ends where no further item is next
 many_stops : {A : Type 0} (go : List Token → Bool) (item : A → Phrase) (xs : List A) (tokens rest : List Token)

@@ -12,7 +12,8 @@ use Rattle.sed_units.specs.declared.label.Label.TheVariants as label
 use Rattle.sed_units.specs.Tree.{Tree, Absent, Part, row}
 use Rattle.sed_parser.specs.Rule.{Rule, give, nothing, when, must, ◌>>=◌, ◌>>◌}
 use Rattle.sed_parser.specs.Many.{many}
-use Rattle.sed_parser.specs.Next.{next_mark, next_key, next_literal, next_prefix, next_update, next_binary, next_assignment, next_goes, second_prim}
+use Rattle.sed_parser.specs.Next.{next_mark, next_key, next_literal, next_prefix, next_update, next_binary}
+use Rattle.sed_parser.specs.Next.{next_assignment, next_goes, second_prim}
 use Rattle.sed_parser.specs.Leaves as part
 
 -- the expressions of each level that may stand one construct deeper

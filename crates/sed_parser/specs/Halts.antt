@@ -3,16 +3,10 @@
 use Rattle.std.specs.Prelude.{◌≡◌, List, Result, Ok, Err}
 use Rattle.sed_lexer.specs.Token.{Token}
 use Rattle.sed_parser.specs.Reading.{Reading, Found, Stuck}
-use Rattle.sed_parser.specs.declared.halt.Halt.{Halt}
-use Rattle.sed_parser.specs.declared.halt.Halt.TheVariants.{Fault, Memory}
+use Rattle.sed_value.specs.declared.halt.Halt.{Halt}
+use Rattle.sed_value.specs.declared.halt.Halt.TheVariants.{Fault, Memory}
 
 abbrev pub Gives : {X : Type 0} → Result X Halt → List Token → Reading X → Type 0
 Gives (Ok x) rest reading = reading ≡ Found x rest
 Gives (Err Fault) rest reading = reading ≡ Stuck rest
 Gives (Err Memory) rest reading = Unit {0}
-
--- the value, which only want of memory prevents
-abbrev pub Makes : {X : Type 0} → Result X Halt → X → Type 0
-Makes (Ok x) y = x ≡ y
-Makes (Err Fault) y = ⊥
-Makes (Err Memory) y = Unit {0}

@@ -22,7 +22,8 @@ use Rattle.sed_units.specs.declared.operators.AssignOp.{AssignOp}
 use Rattle.sed_units.specs.declared.operators.PrefixOp.{PrefixOp}
 use Rattle.sed_units.specs.declared.operators.UpdateOp.{UpdateOp}
 use Rattle.sed_parser.specs.Rule.{Rule, give, look, token, when, must, ◌>>=◌, ◌>>◌}
-use Rattle.sed_units.specs.Words.{mark_of, key_of, ident_of, literal_of, integer_of, prim_of, modifier_of, binary_of, at_level, assignment_of, update_of, prefix_of}
+use Rattle.sed_units.specs.Words.{mark_of, key_of, ident_of, literal_of, integer_of, prim_of, modifier_of, binary_of}
+use Rattle.sed_units.specs.Words.{at_level, assignment_of, update_of, prefix_of}
 use Rattle.sed_parser.specs.Next.{start_of, next_mark, next_key, next_literal, next_prim, may_end}
 
 unfoldable pub mark : List ℕ → Rule (Unit {0})

@@ -1,11 +1,13 @@
 -- What follows for a rule that stands several times in a row.
-use Rattle.std.specs.Prelude.{◌≡◌, ◌⊎◌, ◌≤◌, ℕ, zero, suc, ◌+◌, Bool, true, false, cond, List, [], ◌∷◌, ◌++◌, length, refl}
+use Rattle.std.specs.Prelude.{◌≡◌, ◌⊎◌, ◌≤◌, ℕ, zero, suc, ◌+◌, Bool, true, false, cond, List, [], ◌∷◌, ◌++◌, length}
+use Rattle.std.specs.Prelude.{refl}
 use Rattle.std.proofs.Common.{arith, ap, subst, sym, inl, inr, ◌∙◌}
 use Rattle.std.proofs.lemmas.List.{length-append}
 use Rattle.sed_lexer.specs.Token.{Token}
 use Rattle.sed_parser.specs.Phrase.{Phrase, IsLeft, Many, ManyAt}
 use Rattle.sed_parser.specs.Reading.{Reading, Found, Stuck, read_on, many_at}
-use Rattle.sed_parser.specs.ReadingFacts.{read_on_found, read_on_stuck, found_eq, found_again, stuck_eq, not_found, not_stuck, none_taken, both_taken}
+use Rattle.sed_parser.specs.ReadingFacts.{read_on_found, read_on_stuck, found_eq, found_again, stuck_eq, not_found}
+use Rattle.sed_parser.specs.ReadingFacts.{not_stuck, none_taken, both_taken}
 use Rattle.sed_parser.specs.Rule.{Rule}
 
 none_sound : {A : Type 0} (go : List Token → Bool) (item : A → Phrase) (most : ℕ) (tokens : List Token) (xs : List A)

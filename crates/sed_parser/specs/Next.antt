@@ -3,7 +3,8 @@ use Rattle.std.specs.Prelude.{ℕ, Bool, true, false, ◌||◌, ◌&&◌, List, 
 use Rattle.std.specs.Str.{bytes_eq}
 use Rattle.sed_lexer.specs.Token.{Token}
 use Rattle.sed_lexer.specs.declared.kind.TokenKind.{TokenKind}
-use Rattle.sed_units.specs.Words.{is_some, is_mark, is_key, is_id, literal_kind, prim_of, modifier_of, binary_of, at_level, assignment_of, update_of, prefix_of, goes}
+use Rattle.sed_units.specs.Words.{is_some, is_mark, is_key, is_id, literal_kind, prim_of, modifier_of, binary_of}
+use Rattle.sed_units.specs.Words.{at_level, assignment_of, update_of, prefix_of, goes}
 
 -- the place of the next token in the text, and 0 at the end
 abbrev pub start_of : List Token → ℕ

@@ -1,10 +1,12 @@
 -- What follows for phrases and readings that are put together; the rules of the grammar carry it.
-use Rattle.std.specs.Prelude.{◌≡◌, ◌⊎◌, Bool, true, false, cond, nat_lt, List, [], ◌∷◌, ◌++◌, length, Option, Some, None, refl}
+use Rattle.std.specs.Prelude.{◌≡◌, ◌⊎◌, Bool, true, false, cond, nat_lt, List, [], ◌∷◌, ◌++◌, length, Option, Some}
+use Rattle.std.specs.Prelude.{None, refl}
 use Rattle.std.proofs.Common.{inl, inr, ap, sym, subst, ◌∙◌}
 use Rattle.std.proofs.lemmas.List.{append_assoc}
 use Rattle.sed_lexer.specs.Token.{Token}
 use Rattle.sed_parser.specs.Phrase.{Phrase, IsLeft, of_token}
-use Rattle.sed_parser.specs.Reading.{Reading, Found, Stuck, Reads, is_found, further, as_far, token_reading, read_token, read_on, by_head}
+use Rattle.sed_parser.specs.Reading.{Reading, Found, Stuck, Reads, is_found, further, as_far, token_reading, read_token}
+use Rattle.sed_parser.specs.Reading.{read_on, by_head}
 
 pub none_taken : (tokens rest : List Token) → tokens ≡ rest → IsLeft tokens rest
 none_taken tokens rest same = ([], same)
@@ -40,9 +42,11 @@ not_stuck tokens rest a e = cc
 token_reading_sound : {A : Type 0} (o : Option A) (here behind : List Token) (a : A) (rest : List Token)
     → token_reading o here behind ≡ Found a rest → (o ≡ Some a) × (behind ≡ rest)
 token_reading_sound None here behind a rest e = absurd (not_found here rest a e)
-token_reading_sound {A} (Some b) here behind a rest e = let g = found_eq b behind a rest e in (ap (λ (x : A). Some x) g.0, g.1)
+token_reading_sound {A} (Some b) here behind a rest e = let g =
+    found_eq b behind a rest e in (ap (λ (x : A). Some x) g.0, g.1)
 
-token_reading_stuck : {A : Type 0} (o : Option A) (here behind rest : List Token) → token_reading o here behind ≡ Stuck rest
+token_reading_stuck : {A : Type 0} (o : Option A) (here behind rest : List Token)
+    → token_reading o here behind ≡ Stuck rest
     → here ≡ rest
 token_reading_stuck {A} None here behind rest e = stuck_eq {A = A} here rest e
 token_reading_stuck (Some b) here behind rest e = absurd (not_stuck behind rest b e)

@@ -8,7 +8,10 @@ use Rattle.std.specs.Prelude.{◌≡◌, ◌⊎◌, Bool, true, false, cond, Lis
 use Rattle.sed_lexer.specs.Token.{Token}
 use Rattle.sed_parser.specs.Phrase.{Phrase, IsLeft, of_token}
 use Rattle.sed_parser.specs.Reading.{Reading, Found, Stuck, Reads, is_found, read_token, read_on, by_head}
-use Rattle.sed_parser.specs.ReadingFacts.{none_taken, both_taken, found_eq, found_again, stuck_eq, not_found, not_stuck, token_sound, token_whole, token_left, token_stuck, read_on_found, read_on_whole, in_order_stuck, either_sound, either_whole, either_left, either_stuck, head_sound, head_whole, head_stuck}
+use Rattle.sed_parser.specs.ReadingFacts.{none_taken, both_taken, found_eq, found_again, stuck_eq, not_found, not_stuck}
+use Rattle.sed_parser.specs.ReadingFacts.{token_sound, token_whole, token_left, token_stuck, read_on_found}
+use Rattle.sed_parser.specs.ReadingFacts.{read_on_whole, in_order_stuck, either_sound, either_whole, either_left}
+use Rattle.sed_parser.specs.ReadingFacts.{either_stuck, head_sound, head_whole, head_stuck}
 
 pub record Rule (A : Type 0) : Type 1 where
   pub holds : A → Phrase

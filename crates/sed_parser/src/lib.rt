@@ -3,8 +3,6 @@
 //! `parse` gives the unit that the tokens derive by the grammar of `specs/Derives`, and a fault where they derive none.
 #![tactic(auto)]
 
-mod boxed;
-mod halt;
 mod parser;
 mod parsing;
 

@@ -9,15 +9,12 @@ ghost use Rattle.sed_parser.specs.Halts.{Gives};
 mod classes;
 mod expressions;
 mod leaves;
-mod made_classes;
-mod made_expressions;
-mod made_statements;
 mod nesting;
 mod statements;
 mod steps;
 
-use crate::halt::Halt;
 use sed_lexer::{TokenKind, Tokens};
+use sed_trees::Halt;
 use sed_units::{BinaryOp, Ident, Literal, LiteralKind, OfToken, leads_on};
 use sed_value::{Items, Prim};
 use std::alloc::Global;

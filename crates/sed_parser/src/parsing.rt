@@ -5,9 +5,9 @@ ghost use Rattle.sed_parser.specs.Derives.{Derives, FaultsAt};
 ghost use Rattle.sed_units.specs.declared.classes.Unit.{Unit as TheUnit};
 ghost use Rattle.sed_parser.specs.declared.parsing.ParseRefusal.TheVariants as refusal;
 
-use crate::halt::Halt;
 use crate::parser::Parser;
 use sed_lexer::Tokens;
+use sed_trees::Halt;
 use sed_units::Unit;
 use std::alloc::Global;
 use thiserror::Error;

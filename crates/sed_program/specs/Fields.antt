@@ -1,5 +1,6 @@
 -- The fields and the static fields of a program, with their numbers and what they begin with.
-use Rattle.std.specs.Prelude.{ℕ, ◌+◌, if◌then◌else◌, List, [], ◌∷◌, ◌++◌, filter, length, position, sum_by, take, unwrap_or, Option, Some, None}
+use Rattle.std.specs.Prelude.{ℕ, ◌+◌, if◌then◌else◌, List, [], ◌∷◌, ◌++◌, filter, length, position, sum_by, take}
+use Rattle.std.specs.Prelude.{unwrap_or, Option, Some, None}
 use Rattle.std.specs.List.{enumerate_from, filter_map, flat_map}
 use Rattle.std.specs.Option.{option_map}
 use Rattle.std.specs.Str.{bytes_eq}
@@ -21,7 +22,8 @@ use Rattle.sed_classes.specs.declared.source_type.Constant.{Constant}
 use Rattle.sed_classes.specs.declared.source_type.Constant.TheVariants as constant
 use Rattle.sed_classes.specs.Bases.{bases}
 use Rattle.sed_classes.specs.Literals.{text_of}
-use Rattle.sed_classes.specs.Members.{kit_of, members_of, has_name, is_instance_field, is_static_field, is_property, form_value}
+use Rattle.sed_classes.specs.Members.{kit_of, members_of, has_name, is_instance_field, is_static_field, is_property}
+use Rattle.sed_classes.specs.Members.{form_value}
 use Rattle.sed_classes.specs.Schema.{class_order, type_number}
 use Rattle.sed_classes.specs.Slots.{slots}
 use Rattle.sed_classes.specs.Values.{constant_of, kept_constant}

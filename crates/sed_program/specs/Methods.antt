@@ -5,7 +5,8 @@ use Rattle.sed_units.specs.declared.leaves.ModifierWord.TheVariants as word
 use Rattle.sed_units.specs.declared.classes.Member.{Member}
 use Rattle.sed_names.specs.declared.signature.Signature.{Signature}
 use Rattle.sed_classes.specs.declared.kit_units.KitUnits.{KitUnits}
-use Rattle.sed_classes.specs.Members.{Owned, owned, kit_of, members_of, form_params, has_word, is_method, is_open, is_static, overrides}
+use Rattle.sed_classes.specs.Members.{Owned, owned, kit_of, members_of, form_params, has_word, is_method, is_open}
+use Rattle.sed_classes.specs.Members.{is_static, overrides}
 use Rattle.sed_classes.specs.Schema.{class_order}
 use Rattle.sed_program.specs.Fields.{before_class, place_named}
 use Rattle.sed_program.specs.Types.{param_kind, result_kind}

@@ -13,7 +13,8 @@ use Rattle.sed_typed.specs.declared.program.FieldForm.{FieldForm}
 use Rattle.sed_typed.specs.declared.program.FieldForm.TheVariants as form
 use Rattle.sed_classes.specs.declared.kit_units.KitUnits.{KitUnits}
 use Rattle.sed_classes.specs.declared.source_type.SourceType.{SourceType}
-use Rattle.sed_classes.specs.declared.source_type.SourceType.TheVariants.{Void, Prim, Text, SizedText, Buf, Array, Object}
+use Rattle.sed_classes.specs.declared.source_type.SourceType.TheVariants.{Void, Prim, Text, SizedText, Buf, Array}
+use Rattle.sed_classes.specs.declared.source_type.SourceType.TheVariants.{Object}
 use Rattle.sed_classes.specs.Objects.{has_form}
 use Rattle.sed_classes.specs.Schema.{class_order, type_number}
 use Rattle.sed_classes.specs.Types.{type_of}

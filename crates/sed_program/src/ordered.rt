@@ -1,5 +1,6 @@
 //! All classes with their numbers in the schema.
-ghost use Rattle.std.specs.Prelude.{◌≡◌, ◌≤◌, ◌^◌, ◌==◌, length, option_map, position, slice_get, sum_by, IfOk, IfSome, None};
+ghost use Rattle.std.specs.Prelude.{◌≡◌, ◌≤◌, ◌^◌, ◌==◌, length, option_map, position, slice_get, sum_by, IfOk, IfSome};
+ghost use Rattle.std.specs.Prelude.{None};
 ghost use Rattle.std.specs.List.{list_any};
 ghost use Rattle.std.specs.Option.{IfNone};
 ghost use Rattle.sed_classes.specs.Declarations.{all_classes};

@@ -1,5 +1,6 @@
 //! Tables of what names mean.
-ghost use Rattle.std.specs.Prelude.{◌≡◌, ◌<◌, length, option_and_then, option_copied, option_map, position, IfOk, IfSome};
+ghost use Rattle.std.specs.Prelude.{◌≡◌, ◌<◌, length, option_and_then, option_copied, option_map, position, IfOk};
+ghost use Rattle.std.specs.Prelude.{IfSome};
 ghost use Rattle.sed_classes.specs.Members as declared;
 ghost use Rattle.sed_objects.specs.Rounds.{row_of};
 ghost use Rattle.sed_program.specs.Tables as tables;

@@ -111,7 +111,8 @@ fn members_fault(
     entry: &Entry<'_>,
 ) -> Option<Fault>
     requires { lineage.now ≡ ancestry.lineage based.now class }
-    ensures { result ≡ least (said_from (faults.member_form_faults based.now class (declaration_of entry.now)) 0 entry.now.class.now.members) }
+    ensures { result ≡ least (said_from (faults.member_form_faults based.now class (declaration_of entry.now))
+        0 entry.now.class.now.members) }
 {
     let members = entry.class.members.as_slice();
     let mut first = None;
@@ -155,7 +156,8 @@ fn class_fault(
 ///
 /// Want of memory is the only refusal.
 pub fn form_fault(alloc: Global, based: &Based<'_>, class: usize) -> Result<Option<Fault>, Memory>
-    ensures { IfOk result (λ f. f ≡ option_map_or (λ d. least (faults.form_faults based.now class d)) (class_at based.now class) None) }
+    ensures { IfOk result (λ f. f ≡ option_map_or (λ d. least (faults.form_faults based.now class d))
+        (class_at based.now class) None) }
 {
     match based.classes().entry_at(class) {
         Some(entry) => {

@@ -1,5 +1,6 @@
 -- The canonical text of a kit: what of its schema a checksum speaks of.
-use Rattle.std.specs.Prelude.{ℕ, zero, suc, Bool, true, false, List, [], ◌∷◌, ◌++◌, drop, length, slice_get, Option, Some, None, codes}
+use Rattle.std.specs.Prelude.{ℕ, zero, suc, Bool, true, false, List, [], ◌∷◌, ◌++◌, drop, length, slice_get, Option}
+use Rattle.std.specs.Prelude.{Some, None, codes}
 use Rattle.std.specs.List.{flat_map}
 use Rattle.std.specs.Option.{option_map, option_map_or}
 use Rattle.std.specs.Fmt.{decimal}
@@ -48,7 +49,8 @@ config_word false = codes "runtime"
 
 -- `prop NAME TYPE config`, `prop NAME TYPE runtime` or `action NAME ARG`
 abbrev pub form_line : List ℕ → Bool → SlotForm → List ℕ
-form_line name config (Prop t) = codes "prop " ++ (name ++ (codes " " ++ (type_word t ++ (codes " " ++ (config_word config ++ line_end)))))
+form_line name config (Prop t) =
+    codes "prop " ++ (name ++ (codes " " ++ (type_word t ++ (codes " " ++ (config_word config ++ line_end)))))
 form_line name config (Action a) = codes "action " ++ (name ++ (codes " " ++ (argument_word a ++ line_end)))
 
 abbrev pub slot_line : SlotInfo → List ℕ
@@ -83,7 +85,8 @@ abstract_word false = codes "concrete"
 -- `class NAME BASE abstract` or `class NAME BASE concrete`
 abbrev pub class_line : Schema → ClassInfo → List ℕ
 class_line schema class =
-    codes "class " ++ (class.name ++ (codes " " ++ (base_word schema class ++ (codes " " ++ (abstract_word class.is_abstract ++ line_end)))))
+    codes "class " ++ (class.name
+    ++ (codes " " ++ (base_word schema class ++ (codes " " ++ (abstract_word class.is_abstract ++ line_end)))))
 
 -- how many slots a class inherits
 abbrev pub inherited_slots : Schema → ClassInfo → ℕ
@@ -100,7 +103,8 @@ class_text schema class = class_line schema class ++ flat_map slot_line (own_slo
 -- the text of the type of a number in a kit; where there is none, nothing
 unfoldable pub type_text : Schema → ℕ → ℕ → List ℕ
 type_text schema kit number =
-    option_map_or (λ class. option_map_or (class_text schema) (slice_get schema.classes class) []) (type_at schema.classes kit number) []
+    option_map_or (λ class. option_map_or (class_text schema) (slice_get schema.classes class) [])
+    (type_at schema.classes kit number) []
 
 -- the texts of the types below a number
 unfoldable pub types_text : Schema → ℕ → ℕ → List ℕ

@@ -8,8 +8,8 @@ use sed_value::Memory;
 use sha1::Sha1;
 use std::alloc::Global;
 
-/// The checksum of a kit of the schema, by its number: the first four bytes of SHA-1 over its canonical text, the highest
-/// byte first.
+/// The checksum of a kit of the schema, by its number: the first four bytes of SHA-1 over its canonical text, the
+/// highest byte first.
 ///
 /// Want of memory is the only refusal.
 pub fn checksum(alloc: Global, schema: &Schema, kit: u8) -> Result<i32, Memory>

@@ -161,7 +161,8 @@ fn push_property(
     slot: &SlotInfo,
     kind: SlotType,
 ) -> Result<(), Memory>
-    ensures { OnOk result (out.new.items ≡ out.old.items ++ canonical.form_line slot.now.name slot.now.config (SlotForm.Prop kind)) }
+    ensures { OnOk result (out.new.items ≡ out.old.items
+        ++ canonical.form_line slot.now.name slot.now.config (SlotForm.Prop kind)) }
 {
     out.extend_from_slice(b"prop ")?;
     out.extend_from_slice(slot.name.as_bytes())?;
@@ -174,7 +175,8 @@ fn push_property(
 }
 
 fn push_action(out: &mut Vec<u8>, slot: &SlotInfo, argument: ActionArg) -> Result<(), Memory>
-    ensures { OnOk result (out.new.items ≡ out.old.items ++ canonical.form_line slot.now.name slot.now.config (SlotForm.Action argument)) }
+    ensures { OnOk result (out.new.items ≡ out.old.items
+        ++ canonical.form_line slot.now.name slot.now.config (SlotForm.Action argument)) }
 {
     out.extend_from_slice(b"action ")?;
     out.extend_from_slice(slot.name.as_bytes())?;

@@ -1,5 +1,5 @@
--- What the types of locals and parameters stand for. They are bool, int, long, Str and classes; a byte or a short is read as an
--- int, and nothing keeps one but a field.
+-- What the types of locals and parameters stand for. They are bool, int, long, Str and classes; a byte or a short is
+-- read as an int, and nothing keeps one but a field.
 use Rattle.std.specs.Prelude.{ℕ, if◌then◌else◌, List, codes, Option, Some, None}
 use Rattle.std.specs.Str.{bytes_eq}
 use Rattle.sed_value.specs.declared.slot_type.Primitive.{Primitive}

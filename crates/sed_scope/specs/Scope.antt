@@ -1,6 +1,7 @@
--- The locals in scope. Each local of a method has a number of its own, in the order of the text: the receiver's is 0, then come
--- the parameters, and then the locals that the body declares. One whose block has ended keeps its number.
-use Rattle.std.specs.Prelude.{ℕ, ◌+◌, Bool, true, false, nat_le, nat_lt, if◌then◌else◌, List, [], ◌∷◌, ◌++◌, find, take, Option, None, option_map}
+-- The locals in scope. Each local of a method has a number of its own, in the order of the text: the receiver's is 0,
+-- then come the parameters, and then the locals that the body declares. One whose block has ended keeps its number.
+use Rattle.std.specs.Prelude.{ℕ, ◌+◌, Bool, true, false, nat_le, nat_lt, if◌then◌else◌, List, [], ◌∷◌, ◌++◌, find, take}
+use Rattle.std.specs.Prelude.{Option, None, option_map}
 use Rattle.std.specs.Str.{bytes_eq}
 use Rattle.sed_units.specs.Tree.{Tree, Absent, Part}
 use Rattle.sed_units.specs.declared.label.Label.TheVariants as label
@@ -32,7 +33,8 @@ abbrev pub numbered_past : ℕ → ℕ → Tree → ℕ
 numbered_past limit next (Part (label.Local at type name) x y) = following limit next
 numbered_past limit next (Part (label.Block at) all y) = numbered_past limit next all
 numbered_past limit next (Part label.More t rest) = numbered_past limit (numbered_past limit next t) rest
-numbered_past limit next (Part (label.If at) t (Part label.Both x y)) = numbered_past limit (numbered_past limit next x) y
+numbered_past limit next (Part (label.If at) t (Part label.Both x y)) =
+    numbered_past limit (numbered_past limit next x) y
 numbered_past limit next (Part (label.While at) t x) = numbered_past limit next x
 numbered_past limit next (Part (label.Do at) x t) = numbered_past limit next x
 numbered_past limit next (Part (label.For at) (Part label.Both first t) (Part label.Both last x)) =
@@ -54,7 +56,11 @@ entry_of n limit next type name = record { name = name; local = local_of n limit
 
 abbrev pub with_local : Names → Scope → TypeRef → List ℕ → Scope
 with_local n s type name =
-    record { entries = s.entries ++ entry_of n s.limit s.next type name ∷ []; next = following s.limit s.next; limit = s.limit }
+    record {
+      entries = s.entries ++ entry_of n s.limit s.next type name ∷ [];
+      next = following s.limit s.next;
+      limit = s.limit;
+    }
 
 -- behind a statement whose locals are out of scope
 abbrev pub past : Scope → Tree → Scope

@@ -122,7 +122,8 @@ impl Locals {
         kind: &TypeRef,
         name: &[u8],
     ) -> Result<(), Memory>
-        ensures declared { IfOk result (λ _. self.new ≡ scopes.with_local (N.names names.now) self.old kind.now name.now) }
+        ensures declared { IfOk result (λ _. self.new
+            ≡ scopes.with_local (N.names names.now) self.old kind.now name.now) }
         ensures kept { OnErr result (self.new ≡ self.old) }
     {
         let local = local_of(names, self.limit, self.next, kind);
@@ -135,12 +136,16 @@ impl Locals {
         Ok(())
     }
 
-    /// Ends a block: only as many locals as there were at its start stay in scope. The numbers of the others are not used again.
+    /// Ends a block: only as many locals as there were at its start stay in scope. The numbers of the others are not
+    /// used again.
     pub fn leave(&mut self, mark: usize)
         ensures cut { self.new ≡ cut mark self.old }
-        ensures statement { (n : Names) (s : Scope) (t : Tree) → mark ≡ length s.entries → self.old ≡ behind n s t → self.new ≡ past s t }
-        ensures row { (n : Names) (s : Scope) (t : Tree) → mark ≡ length s.entries → self.old ≡ behind_all n s t → self.new ≡ past s t }
-        ensures cases { (n : Names) (s : Scope) (t : Tree) → mark ≡ length s.entries → self.old ≡ behind_cases n s t → self.new ≡ past s t }
+        ensures statement { (n : Names) (s : Scope) (t : Tree) → mark ≡ length s.entries
+            → self.old ≡ behind n s t → self.new ≡ past s t }
+        ensures row { (n : Names) (s : Scope) (t : Tree) → mark ≡ length s.entries
+            → self.old ≡ behind_all n s t → self.new ≡ past s t }
+        ensures cases { (n : Names) (s : Scope) (t : Tree) → mark ≡ length s.entries
+            → self.old ≡ behind_cases n s t → self.new ≡ past s t }
     {
         self.entries.truncate(mark);
     }

@@ -1,5 +1,6 @@
 -- What a method body without a fault is, in a program in which its names mean what they say.
-use Rattle.std.specs.Prelude.{◌≡◌, ◌≤◌, ◌<◌, ◌+◌, ℕ, Bool, false, All, IfSome, IsSomeAnd, List, ◌++◌, length, map, slice_get, Some}
+use Rattle.std.specs.Prelude.{◌≡◌, ◌≤◌, ◌<◌, ◌+◌, ℕ, Bool, false, All, IfSome, IsSomeAnd, List, ◌++◌, length, map}
+use Rattle.std.specs.Prelude.{slice_get, Some}
 use Rattle.std.specs.Option.{option_map, option_and_then}
 use Rattle.sed_units.specs.Tree.{Tree, row}
 use Rattle.sed_units.specs.declared.leaves.Param.{Param}

@@ -30,8 +30,8 @@ pub struct FoundStmts {
     items: Vec<Stmt>,
 }
 
-/// The labels of a `switch` in the making, each with the block behind it. Contracts see the row of their terms; the trees of
-/// the blocks are flat.
+/// The labels of a `switch` in the making, each with the block behind it. Contracts see the row of their terms; the
+/// trees of the blocks are flat.
 #[derive(Drop)]
 pub struct FoundCases {
     labels: Vec<Label>,
@@ -227,7 +227,9 @@ impl FoundStmt {
         body: FoundStmt,
     ) -> Result<FoundStmt, Memory>
         requires { IfSome test (λ t. is_value t ≡ true) }
-        ensures { IfOk result (λ r. r ≡ Node sign.For (Node sign.Pair first (Node sign.Pair (optional test) (optional (option_map forms.discarded last)))) body) }
+        ensures { IfOk result (λ r.
+            r ≡ Node sign.For (Node sign.Pair first
+            (Node sign.Pair (optional test) (optional (option_map forms.discarded last)))) body) }
     {
         let test = optional_value(alloc, test)?;
         let last = optional_evaluated(alloc, last)?;

@@ -1,5 +1,5 @@
--- The rules on stores. Rule 14 is broken where what is assigned to is no place, and rule 15 at a value that does not go to its
--- place. What an assignment that computes reads is an operand, so rule 13 speaks of it too.
+-- The rules on stores. Rule 14 is broken where what is assigned to is no place, and rule 15 at a value that does not go
+-- to its place. What an assignment that computes reads is an operand, so rule 13 speaks of it too.
 use Rattle.std.specs.Prelude.{ℕ, Bool, true, false, ◌&&◌, ◌||◌, if◌then◌else◌, not, Option, Some, None}
 use Rattle.sed_units.specs.declared.operators.AssignOp.{AssignOp}
 use Rattle.sed_units.specs.declared.operators.AssignOp.TheVariants as assign
@@ -20,8 +20,8 @@ use Rattle.sed_terms.specs.Term.{Term}
 use Rattle.sed_conversions.specs.Conversions.{is_number, is_int, is_long, width_of, in_width, placed}
 use Rattle.sed_conversions.specs.Wants.{wants}
 
--- What is assigned to. A cast of a variable comes to what the variable does, but names no place, so it is said beside whether
--- the source may name one.
+-- What is assigned to. A cast of a variable comes to what the variable does, but names no place, so it is said beside
+-- whether the source may name one.
 abbrev pub target : {F : Type 0} → Marks F → ℕ → Bool → Judged Term F → Judged Term F
 target m at may x = after x (λ t. unless m (may && is_place t) (broken 14 at) t)
 
@@ -30,18 +30,21 @@ abbrev pub going : {F : Type 0} → Marks F → (ℕ → ℕ → Bool) → Kind 
 going m below to at t = some_or m (broken 15 at) (placed below to t)
 
 -- `=`, with the place of the whole and that of the value
-abbrev pub assigned : {F : Type 0} → Marks F → (ℕ → ℕ → Bool) → ℕ → Bool → ℕ → Judged Term F → Judged Term F → Judged Term F
+abbrev pub assigned : {F : Type 0} → Marks F → (ℕ → ℕ → Bool) → ℕ → Bool
+    → ℕ → Judged Term F → Judged Term F → Judged Term F
 assigned m below at may right x y =
     joined m (target m at may x) y (λ s t. after (going m below (term_kind s) right t) (λ v. Sound (stored s v)))
 
 -- what is read, and then stored again, is a place and a number
 abbrev pub is_target : {F : Type 0} → Marks F → ℕ → ℕ → Bool → Bool → Judged Bool F
-is_target m at left place number = joined m (unless m place (broken 14 at) place) (unless m number (broken 13 left) number) (λ a b. Sound b)
+is_target m at left place number =
+    joined m (unless m place (broken 14 at) place) (unless m number (broken 13 left) number) (λ a b. Sound b)
 
 -- with the place of the whole, and where it stands in the text
 abbrev pub number_target : {F : Type 0} → Marks F → ℕ → Bool → ℕ → Judged Term F → Judged Term F
 number_target m at may left x =
-    after x (λ t. after {A = Bool} (is_target m at left (may && is_place t) (is_number (sort_of t))) (λ number. Sound t))
+    after x (λ t. after {A = Bool} (is_target m at left (may && is_place t) (is_number (sort_of t)))
+    (λ number. Sound t))
 
 abbrev pub storing : Arithmetic → Width → Update
 storing a w = record { arithmetic = a; width = w; gives = New }
@@ -63,11 +66,13 @@ lengthened m a right s t = if is_no_longer s t then Sound (updated (storing a (w
 -- `op=` with a shift, whose count is an int
 abbrev pub shifted : {F : Type 0} → Marks F → Arithmetic → ℕ → Bool → ℕ → Judged Term F → Judged Term F → Judged Term F
 shifted m a at may right x y =
-    joined m (number_target m at may at x) (wants m is_int right y) (λ s t. Sound (updated (storing a (width_of s)) s t))
+    joined m (number_target m at may at x) (wants m is_int right y)
+    (λ s t. Sound (updated (storing a (width_of s)) s t))
 
 -- and with another operator
 abbrev pub computed : {F : Type 0} → Marks F → Arithmetic → ℕ → Bool → ℕ → Judged Term F → Judged Term F → Judged Term F
-computed m a at may right x y = joined m (number_target m at may at x) (wants m is_number right y) (λ s t. lengthened m a right s t)
+computed m a at may right x y =
+    joined m (number_target m at may at x) (wants m is_number right y) (λ s t. lengthened m a right s t)
 
 -- with the place of the whole and that of the operand
 abbrev pub compound : {F : Type 0} → Marks F → Arithmetic → ℕ → Bool → ℕ → Judged Term F → Judged Term F → Judged Term F

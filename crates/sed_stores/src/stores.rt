@@ -175,7 +175,8 @@ fn updated(alloc: Global, op: Arithmetic, x: Found, y: Found) -> Result<Found, M
 fn updated_in_width(alloc: Global, op: Arithmetic, x: Found, y: Found) -> Result<Found, Memory>
     requires place { sorts.is_place x ≡ true }
     requires value { is_value y ≡ true }
-    ensures { IfOk result (λ r. r ≡ forms.updated (stores.storing op (conversions.width_of x)) x (conversions.in_width (conversions.width_of x) y)) }
+    ensures { IfOk result (λ r. r ≡ forms.updated (stores.storing op (conversions.width_of x))
+        x (conversions.in_width (conversions.width_of x) y)) }
 {
     let y = in_width(alloc, width_of(&x), y)?;
     updated(alloc, op, x, y)

@@ -1,6 +1,7 @@
--- Faults, and what is found of a part of a text. An expression with a fault inside is unknown, and no rule speaks of it: rules
--- are written with the words of this file, which pass on what is unknown.
-use Rattle.std.specs.Prelude.{◌≡◌, ℕ, Bool, ◌==◌, ◌&&◌, ◌||◌, nat_lt, if◌then◌else◌, List, [], ◌∷◌, ◌++◌, Option, Some, None}
+-- Faults, and what is found of a part of a text. An expression with a fault inside is unknown, and no rule speaks of
+-- it: rules are written with the words of this file, which pass on what is unknown.
+use Rattle.std.specs.Prelude.{◌≡◌, ℕ, Bool, ◌==◌, ◌&&◌, ◌||◌, nat_lt, if◌then◌else◌, List, [], ◌∷◌, ◌++◌, Option, Some}
+use Rattle.std.specs.Prelude.{None}
 use Rattle.sed_terms.specs.declared.judged.Fault.{Fault}
 use Rattle.sed_terms.specs.declared.judged.Judged.{Judged}
 use Rattle.sed_terms.specs.declared.judged.Judged.TheVariants.{Sound, Unknown}

@@ -54,8 +54,8 @@ updated u target operand = Node (sign.Update u) target operand
 abbrev pub counted : Arithmetic → Width → Term → Term
 counted a w target = updated (record { arithmetic = a; width = w; gives = Old }) target (one_in w)
 
--- What is evaluated of an expression whose value is not used: of one that only names an array or a Buf its receiver, if it has
--- one. A static is named behind an instance.
+-- What is evaluated of an expression whose value is not used: of one that only names an array or a Buf its receiver, if
+-- it has one. A static is named behind an instance.
 abbrev pub evaluated_after : Term → Term → Term
 evaluated_after e Absent = e
 evaluated_after e (Node s a b) = Node sign.After e (Node s a b)

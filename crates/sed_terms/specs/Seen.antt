@@ -5,7 +5,8 @@ use Rattle.sed_typed.specs.declared.operators.Gives.TheVariants.{Old, New}
 use Rattle.sed_typed.specs.declared.statement.Label.{Label}
 use Rattle.sed_typed.specs.declared.statement.Stmt.{Stmt, Row_of-Stmt, end_of-Stmt, more_of-Stmt}
 use Rattle.sed_typed.specs.declared.statement.Stmt.TheVariants as stmt
-use Rattle.sed_typed.specs.declared.tree.Expr.{Expr, Row_of-Expr, end_of-Expr, more_of-Expr, Row_of-Link, end_of-Link, more_of-Link}
+use Rattle.sed_typed.specs.declared.tree.Expr.{Expr, Row_of-Expr, end_of-Expr, more_of-Expr, Row_of-Link, end_of-Link}
+use Rattle.sed_typed.specs.declared.tree.Expr.{more_of-Link}
 use Rattle.sed_typed.specs.declared.tree.Expr.TheVariants as expr
 use Rattle.sed_typed.specs.declared.tree.Link.{Link}
 use Rattle.sed_typed.specs.declared.tree.Link.TheVariants as link
@@ -14,8 +15,8 @@ use Rattle.sed_typed.specs.declared.tree.Place.TheVariants as place
 use Rattle.sed_terms.specs.declared.sign.Sign.TheVariants as sign
 use Rattle.sed_terms.specs.Term.{Term, Absent, Node, leaf}
 
--- The operand of an assignment that computes. That of `x++` and `x--` is a number that the source does not write: there one that
--- is no literal is no term of its own.
+-- The operand of an assignment that computes. That of `x++` and `x--` is a number that the source does not write: there
+-- one that is no literal is no term of its own.
 abbrev pub literal_operand : Expr → Term → Term
 literal_operand (expr.Int n) t = t
 literal_operand (expr.Long n) t = t
@@ -91,7 +92,8 @@ abbrev mutual
   stmt_term (stmt.While' t p body) = Node sign.While (term_of t) (stmt_term body)
   stmt_term (stmt.DoWhile' p body t) = Node sign.DoWhile (stmt_term body) (term_of t)
   stmt_term (stmt.For' p first t last q body) =
-      Node sign.For (Node sign.Pair (stmt_term first) (Node sign.Pair (optional_term t) (optional_term last))) (stmt_term body)
+      Node sign.For (Node sign.Pair (stmt_term first) (Node sign.Pair (optional_term t) (optional_term last)))
+      (stmt_term body)
   stmt_term (stmt.Switch' e labels shape all) = Node sign.Switch (term_of e) (cases_term labels.items all)
   stmt_term stmt.Break = leaf sign.Break
   stmt_term stmt.Continue = leaf sign.Continue
@@ -101,8 +103,8 @@ abbrev mutual
   stmts_term end_of-Stmt = Absent
   stmts_term (more_of-Stmt x xs) = Node sign.More (stmt_term x) (stmts_term xs)
 
-  -- Each label with the block behind it. A label without a block has nothing in its place, and a block without a label stands
-  -- as an item.
+  -- Each label with the block behind it. A label without a block has nothing in its place, and a block without a label
+  -- stands as an item.
   pub cases_term : {n : _} → List Label → Row_of-Stmt n → Term
   cases_term [] end_of-Stmt = Absent
   cases_term [] (more_of-Stmt x xs) = Node sign.More (stmt_term x) (cases_term [] xs)

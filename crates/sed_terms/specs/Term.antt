@@ -1,5 +1,6 @@
--- Typed trees without places in memory. A node has a sign and two parts. A row is a chain of nodes, with `More` before each
--- item. What follows an operand stands around it, so a chain of links is one node above another, however it is grouped.
+-- Typed trees without places in memory. A node has a sign and two parts. A row is a chain of nodes, with `More` before
+-- each item. What follows an operand stands around it, so a chain of links is one node above another, however it is
+-- grouped.
 use Rattle.std.specs.Prelude.{◌≡◌, List, [], ◌∷◌, Option, Some, None, refl}
 use Rattle.std.proofs.Common.{◌∙◌, ap}
 use Rattle.std.specs.Coded.{Coded, code_by, coded_list, coded_option}
@@ -45,9 +46,11 @@ read_back [] stack = stack
 read_back (None ∷ rest) stack = read_back rest (Absent ∷ stack)
 read_back (Some s ∷ rest) stack = read_back rest (stacked s stack)
 
-pub reads_back : (t : Term) (rest : List (Option Sign)) (stack : List Term) → read_back (signs t rest) stack ≡ read_back rest (t ∷ stack)
+pub reads_back : (t : Term) (rest : List (Option Sign)) (stack : List Term)
+    → read_back (signs t rest) stack ≡ read_back rest (t ∷ stack)
 reads_back Absent rest stack = refl
-reads_back (Node s a b) rest stack = reads_back a (signs b (Some s ∷ rest)) stack ∙ reads_back b (Some s ∷ rest) (a ∷ stack)
+reads_back (Node s a b) rest stack =
+    reads_back a (signs b (Some s ∷ rest)) stack ∙ reads_back b (Some s ∷ rest) (a ∷ stack)
 
 abbrev pub first_or_absent : List Term → Term
 first_or_absent [] = Absent
@@ -57,4 +60,5 @@ pub is_read_back : (t : Term) → first_or_absent (read_back (signs t []) []) �
 is_read_back t = ap first_or_absent (reads_back t [] [])
 
 abbrev pub term_code : Coded Sign → Coded Term
-term_code c = code_by (List (Option Sign)) (coded_list (coded_option c)) (λ t. signs t []) (λ s. first_or_absent (read_back s [])) is_read_back
+term_code c = code_by (List (Option Sign)) (coded_list (coded_option c))
+    (λ t. signs t []) (λ s. first_or_absent (read_back s [])) is_read_back

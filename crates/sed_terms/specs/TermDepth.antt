@@ -1,4 +1,5 @@
--- How deep terms nest, as the grammar of the language counts it, and the locals that they declare: both as in their trees.
+-- How deep terms nest, as the grammar of the language counts it, and the locals that they declare: both as in their
+-- trees.
 use Rattle.std.specs.Prelude.{ℕ, suc, max, List, [], ◌∷◌, ◌++◌}
 use Rattle.sed_typed.specs.Depth.{unary_depth, value_depth}
 use Rattle.sed_typed.specs.Locals.{Declared}
@@ -35,7 +36,8 @@ abbrev mutual
   stmt_term_depth (Node sign.Do e b) = term_depth e
   stmt_term_depth (Node (sign.Begin k i) e b) = term_depth e
   stmt_term_depth (Node sign.Block all b) = block_term_depth all
-  stmt_term_depth (Node sign.If t (Node sign.Pair x y)) = suc (max (term_depth t) (max (stmt_term_depth x) (stmt_term_depth y)))
+  stmt_term_depth (Node sign.If t (Node sign.Pair x y)) =
+      suc (max (term_depth t) (max (stmt_term_depth x) (stmt_term_depth y)))
   stmt_term_depth (Node sign.While t x) = suc (max (term_depth t) (stmt_term_depth x))
   stmt_term_depth (Node sign.DoWhile x t) = suc (max (term_depth t) (stmt_term_depth x))
   stmt_term_depth (Node sign.For (Node sign.Pair first (Node sign.Pair t last)) x) =

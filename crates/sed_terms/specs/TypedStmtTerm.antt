@@ -48,9 +48,11 @@ abbrev mutual
   pub IsStmtTerm : Context → Around → Term → Type 0
   IsStmtTerm c around (Node sign.Empty a b) = Unit {0}
   IsStmtTerm c around (Node sign.Do e b) = IsTerm c e
-  IsStmtTerm c around (Node (sign.Begin k i) e b) = (slice_get c.locals i ≡ Some k) × IsTermBegun c k e × IsNoReceiver c i
+  IsStmtTerm c around (Node (sign.Begin k i) e b) = (slice_get c.locals i ≡ Some k)
+      × IsTermBegun c k e × IsNoReceiver c i
   IsStmtTerm c around (Node sign.Block all b) = AreStmtTerms c around all
-  IsStmtTerm c around (Node sign.If t (Node sign.Pair x y)) = IsTermCondition c t × IsStmtTerm c around x × IsStmtTerm c around y
+  IsStmtTerm c around (Node sign.If t (Node sign.Pair x y)) =
+      IsTermCondition c t × IsStmtTerm c around x × IsStmtTerm c around y
   IsStmtTerm c around (Node sign.While t x) = IsTermCondition c t × IsStmtTerm c in_loop x
   IsStmtTerm c around (Node sign.DoWhile x t) = IsStmtTerm c in_loop x × IsTermCondition c t
   IsStmtTerm c around (Node sign.For (Node sign.Pair first (Node sign.Pair t last)) x) =

@@ -12,7 +12,8 @@ use sed_value::Memory;
 use std::alloc::Global;
 use std::marker::Model;
 
-/// The arguments of a call in the making, one after another. Contracts see the row of their terms; their trees are flat.
+/// The arguments of a call in the making, one after another. Contracts see the row of their terms; their trees are
+/// flat.
 #[derive(Drop)]
 pub struct Arguments {
     items: Vec<Expr>,

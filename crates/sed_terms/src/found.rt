@@ -54,7 +54,9 @@ impl Model for Found {
 
     ghost view = { λ f. behind f.made.value.before (open_term f.made.value.tree) };
 
-    ghost invariant = { λ f. (f.made.value.sort ≡ sort_of (behind f.made.value.before (open_term f.made.value.tree))) × (is_open f.made.value.tree ≡ is_place (behind f.made.value.before (open_term f.made.value.tree))) × IsFlatBox f.made.value.before × IsFlatOpen f.made.value.tree };
+    ghost invariant = { λ f. (f.made.value.sort ≡ sort_of (behind f.made.value.before (open_term f.made.value.tree)))
+        × (is_open f.made.value.tree ≡ is_place (behind f.made.value.before (open_term f.made.value.tree)))
+        × IsFlatBox f.made.value.before × IsFlatOpen f.made.value.tree };
 }
 
 // One with its parts.
@@ -234,7 +236,8 @@ impl Found {
 }
 
 impl Found {
-    /// What is evaluated of it where its value is not used; nothing, where it names only an array or a Buf without a receiver.
+    /// What is evaluated of it where its value is not used; nothing, where it names only an array or a Buf without a
+    /// receiver.
     #[tactic(auto, using(crate::proofs::Discarded::discarded_behind))]
     pub fn into_evaluated(self, alloc: Global) -> Result<Option<Box<Expr>>, Memory>
         ensures term { IfOk result (λ e. optional_boxed e ≡ forms.discarded self) }

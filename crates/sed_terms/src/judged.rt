@@ -10,8 +10,8 @@ pub struct Fault {
     pub rule: u8,
 }
 
-/// What a part of a text comes to. It is unknown where faults stand inside, or where it names what is unknown; then `F` says
-/// which faults.
+/// What a part of a text comes to. It is unknown where faults stand inside, or where it names what is unknown; then `F`
+/// says which faults.
 #[derive(Drop)]
 pub enum Judged<T, F> {
     Sound(T),
@@ -24,7 +24,8 @@ fn is_before(a: &Fault, b: &Fault) -> bool
     a.at < b.at || (a.at == b.at && a.rule < b.rule)
 }
 
-/// The lesser of two faults that may be there: the one at the lesser place, and at one place the one of the lesser rule.
+/// The lesser of two faults that may be there: the one at the lesser place, and at one place the one of the lesser
+/// rule.
 pub fn lesser(a: Option<Fault>, b: Option<Fault>) -> Option<Fault>
     ensures { result ≡ faults.lesser a b }
 {

@@ -26,14 +26,16 @@ pub fn typed_terms_give_typed_trees()
     ensures place_kind { (p : Place) → place_kind p ≡ term_kind (place_term p) }
     ensures expression { (c : Context) (e : Expr) → IsTerm c (term_of e) → IsExpr c e }
     ensures place { (c : Context) (p : Place) → IsTermPlace c (place_term p) → IsPlace c p }
-    ensures statement { (c : Context) (around : Around) (s : Stmt) → IsStmtTerm c around (stmt_term s) → IsStmt c around s }
+    ensures statement { (c : Context) (around : Around) (s : Stmt) → IsStmtTerm c around (stmt_term s)
+        → IsStmt c around s }
 {}
 
 /// The term of a typed tree is typed, so a term says all that the typing rules ask of a tree.
 pub fn typed_trees_have_typed_terms()
     ensures expression { (c : Context) (e : Expr) → IsExpr c e → IsTerm c (term_of e) }
     ensures place { (c : Context) (p : Place) → IsPlace c p → IsTermPlace c (place_term p) }
-    ensures statement { (c : Context) (around : Around) (s : Stmt) → IsStmt c around s → IsStmtTerm c around (stmt_term s) }
+    ensures statement { (c : Context) (around : Around) (s : Stmt) → IsStmt c around s
+        → IsStmtTerm c around (stmt_term s) }
 {}
 
 /// A tree nests as deep as its term, and declares the same locals.
@@ -43,12 +45,14 @@ pub fn trees_nest_as_their_terms()
     ensures locals { (s : Stmt) → declared_in s ≡ declared_term (stmt_term s) }
 {}
 
-/// A term has at most one flat tree. In a flat tree, what follows an operand stands in one chain; two flat trees with the
-/// same term are the same wherever they lie in memory. Trees that are the same have the same term, flat or not.
+/// A term has at most one flat tree. In a flat tree, what follows an operand stands in one chain; two flat trees with
+/// the same term are the same wherever they lie in memory. Trees that are the same have the same term, flat or not.
 pub fn terms_have_one_tree()
     ensures expression { (a b : Expr) → IsFlat a → IsFlat b → term_of a ≡ term_of b → bare_expr a ≡ bare_expr b }
-    ensures place { (a b : Place) → IsFlatPlace a → IsFlatPlace b → place_term a ≡ place_term b → bare_place a ≡ bare_place b }
-    ensures statement { (a b : Stmt) → IsFlatStmt a → IsFlatStmt b → stmt_term a ≡ stmt_term b → bare_stmt a ≡ bare_stmt b }
+    ensures place { (a b : Place) → IsFlatPlace a → IsFlatPlace b → place_term a ≡ place_term b
+        → bare_place a ≡ bare_place b }
+    ensures statement { (a b : Stmt) → IsFlatStmt a → IsFlatStmt b → stmt_term a ≡ stmt_term b
+        → bare_stmt a ≡ bare_stmt b }
     ensures same_expression { (a b : Expr) → bare_expr a ≡ bare_expr b → term_of a ≡ term_of b }
     ensures same_place { (a b : Place) → bare_place a ≡ bare_place b → place_term a ≡ place_term b }
     ensures same_statement { (a b : Stmt) → bare_stmt a ≡ bare_stmt b → stmt_term a ≡ stmt_term b }
@@ -63,7 +67,8 @@ pub fn least_of_two_lists()
 pub fn rules_keep_the_least<A, B, C>()
     ensures one { (x : Judged A (List Fault)) (all : A → Judged C (List Fault)) (least : A → Judged C (Option Fault)) →
         ((a : A) → told (all a) ≡ least a) → told (faults.after x all) ≡ faults.after (told x) least }
-    ensures two { (x : Judged A (List Fault)) (y : Judged B (List Fault)) (all : A → B → Judged C (List Fault)) (least : A → B → Judged C (Option Fault)) →
+    ensures two { (x : Judged A (List Fault)) (y : Judged B (List Fault)) (all : A
+        → B → Judged C (List Fault)) (least : A → B → Judged C (Option Fault)) →
         ((a : A) (b : B) → told (all a b) ≡ least a b) →
         told (faults.joined all_faults x y all) ≡ faults.joined least_fault (told x) (told y) least }
 {}

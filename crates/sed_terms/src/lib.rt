@@ -1,11 +1,11 @@
 //! Typed trees in the making, and what is found of a part of a text.
 //!
-//! Contracts see a typed tree as a `Term`: its nodes without their places in memory, and what follows an operand around it. A
-//! typed term gives a typed tree: that is the contract of `typed_terms_give_typed_trees`. A term has at most one flat tree:
-//! `terms_have_one_tree`. `Found` is a term in the making; each of its functions makes one form, and its contract is one
-//! equation. What is found of a part of a text is `Judged`: sound, or unknown because of faults. The rules of the check are
-//! written once with the words of `specs/Faults` and read twice, with all faults and with the least;
-//! `rules_keep_the_least` says that both find the same.
+//! Contracts see a typed tree as a `Term`: its nodes without their places in memory, and what follows an operand around
+//! it. A typed term gives a typed tree: that is the contract of `typed_terms_give_typed_trees`. A term has at most one
+//! flat tree: `terms_have_one_tree`. `Found` is a term in the making; each of its functions makes one form, and its
+//! contract is one equation. What is found of a part of a text is `Judged`: sound, or unknown because of faults. The
+//! rules of the check are written once with the words of `specs/Faults` and read twice, with all faults and with the
+//! least; `rules_keep_the_least` says that both find the same.
 #![tactic(auto)]
 
 pub mod arguments;

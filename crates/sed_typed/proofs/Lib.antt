@@ -1,4 +1,4 @@
 pub mod Lineages
 pub mod VirtualNames
-pub mod Callbacks
+pub mod SystemMethods
 pub mod Nearest

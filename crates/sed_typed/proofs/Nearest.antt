@@ -18,7 +18,7 @@ use Rattle.sed_typed.specs.Typed.{Typed, IsMethod}
 use Rattle.sed_typed.specs.TypedSchema.{Overrides, is_below, members_named}
 use Rattle.sed_typed.specs.Virtual.{begins_virtual, has_virtual_name, new_virtual_names, virtual_names}
 use Rattle.sed_typed.proofs.Lineages.{going_down, has_base, has_info, lineage_alone, lineage_of_base, none_is}
-use Rattle.sed_typed.proofs.Callbacks.{alone, goes_on, some_classes}
+use Rattle.sed_typed.proofs.SystemMethods.{alone, goes_on, some_classes}
 
 -- ---- elements by their places
 

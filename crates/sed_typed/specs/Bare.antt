@@ -1,6 +1,6 @@
--- Trees without their places in memory. A box has its address and a vector its address and capacity, so two trees of the same
--- form are equal only where they lie at the same places. Their bare trees are equal wherever they lie: the forms, what stands in
--- them, how links are grouped to chains, and no more.
+-- Trees without their places in memory. A box has its address and a vector its address and capacity, so two trees of
+-- the same form are equal only where they lie at the same places. Their bare trees are equal wherever they lie: the
+-- forms, what stands in them, how links are grouped to chains, and no more.
 use Rattle.std.specs.Prelude.{ℕ, ℤ, List, Option, Some, None}
 use Rattle.sed_value.specs.declared.slot_type.Primitive.{Primitive}
 use Rattle.sed_typed.specs.declared.kind.Kind.{Kind}
@@ -14,7 +14,8 @@ use Rattle.sed_typed.specs.declared.statement.Stmt.{Stmt, Row_of-Stmt, end_of-St
 use Rattle.sed_typed.specs.declared.statement.Stmt.TheVariants as stmt
 use Rattle.sed_typed.specs.declared.tree.Place.{Place}
 use Rattle.sed_typed.specs.declared.tree.Place.TheVariants as place
-use Rattle.sed_typed.specs.declared.tree.Expr.{Expr, Row_of-Expr, end_of-Expr, more_of-Expr, Row_of-Link, end_of-Link, more_of-Link}
+use Rattle.sed_typed.specs.declared.tree.Expr.{Expr, Row_of-Expr, end_of-Expr, more_of-Expr, Row_of-Link, end_of-Link}
+use Rattle.sed_typed.specs.declared.tree.Expr.{more_of-Link}
 use Rattle.sed_typed.specs.declared.tree.Expr.TheVariants as expr
 use Rattle.sed_typed.specs.declared.tree.Link.{Link}
 use Rattle.sed_typed.specs.declared.tree.Link.TheVariants as link

@@ -1,6 +1,6 @@
--- How deep trees nest, as the grammar of the language counts it, by which at most 64 constructs are open at a place. Links of
--- a chain stand beside one another, and so do the statements of a method's own body. Neither these nor an empty block open
--- anything.
+-- How deep trees nest, as the grammar of the language counts it, by which at most 64 constructs are open at a place.
+-- Links of a chain stand beside one another, and so do the statements of a method's own body. Neither these nor an
+-- empty block open anything.
 use Rattle.std.specs.Prelude.{ℕ, suc, max, Option, Some, None}
 use Rattle.sed_typed.specs.declared.operators.Unary.{Unary}
 use Rattle.sed_typed.specs.declared.operators.Unary.TheVariants as unary
@@ -10,7 +10,8 @@ use Rattle.sed_typed.specs.declared.statement.Stmt.{Stmt, Row_of-Stmt, end_of-St
 use Rattle.sed_typed.specs.declared.statement.Stmt.TheVariants as stmt
 use Rattle.sed_typed.specs.declared.tree.Place.{Place}
 use Rattle.sed_typed.specs.declared.tree.Place.TheVariants as place
-use Rattle.sed_typed.specs.declared.tree.Expr.{Expr, Row_of-Expr, end_of-Expr, more_of-Expr, Row_of-Link, end_of-Link, more_of-Link}
+use Rattle.sed_typed.specs.declared.tree.Expr.{Expr, Row_of-Expr, end_of-Expr, more_of-Expr, Row_of-Link, end_of-Link}
+use Rattle.sed_typed.specs.declared.tree.Expr.{more_of-Link}
 use Rattle.sed_typed.specs.declared.tree.Expr.TheVariants as expr
 use Rattle.sed_typed.specs.declared.tree.Link.{Link}
 use Rattle.sed_typed.specs.declared.tree.Link.TheVariants as link
@@ -78,7 +79,8 @@ abbrev mutual
   stmt_depth (stmt.If' t p a q b) = suc (max (depth_of t) (max (stmt_depth a) (stmt_depth b)))
   stmt_depth (stmt.While' t p body) = suc (max (depth_of t) (stmt_depth body))
   stmt_depth (stmt.DoWhile' p body t) = suc (max (depth_of t) (stmt_depth body))
-  stmt_depth (stmt.For' p first t last q body) = suc (max (max (stmt_depth first) (max (depth_or t) (depth_or last))) (stmt_depth body))
+  stmt_depth (stmt.For' p first t last q body) =
+      suc (max (max (stmt_depth first) (max (depth_or t) (depth_or last))) (stmt_depth body))
   stmt_depth (stmt.Switch' e labels shape all) = suc (max (depth_of e) (cases_depth all))
   stmt_depth stmt.Break = 0
   stmt_depth stmt.Continue = 0

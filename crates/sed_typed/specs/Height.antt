@@ -1,11 +1,13 @@
--- How high trees are: how many expressions and statements stand one in the other, each counted, whether the grammar counts it
--- as nesting or not. The head of a chain, the operands of its links, the parts of a place, and arguments stand in an expression.
+-- How high trees are: how many expressions and statements stand one in the other, each counted, whether the grammar
+-- counts it as nesting or not. The head of a chain, the operands of its links, the parts of a place, and arguments
+-- stand in an expression.
 use Rattle.std.specs.Prelude.{ℕ, suc, max, Option, Some, None}
 use Rattle.sed_typed.specs.declared.statement.Stmt.{Stmt, Row_of-Stmt, end_of-Stmt, more_of-Stmt}
 use Rattle.sed_typed.specs.declared.statement.Stmt.TheVariants as stmt
 use Rattle.sed_typed.specs.declared.tree.Place.{Place}
 use Rattle.sed_typed.specs.declared.tree.Place.TheVariants as place
-use Rattle.sed_typed.specs.declared.tree.Expr.{Expr, Row_of-Expr, end_of-Expr, more_of-Expr, Row_of-Link, end_of-Link, more_of-Link}
+use Rattle.sed_typed.specs.declared.tree.Expr.{Expr, Row_of-Expr, end_of-Expr, more_of-Expr, Row_of-Link, end_of-Link}
+use Rattle.sed_typed.specs.declared.tree.Expr.{more_of-Link}
 use Rattle.sed_typed.specs.declared.tree.Expr.TheVariants as expr
 use Rattle.sed_typed.specs.declared.tree.Link.{Link}
 use Rattle.sed_typed.specs.declared.tree.Link.TheVariants as link
@@ -62,7 +64,8 @@ abbrev mutual
   stmt_height (stmt.If' t p a q b) = suc (max (height_of t) (max (stmt_height a) (stmt_height b)))
   stmt_height (stmt.While' t p body) = suc (max (height_of t) (stmt_height body))
   stmt_height (stmt.DoWhile' p body t) = suc (max (height_of t) (stmt_height body))
-  stmt_height (stmt.For' p first t last q body) = suc (max (max (stmt_height first) (max (height_or t) (height_or last))) (stmt_height body))
+  stmt_height (stmt.For' p first t last q body) =
+      suc (max (max (stmt_height first) (max (height_or t) (height_or last))) (stmt_height body))
   stmt_height (stmt.Switch' e labels shape all) = suc (max (height_of e) (stmts_height all))
   stmt_height (stmt.Return e) = suc (height_or e)
   stmt_height x = 1

@@ -2,7 +2,8 @@
 use Rattle.std.specs.Prelude.{ℕ, pos, zero, suc, List, [], ◌∷◌, ◌++◌, map, replicate, length}
 use Rattle.std.specs.List.{flat_map, enumerate_from, range_with_len}
 use Rattle.sed_value.specs.declared.value.Value.{Value}
-use Rattle.sed_value.specs.declared.value.Value.TheVariants.{Bool as OfBool, Byte as OfByte, Short as OfShort, Int as OfInt, Long as OfLong, Buf as OfBytes}
+use Rattle.sed_value.specs.declared.value.Value.TheVariants.{Bool as OfBool, Byte as OfByte, Short as OfShort}
+use Rattle.sed_value.specs.declared.value.Value.TheVariants.{Int as OfInt, Long as OfLong, Buf as OfBytes}
 use Rattle.sed_value.specs.declared.slot_type.Primitive.{Primitive}
 use Rattle.sed_value.specs.declared.slot_type.Primitive.TheVariants.{Bool, Byte, Short, Int, Long}
 use Rattle.sed_typed.specs.declared.program.FieldForm.{FieldForm}

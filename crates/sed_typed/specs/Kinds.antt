@@ -8,11 +8,14 @@ use Rattle.sed_typed.specs.declared.operators.Width.TheVariants as width
 use Rattle.sed_typed.specs.declared.operators.Unary.{Unary}
 use Rattle.sed_typed.specs.declared.operators.Unary.TheVariants.{Not, Negate, Flip, ToLong, ToInt, LowByte, LowShort}
 use Rattle.sed_typed.specs.declared.operators.Binary.{Binary}
-use Rattle.sed_typed.specs.declared.operators.Binary.TheVariants.{Arithmetic, Compare, SameTruth, OtherTruth, SameReference, OtherReference}
+use Rattle.sed_typed.specs.declared.operators.Binary.TheVariants.{Arithmetic, Compare, SameTruth, OtherTruth}
+use Rattle.sed_typed.specs.declared.operators.Binary.TheVariants.{SameReference, OtherReference}
 use Rattle.sed_typed.specs.declared.operators.TextCall.{TextCall as TextCall-type}
 use Rattle.sed_typed.specs.declared.operators.TextCall.TheVariants.{Length, Get, Set, Equals, Copy}
 use Rattle.sed_typed.specs.declared.tree.Place.{Place}
-use Rattle.sed_typed.specs.declared.tree.Place.TheVariants.{Local as LocalPlace, Static as StaticPlace, Field' as FieldPlace, Element' as ElementPlace, StaticElement' as StaticElementPlace}
+use Rattle.sed_typed.specs.declared.tree.Place.TheVariants.{Local as LocalPlace, Static as StaticPlace}
+use Rattle.sed_typed.specs.declared.tree.Place.TheVariants.{Field' as FieldPlace, Element' as ElementPlace}
+use Rattle.sed_typed.specs.declared.tree.Place.TheVariants.{StaticElement' as StaticElementPlace}
 use Rattle.sed_typed.specs.declared.tree.Expr.{Expr, Row_of-Link, end_of-Link, more_of-Link}
 use Rattle.sed_typed.specs.declared.tree.Expr.TheVariants as expr
 use Rattle.sed_typed.specs.declared.tree.Link.{Link}

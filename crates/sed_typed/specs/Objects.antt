@@ -1,5 +1,5 @@
--- The classes of inline objects. They are found alike in a program and in an image, whatever else stands in their fields: by the
--- form of a field, and by the fields of each class.
+-- The classes of inline objects. They are found alike in a program and in an image, whatever else stands in their
+-- fields: by the form of a field, and by the fields of each class.
 use Rattle.std.specs.Prelude.{ℕ, List, [], ◌∷◌, slice_get, Option, Some, None}
 use Rattle.sed_typed.specs.declared.program.FieldForm.{FieldForm}
 use Rattle.sed_typed.specs.declared.program.FieldForm.TheVariants.{Prim, Str, Buf, Array, Object}

@@ -17,7 +17,13 @@ use Rattle.sed_typed.specs.TypedSchema.{IsAction}
 
 -- the field behind the property `meta`, which begins at 0
 abbrev pub meta_field : ℕ → Field
-meta_field class = record { class = record { 0 = class }; name = codes "meta"; form = Prim prim.Int; slot = Some (record { 0 = 0 }); initial = kept.Int (pos 0) }
+meta_field class = record {
+  class = record { 0 = class };
+  name = codes "meta";
+  form = Prim prim.Int;
+  slot = Some (record { 0 = 0 });
+  initial = kept.Int (pos 0);
+}
 
 -- the fields that the type of a number declares
 abbrev pub sys_fields : ℕ → ℕ → List Field
@@ -35,7 +41,8 @@ abbrev pub app_methods : List (List ℕ × ActionArg)
 app_methods = (codes "save", Void) ∷ []
 
 abbrev pub sys_methods : ℕ → List (List ℕ × ActionArg)
-sys_methods number = if number == component_type then component_methods else if number == app_type then app_methods else []
+sys_methods number = if number == component_type then component_methods
+    else if number == app_type then app_methods else []
 
 -- `{}`
 abbrev pub IsEmptyRow : {n : _} → Row_of-Stmt n → Type 0

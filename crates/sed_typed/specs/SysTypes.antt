@@ -1,5 +1,6 @@
 -- The types of kit `sys`, which is kit 0.
-use Rattle.std.specs.Prelude.{ℕ, ◌≡◌, ◌==◌, ◌&&◌, not, Bool, true, false, IsSomeAnd, List, [], ◌∷◌, count_by, slice_get, Option, Some, None, codes}
+use Rattle.std.specs.Prelude.{ℕ, ◌≡◌, ◌==◌, ◌&&◌, not, Bool, true, false, IsSomeAnd, List, [], ◌∷◌, count_by, slice_get}
+use Rattle.std.specs.Prelude.{Option, Some, None, codes}
 use Rattle.std.specs.Option.{option_and_then, option_map, option_map_or}
 use Rattle.sed_value.specs.declared.slot_type.Primitive.TheVariants as prim
 use Rattle.sed_value.specs.declared.slot_type.SlotType.TheVariants as slot
@@ -31,7 +32,8 @@ is_for_components classes class =
     && not (is_sys_type classes component_type class) && not (is_sys_type classes app_type class)
 
 -- a class as `sys` has it; its base is a type of the kit too
-pub record IsSysType (classes : List ClassInfo) (name : List ℕ) (base : Option ℕ) (abstract component : Bool) (size : ℕ) (all : List SlotInfo) (c : ClassInfo) : Type 0 where
+pub record IsSysType (classes : List ClassInfo) (name : List ℕ) (base : Option ℕ)
+    (abstract component : Bool) (size : ℕ) (all : List SlotInfo) (c : ClassInfo) : Type 0 where
   pub name_is : c.name ≡ name
   pub base_is : option_map (λ t. t.0) c.base ≡ option_and_then (λ number. type_at classes 0 number) base
   pub is_abstract : c.is_abstract ≡ abstract

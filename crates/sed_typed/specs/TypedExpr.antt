@@ -1,5 +1,6 @@
 -- What typed expressions keep: each has the kind that the rules give for its form.
-use Rattle.std.specs.Prelude.{ℕ, pos, ◌≡◌, ◌≢◌, ◌<◌, ◌≤◌, Bool, true, false, IsTrue, IsSomeAnd, List, [], ◌∷◌, length, slice_get, Option, Some, None}
+use Rattle.std.specs.Prelude.{ℕ, pos, ◌≡◌, ◌≢◌, ◌<◌, ◌≤◌, Bool, true, false, IsTrue, IsSomeAnd, List, [], ◌∷◌, length}
+use Rattle.std.specs.Prelude.{slice_get, Option, Some, None}
 use Rattle.std.specs.Int.{w32, w64}
 use Rattle.std.specs.Option.{option_map, option_and_then}
 use Rattle.sed_value.specs.Value.{is_signed}
@@ -23,7 +24,8 @@ use Rattle.sed_typed.specs.declared.program.Method.{Method}
 use Rattle.sed_typed.specs.declared.program.Program.{Program}
 use Rattle.sed_typed.specs.declared.tree.Place.{Place}
 use Rattle.sed_typed.specs.declared.tree.Place.TheVariants as place
-use Rattle.sed_typed.specs.declared.tree.Expr.{Expr, Row_of-Expr, end_of-Expr, more_of-Expr, Row_of-Link, end_of-Link, more_of-Link}
+use Rattle.sed_typed.specs.declared.tree.Expr.{Expr, Row_of-Expr, end_of-Expr, more_of-Expr, Row_of-Link, end_of-Link}
+use Rattle.sed_typed.specs.declared.tree.Expr.{more_of-Link}
 use Rattle.sed_typed.specs.declared.tree.Expr.TheVariants as expr
 use Rattle.sed_typed.specs.declared.tree.Link.{Link}
 use Rattle.sed_typed.specs.declared.tree.Link.TheVariants as link
@@ -80,7 +82,8 @@ part_kind f = None
 
 -- what a field of an object is, and what a static is
 abbrev pub field_form : Program → Kind → ℕ → Option FieldForm
-field_form program k i = option_and_then (λ class. option_map (λ f. f.form) (slice_get (fields program class) i)) (object_class k)
+field_form program k i =
+    option_and_then (λ class. option_map (λ f. f.form) (slice_get (fields program class) i)) (object_class k)
 
 abbrev pub static_form : Program → ℕ → Option FieldForm
 static_form program i = option_map (λ f. f.form) (slice_get program.statics i)
@@ -141,7 +144,8 @@ pub record IsCallOf (program : Program) (m : Method) (result : Kind) (args : Lis
   pub takes : AllGoTo program args m.params
 
 abbrev pub IsStaticCall : Program → ℕ → Kind → List Kind → Type 0
-IsStaticCall program m result args = IsSomeAnd (slice_get program.methods m) (λ x. (x.is_static ≡ true) × IsCallOf program x result args)
+IsStaticCall program m result args =
+    IsSomeAnd (slice_get program.methods m) (λ x. (x.is_static ≡ true) × IsCallOf program x result args)
 
 -- the nearest method of its name at or above a class, and no static one
 abbrev pub IsInvocation : Program → Option ℕ → ℕ → Kind → List Kind → Type 0
@@ -152,7 +156,8 @@ IsInvocation program class m result args =
 -- `super` names no abstract method
 abbrev pub IsSuperCall : Program → ℕ → ℕ → Kind → List Kind → Type 0
 IsSuperCall program class m result args =
-    IsInvocation program (base_of program.schema.classes class) m result args × IsSomeAnd (slice_get program.methods m) (λ x. x.body ≢ None)
+    IsInvocation program (base_of program.schema.classes class) m result args
+    × IsSomeAnd (slice_get program.methods m) (λ x. x.body ≢ None)
 
 -- a local that may be stored in: the receiver stays
 abbrev pub IsNoReceiver : Context → ℕ → Type 0
@@ -175,22 +180,28 @@ abbrev mutual
   IsExpr c (expr.Local k i) = slice_get c.locals i ≡ Some k
   IsExpr c (expr.Static p i) = static_form c.program i ≡ Some (form.Prim p)
   IsExpr c (expr.StaticPart k i) = option_and_then part_kind (static_form c.program i) ≡ Some k
-  IsExpr c (expr.StaticElement' p n i q e) = (static_form c.program i ≡ Some (form.Array p n)) × IsExpr c e × (kind_of e ≡ kind.Int)
+  IsExpr c (expr.StaticElement' p n i q e) = (static_form c.program i ≡ Some (form.Array p n))
+      × IsExpr c e × (kind_of e ≡ kind.Int)
   IsExpr c expr.Ticks = Unit {0}
   IsExpr c (expr.Unary' op p e) = IsExpr c e × (kind_of e ≡ operand_kind op)
-  IsExpr c (expr.Choose' p t q a r b) = IsExpr c t × IsExpr c a × IsExpr c b × (kind_of t ≡ kind.Bool) × (kind_of a ≡ kind_of b)
+  IsExpr c (expr.Choose' p t q a r b) = IsExpr c t × IsExpr c a × IsExpr c b
+      × (kind_of t ≡ kind.Bool) × (kind_of a ≡ kind_of b)
   IsExpr c (expr.Set' target p e) = IsPlace c target × IsExpr c e × GoesTo c.program (kind_of e) (place_kind target)
-  IsExpr c (expr.Update' u target p e) = IsPlace c target × IsExpr c e × (place_kind target ≡ width_kind u.width) × (kind_of e ≡ right_kind u.arithmetic u.width) × MayGive u.gives u.arithmetic u.width e
+  IsExpr c (expr.Update' u target p e) = IsPlace c target × IsExpr c e × (place_kind target ≡ width_kind u.width)
+      × (kind_of e ≡ right_kind u.arithmetic u.width) × MayGive u.gives u.arithmetic u.width e
   IsExpr c (expr.Call' k m shape args) = AreExprs c args × IsStaticCall c.program m k (kinds_of args)
-  IsExpr c (expr.Super' k m shape args) = AreExprs c args × (c.is_static ≡ false) × IsSuperCall c.program c.class m k (kinds_of args)
+  IsExpr c (expr.Super' k m shape args) = AreExprs c args × (c.is_static ≡ false)
+      × IsSuperCall c.program c.class m k (kinds_of args)
   IsExpr c (expr.Chain' p e shape links) = IsExpr c e × AreLinks c (kind_of e) links
 
   pub IsPlace : Context → Place → Type 0
   IsPlace c (place.Local k i) = (slice_get c.locals i ≡ Some k) × IsNoReceiver c i
   IsPlace c (place.Static p i) = static_form c.program i ≡ Some (form.Prim p)
   IsPlace c (place.Field' p q e i) = IsExpr c e × (field_form c.program (kind_of e) i ≡ Some (form.Prim p))
-  IsPlace c (place.Element' p n q e f r i) = IsExpr c e × (field_form c.program (kind_of e) f ≡ Some (form.Array p n)) × IsExpr c i × (kind_of i ≡ kind.Int)
-  IsPlace c (place.StaticElement' p n i q e) = (static_form c.program i ≡ Some (form.Array p n)) × IsExpr c e × (kind_of e ≡ kind.Int)
+  IsPlace c (place.Element' p n q e f r i) = IsExpr c e × (field_form c.program (kind_of e) f ≡ Some (form.Array p n))
+      × IsExpr c i × (kind_of i ≡ kind.Int)
+  IsPlace c (place.StaticElement' p n i q e) = (static_form c.program i ≡ Some (form.Array p n))
+      × IsExpr c e × (kind_of e ≡ kind.Int)
 
   -- a link with the kind on its left
   pub IsLink : Context → Kind → Link → Type 0
@@ -199,10 +210,12 @@ abbrev mutual
   IsLink c k (link.Or e) = IsExpr c e × (k ≡ kind.Bool) × (kind_of e ≡ kind.Bool)
   IsLink c k (link.Field p i) = field_form c.program k i ≡ Some (form.Prim p)
   IsLink c k (link.Part part i) = option_and_then part_kind (field_form c.program k i) ≡ Some part
-  IsLink c k (link.Element p n i e) = (field_form c.program k i ≡ Some (form.Array p n)) × IsExpr c e × (kind_of e ≡ kind.Int)
+  IsLink c k (link.Element p n i e) = (field_form c.program k i ≡ Some (form.Array p n))
+      × IsExpr c e × (kind_of e ≡ kind.Int)
   IsLink c k (link.Size i) = IsBuf (field_form c.program k i)
   IsLink c k (link.Byte i e) = IsBuf (field_form c.program k i) × IsExpr c e × (kind_of e ≡ kind.Int)
-  IsLink c k (link.Invoke' result m shape args) = AreExprs c args × IsInvocation c.program (object_class k) m result (kinds_of args)
+  IsLink c k (link.Invoke' result m shape args) = AreExprs c args
+      × IsInvocation c.program (object_class k) m result (kinds_of args)
   IsLink c k (link.TextCall' op shape args) = AreExprs c args × (k ≡ kind.Text) × (kinds_of args ≡ text_kinds op)
   IsLink c k (link.After e) = IsExpr c e
 

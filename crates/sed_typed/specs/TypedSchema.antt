@@ -1,5 +1,7 @@
 -- What a typed program's schema, classes and members keep.
-use Rattle.std.specs.Prelude.{ℕ, ◌≡◌, ◌≢◌, ◌==◌, ◌&&◌, ◌||◌, ◌+◌, ◌<◌, ◌≤◌, Bool, true, false, IsTrue, All, IfSome, IsSome, IsSomeAnd, List, [], ◌∷◌, ◌++◌, length, count_by, drop, filter, filter_map, slice_get, sum_by, Some, None, codes}
+use Rattle.std.specs.Prelude.{ℕ, ◌≡◌, ◌≢◌, ◌==◌, ◌&&◌, ◌||◌, ◌+◌, ◌<◌, ◌≤◌, Bool, true, false, IsTrue, All, IfSome}
+use Rattle.std.specs.Prelude.{IsSome, IsSomeAnd, List, [], ◌∷◌, ◌++◌, length, count_by, drop, filter, filter_map}
+use Rattle.std.specs.Prelude.{slice_get, sum_by, Some, None, codes}
 use Rattle.std.specs.List.{list_any}
 use Rattle.std.specs.List.Sorted.{IsStrictlyIncreasing}
 use Rattle.std.specs.Option.{option_map, option_map_or}
@@ -24,7 +26,8 @@ use Rattle.sed_typed.specs.declared.schema.Schema.{Schema}
 use Rattle.sed_typed.specs.declared.schema.SlotForm.{SlotForm}
 use Rattle.sed_typed.specs.declared.schema.SlotForm.TheVariants.{Prop, Action}
 use Rattle.sed_typed.specs.declared.schema.SlotInfo.{SlotInfo}
-use Rattle.sed_typed.specs.Classes.{base_of, declared_fields, declared_method, lineage, slots as slots_of, fields as fields_of, find}
+use Rattle.sed_typed.specs.Classes.{base_of, declared_fields, declared_method, lineage, slots as slots_of}
+use Rattle.sed_typed.specs.Classes.{fields as fields_of, find}
 use Rattle.sed_typed.specs.Sizes.{data_size, config_size, runtime_size}
 use Rattle.sed_typed.specs.Schemas.{type_at}
 use Rattle.sed_typed.specs.SysTypes.{HasSysTypes, component_type, app_type}
@@ -58,7 +61,8 @@ is_below classes above class = list_any (λ c. c == above) (lineage classes clas
 
 -- a class that is the type of kit `sys` with this number, or stands below it
 abbrev pub is_below_sys : List ClassInfo → ℕ → ℕ → Bool
-is_below_sys classes number class = option_map_or (λ above. is_below classes above class) (type_at classes 0 number) false
+is_below_sys classes number class =
+    option_map_or (λ above. is_below classes above class) (type_at classes 0 number) false
 
 abbrev pub is_abstract : List ClassInfo → ℕ → Bool
 is_abstract classes class = option_map_or (λ c. c.is_abstract) (slice_get classes class) false
@@ -118,21 +122,26 @@ IsAction a m = (m.is_static ≡ false) × (m.is_virtual ≡ true) × (m.result �
 
 -- a slot has one field, or a method; the application file keeps no action
 abbrev pub HasSlot : Program → ℕ → ℕ → SlotInfo → SlotForm → Type 0
-HasSlot program class n s (Prop t) = (f : Field) × (filter (in_slot n) (fields_of program class) ≡ f ∷ []) × IsProperty s t f
+HasSlot program class n s (Prop t) = (f : Field) × (filter (in_slot n) (fields_of program class) ≡ f ∷ [])
+    × IsProperty s t f
 HasSlot program class n s (Action a) =
-    (filter (in_slot n) (fields_of program class) ≡ []) × IsSomeAnd (find program class s.name) (λ m. IsSomeAnd (slice_get program.methods m) (IsAction a)) × (s.config ≡ false)
+    (filter (in_slot n) (fields_of program class) ≡ [])
+    × IsSomeAnd (find program class s.name) (λ m. IsSomeAnd (slice_get program.methods m) (IsAction a))
+    × (s.config ≡ false)
 
 -- the slots that a class adds to those of its base
 abbrev pub added_slots : List ClassInfo → ℕ → List SlotInfo
-added_slots classes class = drop (option_map_or (λ base. length (slots_of classes base)) (base_of classes class) 0) (slots_of classes class)
+added_slots classes class =
+    drop (option_map_or (λ base. length (slots_of classes base)) (base_of classes class) 0) (slots_of classes class)
 
 -- A method that a class itself declares, and its base has none of that name.
 abbrev pub IsNewMethod : Program → ℕ → List ℕ → Type 0
 IsNewMethod program class name =
-    IsSome (declared_method program.methods name class) × IfSome (base_of program.schema.classes class) (λ base. find program base name ≡ None)
+    IsSome (declared_method program.methods name class)
+    × IfSome (base_of program.schema.classes class) (λ base. find program base name ≡ None)
 
--- A slot that a class adds. A property has a field that the class itself declares, since those of the base have slots of the
--- base (`within`).
+-- A slot that a class adds. A property has a field that the class itself declares, since those of the base have slots
+-- of the base (`within`).
 abbrev pub IsAdded : Program → ℕ → SlotInfo → SlotForm → Type 0
 IsAdded program class s (Prop t) = Unit {0}
 IsAdded program class s (Action a) = IsNewMethod program class s.name
@@ -163,7 +172,8 @@ is_initial (Array p n) v = false
 is_initial (Object t) kept.Nothing = true
 is_initial (Object t) v = false
 
--- what a field may be: a Buf is a property, and an inline object is of a class with fields, neither abstract nor a component
+-- what a field may be: a Buf is a property, and an inline object is of a class with fields, neither abstract nor a
+-- component
 abbrev pub IsForm : Program → Field → FieldForm → Type 0
 IsForm program f (Prim p) = Unit {0}
 IsForm program f (Str n) = (1 ≤ n) × (n ≤ 255) × (f.slot ≡ None)

@@ -1,5 +1,6 @@
 -- What typed statements keep.
-use Rattle.std.specs.Prelude.{ℕ, suc, ◌≡◌, ◌≤◌, ℤ, Bool, true, false, List, length, count_by, slice_get, Option, Some, None}
+use Rattle.std.specs.Prelude.{ℕ, suc, ◌≡◌, ◌≤◌, ℤ, Bool, true, false, List, length, count_by, slice_get, Option, Some}
+use Rattle.std.specs.Prelude.{None}
 use Rattle.std.specs.Ordering.{int_eq}
 use Rattle.sed_typed.specs.declared.kind.Kind.{Kind}
 use Rattle.sed_typed.specs.declared.kind.Kind.TheVariants as kind
@@ -52,8 +53,8 @@ abbrev pub is_default : Label → Bool
 is_default (Case m) = false
 is_default Default = true
 
--- Each case once, and one default at most. A case has 32 bits by its type, in whatever statement a value holds, so nothing is
--- asked of its number here.
+-- Each case once, and one default at most. A case has 32 bits by its type, in whatever statement a value holds, so
+-- nothing is asked of its number here.
 pub record AreLabels (labels : List Label) : Type 0 where
   pub cases : (n : ℤ) → count_by (same_label n) labels ≤ 1
   pub default : count_by is_default labels ≤ 1
@@ -78,9 +79,11 @@ abbrev mutual
   IsStmt c around (stmt.If' t p a q b) = IsCondition c t × IsStmt c around a × IsStmt c around b
   IsStmt c around (stmt.While' t p body) = IsCondition c t × IsStmt c in_loop body
   IsStmt c around (stmt.DoWhile' p body t) = IsStmt c in_loop body × IsCondition c t
-  IsStmt c around (stmt.For' p first t last q body) = IsFirst first × IsStmt c around first × IsTest c t × IsLast c last × IsStmt c in_loop body
+  IsStmt c around (stmt.For' p first t last q body) = IsFirst first
+      × IsStmt c around first × IsTest c t × IsLast c last × IsStmt c in_loop body
   IsStmt c around (stmt.Switch' e labels shape all) =
-      IsExpr c e × (kind_of e ≡ kind.Int) × AreLabels labels.items × (length labels.items ≡ row_length all) × AreStmts c (in_switch around) all
+      IsExpr c e × (kind_of e ≡ kind.Int) × AreLabels labels.items × (length labels.items ≡ row_length all)
+      × AreStmts c (in_switch around) all
   IsStmt c around stmt.Break = around.breaks ≡ true
   IsStmt c around stmt.Continue = around.continues ≡ true
   IsStmt c around (stmt.Return e) = IsReturned c e

@@ -23,7 +23,7 @@ pub mod tree;
 
 pub use kind::Kind;
 pub use laws::{
-    components_begin_with_callbacks, lineages_go_by_bases, plain_methods_are_found_below,
+    components_begin_with_system_methods, lineages_go_by_bases, plain_methods_are_found_below,
     virtual_methods_are_overridden, virtual_names_are_counted, virtual_names_are_found,
     virtual_names_go_by_bases, virtual_names_keep_their_places,
 };

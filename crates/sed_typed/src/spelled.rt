@@ -6,7 +6,8 @@ ghost use Rattle.std.specs.Int.{w32};
 ghost use Rattle.sed_value.specs.Names.{is_kit_name};
 ghost use Rattle.sed_value.specs.Value.{is_signed};
 ghost use Rattle.sed_value.specs.declared.kit.KitRef.{KitRef as AnyKit};
-ghost use Rattle.sed_typed.specs.Spelled.{HasByteLength, HasSmallForm, IsSpelledClass, IsSpelledField, IsSpelledMethod, IsSpelledOut, IsSpelledSchema, IsSpelledSlot};
+ghost use Rattle.sed_typed.specs.Spelled.{HasByteLength, HasSmallForm, IsSpelledClass, IsSpelledField, IsSpelledMethod};
+ghost use Rattle.sed_typed.specs.Spelled.{IsSpelledOut, IsSpelledSchema, IsSpelledSlot};
 ghost use Rattle.sed_typed.specs.Typed.{IsText};
 
 use crate::number::{SlotNo, TypeNo};
@@ -15,8 +16,8 @@ use crate::schema::{ClassInfo, Schema, SlotForm, SlotInfo};
 use crate::text::Bytes255;
 use sed_value::{KitRef, SlotType};
 
-/// The names in a program are of the language's forms, and its numbers fit their bytes: those of its schema, those of the
-/// classes, slots and forms of its members, and those in its texts. This reads them and does nothing.
+/// The names in a program are of the language's forms, and its numbers fit their bytes: those of its schema, those of
+/// the classes, slots and forms of its members, and those in its texts. This reads them and does nothing.
 pub fn program_is_spelled_out(program: &Program)
     ensures { IsSpelledOut program.now }
 {

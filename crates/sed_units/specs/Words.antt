@@ -1,5 +1,6 @@
 -- What single tokens are, and the tables of operators and key words.
-use Rattle.std.specs.Prelude.{ℕ, Bool, true, false, ◌||◌, ◌&&◌, not, ◌==◌, if◌then◌else◌, List, [], ◌∷◌, Option, Some, None, codes}
+use Rattle.std.specs.Prelude.{ℕ, Bool, true, false, ◌||◌, ◌&&◌, not, ◌==◌, if◌then◌else◌, List, [], ◌∷◌, Option, Some}
+use Rattle.std.specs.Prelude.{None, codes}
 use Rattle.std.specs.Str.{bytes_eq}
 use Rattle.sed_value.specs.declared.slot_type.Primitive.{Primitive as Prim}
 use Rattle.sed_value.specs.declared.slot_type.Primitive.TheVariants as prim

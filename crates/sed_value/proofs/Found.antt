@@ -1,10 +1,11 @@
--- Going over a row and keeping what is found.
-use Rattle.std.proofs.Common.{◌≡◌, ◌<◌, ◌+◌, ℕ, List, [], ◌∷◌, ◌++◌, take, length, get_or, Option, Some, None, refl, sym, ap, ◌∙◌, append_assoc}
-use Rattle.std.specs.List.{cons_option, filter_map}
-use Rattle.std.specs.Option.{option_to_list}
+-- Going over a row, keeping what is found and adding up what is counted.
+use Rattle.std.proofs.Common.{◌≡◌, ◌<◌, ◌+◌, ℕ, zero, suc, List, [], ◌∷◌, ◌++◌, take, length, get_or, slice_get, Option, Some, None, refl, sym, ap, ◌∙◌, append_assoc, arith}
+use Rattle.std.specs.List.{cons_option, filter_map, sum_by}
+use Rattle.std.specs.Option.{option_map_or, option_to_list}
 use Rattle.std.proofs.Math.Numerals.{add-one}
 use Rattle.std.proofs.Math.Seq.{take-suc}
 use Rattle.std.proofs.lemmas.List.Elements.{filter_map-append}
+use Rattle.std.proofs.lemmas.List.Sums.{sum_by-cons}
 
 one_listed : {X : Type 0} (o : Option X) → cons_option o [] ≡ option_to_list o
 one_listed None = refl
@@ -24,3 +25,14 @@ found_step f i xs x initial far new one h at o e p =
     ∙ ap (λ ys. (initial ++ filter_map f (take i xs)) ++ ys) (sym (one_listed (f x)))
     ∙ append_assoc initial (filter_map f (take i xs)) (filter_map f (x ∷ []))
     ∙ ap (λ ys. initial ++ ys) (sym (ap (filter_map f) front ∙ filter_map-append f (take i xs) (x ∷ [])))
+
+-- the sum over one item more of a row, be it behind its end
+pub sum_taken : {X : Type 0} (count : X → ℕ) (i : ℕ) (xs : List X) →
+    sum_by count (take (suc i) xs) ≡ sum_by count (take i xs) + option_map_or count (slice_get xs i) 0
+sum_taken count zero [] = refl
+sum_taken count (suc i) [] = refl
+sum_taken count zero (x ∷ xs) = refl
+sum_taken count (suc i) (x ∷ xs) =
+    sum_by-cons count x (take (suc i) xs)
+    ∙ ap (λ n. count x + n) (sum_taken count i xs)
+    ∙ omega (arith, sum_by-cons count x (take i xs))

@@ -8,4 +8,5 @@ pub mod Truths
 pub mod Options
 pub mod Lists
 pub mod Orders
+pub mod Maps
 pub mod Found

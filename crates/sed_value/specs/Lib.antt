@@ -2,6 +2,7 @@ pub mod Arithmetic
 pub mod Characters
 pub mod Decimal
 pub mod InPlace
+pub mod Mapped
 pub mod Names
 pub mod Refusal
 pub mod Shown

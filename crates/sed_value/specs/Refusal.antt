@@ -1,7 +1,13 @@
 -- The table of the refusals: their order, their numbers and their texts.
 use Rattle.std.specs.Prelude.{ℕ, List, [], ◌∷◌, codes}
 use Rattle.sed_value.specs.declared.refusal.Refusal.{Refusal}
-use Rattle.sed_value.specs.declared.refusal.Refusal.TheVariants.{Malformed, UnknownCommand, NoComponent, NoType, AbstractType, BadName, NameTaken, TooManyChildren, TooDeep, ComponentLimit, DataFull, NoSlot, WrongKindOfSlot, BadValue, BufferTooLong, LinkTypesDiffer, TargetLinked, LinksAtComponent, LinkLimit, NoLink, NotTheChildren, AppItself, Faulted, SaveDevice, StoreFull, OutOfMemory}
+use Rattle.sed_value.specs.declared.refusal.Refusal.TheVariants.{Malformed, UnknownCommand, NoComponent, NoType}
+use Rattle.sed_value.specs.declared.refusal.Refusal.TheVariants.{AbstractType, BadName, NameTaken, TooManyChildren}
+use Rattle.sed_value.specs.declared.refusal.Refusal.TheVariants.{TooDeep, ComponentLimit, DataFull, NoSlot}
+use Rattle.sed_value.specs.declared.refusal.Refusal.TheVariants.{WrongKindOfSlot, BadValue, BufferTooLong}
+use Rattle.sed_value.specs.declared.refusal.Refusal.TheVariants.{LinkTypesDiffer, TargetLinked, LinksAtComponent}
+use Rattle.sed_value.specs.declared.refusal.Refusal.TheVariants.{LinkLimit, NoLink, NotTheChildren, AppItself, Faulted}
+use Rattle.sed_value.specs.declared.refusal.Refusal.TheVariants.{SaveDevice, StoreFull, OutOfMemory}
 
 -- every refusal, in the order of the numbers
 abbrev pub refusals : List Refusal

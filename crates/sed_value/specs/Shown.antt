@@ -2,8 +2,8 @@
 use Rattle.std.specs.Prelude.{ℕ, List, [], ◌∷◌, ◌++◌, flat_map, encode_utf8_all}
 use Rattle.std.specs.Char.Escape.{escape_ascii}
 
--- a byte that prints is shown as it is, a quote or a backslash behind a backslash, and any other by an escape, as `\n` or
--- `\xff`
+-- a byte that prints is shown as it is, a quote or a backslash behind a backslash, and any other by an escape, as `\n`
+-- or `\xff`
 abbrev pub shown_byte : ℕ → List ℕ
 shown_byte byte = encode_utf8_all (escape_ascii byte)
 

@@ -8,6 +8,7 @@
 mod characters;
 mod conversion;
 mod decimal;
+mod halt;
 mod id;
 mod in_place;
 mod int;
@@ -29,6 +30,7 @@ mod wrap;
 pub use characters::{is_digit, is_letter, is_word_byte};
 pub use conversion::{int_to_byte, int_to_long, int_to_short, long_to_int, low_byte, low_short};
 pub use decimal::read_decimal;
+pub use halt::Halt;
 pub use id::Id;
 pub use in_place::InPlace;
 pub use int::{add_int, div_int, mul_int, rem_int, shl_int, shr_int, sub_int};

@@ -1,6 +1,7 @@
 //! The types that a slot may have.
 ghost use Rattle.std.specs.Prelude.{◌≡◌};
-ghost use Rattle.sed_value.specs.SlotType.{goes_with as goes_so, is_read_as_int as is_so, primitive_goes_with as primitive_goes_so, width_of};
+ghost use Rattle.sed_value.specs.SlotType.{goes_with as goes_so, is_read_as_int as is_so};
+ghost use Rattle.sed_value.specs.SlotType.{primitive_goes_with as primitive_goes_so, width_of};
 
 /// A primitive type of a field or slot.
 #[derive(Clone, Copy, Debug, PartialEq, Eq)]

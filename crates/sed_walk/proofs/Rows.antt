@@ -89,3 +89,5 @@ body_within (x ∷ ms) (suc i) m e = let rest = body_within ms i m e in omega (a
 pub less_left : (ms : List Method) (n : ℕ) (m : Method) → 0 < n → body_height m ≤ body_heights ms → left_with ms (n - 1) + (8 * body_height m + 1) < left_with ms n
 less_left ms zero m h w = absurd (omega arith)
 less_left ms (suc n) m h w = grind (arith, w)
+
+pub ruleset within = (body_within, less_left)

@@ -37,7 +37,8 @@ chain_with w e links s = then_do (eval w e s) (λ v s1. in_chain links v s1)
 
 -- a call of a Str: the operands, and then the call
 abbrev pub text_call_with : Setting → TextCall → List (State → End Val) → Val → State → End Val
-text_call_with w op args v s = then_do (put_all 0 args (replicate 2 Nothing) s) (λ xs s1. text_call w.program.texts op v xs s1)
+text_call_with w op args v s =
+    then_do (put_all 0 args (replicate 2 Nothing) s) (λ xs s1. text_call w.program.texts op v xs s1)
 
 -- what is assigned to a target: the value, and then the store
 abbrev pub put_value : Setting → Expr → Target → State → End Val

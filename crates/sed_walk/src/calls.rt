@@ -152,7 +152,7 @@ pub(crate) fn eval_args(
 
 /// Runs a method by its number on a frame, which tells of no more frames than are left.
 #[cycle(walk)]
-#[tactic(auto, using(crate::proofs::Rounds::calls_out, crate::proofs::Rows::body_within, crate::proofs::Rows::less_left))]
+#[tactic(auto, using(crate::proofs::Rounds::calls_out, crate::proofs::Rows::within))]
 pub fn call(
     plan: &Plan,
     class: usize,

@@ -9,7 +9,8 @@ ghost use Rattle.sed_cells.specs.Places.{classes_in};
 ghost use Rattle.walk_steps.specs.Seen.{seen, ends};
 ghost use Rattle.walk_steps.specs.Stored.{ended, state_of};
 ghost use Rattle.walk_steps.specs.Targets.{setting_of, targets};
-ghost use Rattle.sed_walk.specs.Forms.{choice_with, chain_with, set_with, set_local_with, set_field_with, static_element_with, unary_with};
+ghost use Rattle.sed_walk.specs.Forms.{choice_with, chain_with, set_with, set_local_with, set_field_with};
+ghost use Rattle.sed_walk.specs.Forms.{static_element_with, unary_with};
 ghost use Rattle.sed_walk.specs.Forms.{update_with, update_local_with};
 
 use crate::calls::{eval_static, eval_super};

@@ -15,7 +15,7 @@ use sed_typed::{Binary, Expr, Link, TextCall};
 use sed_value::Prim;
 use walk_steps::operators::binary;
 use walk_steps::targets::fetch;
-use walk_steps::{Stop, Store, Target, Word, reach, texts};
+use walk_steps::{Stop, Store, Target, Word, bufs, reach, texts};
 
 // One link after the other.
 #[cycle(walk)]
@@ -76,7 +76,7 @@ fn eval_link(
                 plan, class, frames, *prim, *count, *number, index, value, store, locals,
             )
         }
-        Link::Size(number) => texts::buf_size(plan, class, value, usize::from(*number), store),
+        Link::Size(number) => bufs::buf_size(plan, class, value, usize::from(*number), store),
         Link::Byte(number, index) => {
             eval_byte(plan, class, frames, *number, index, value, store, locals)
         }
@@ -211,7 +211,7 @@ fn eval_byte(
     ensures turns { store.new.turns ≤ store.old.turns }
 {
     let index = eval(plan, class, frames, index, store, locals)?;
-    texts::buf_byte(plan, class, value, usize::from(number), index, store)
+    bufs::buf_byte(plan, class, value, usize::from(number), index, store)
 }
 
 // A call of a Str: the operands, and then the call.

@@ -25,7 +25,7 @@ use Rattle.sed_walker.specs.Held.{Held, IsHeld, held_of, live_of, object_seen}
 use Rattle.sed_walker.specs.Calls.{asked}
 use Rattle.sed_walker.proofs.Live.{get-live, live-out, live-put}
 use Rattle.sed_walker.proofs.Keeping.{first-statics, held-less, held-more, held-over, may-ask, size-is}
-use Rattle.sed_walker.proofs.Sums.{total_none}
+use Rattle.sed_value.proofs.Maps.{total_none}
 
 module _ (plan : Plan) (s : Slab Component) (k : ℕ) where
   -- a live place has a component

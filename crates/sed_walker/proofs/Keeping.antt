@@ -24,7 +24,7 @@ use Rattle.sed_cells.specs.declared.layout.Stands.TheVariants.{Statics, Part}
 use Rattle.sed_cells.specs.Places.{first_at, first_of}
 use Rattle.sed_engine.proofs.Asking.{may_then}
 use Rattle.sed_walker.specs.Held.{Held, IsHeld}
-use Rattle.sed_walker.proofs.Sums.{get_put, get_beside, taken_out, kept_beside, total_more, total_over, total_less}
+use Rattle.sed_value.proofs.Maps.{get_put, get_beside, taken_out, kept_beside, total_more, total_over, total_less}
 
 -- ---- classes
 

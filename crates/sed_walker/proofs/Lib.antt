@@ -1,5 +1,4 @@
 pub mod Live
-pub mod Sums
 pub mod Keeping
 pub mod Changes
 mod SlotFields

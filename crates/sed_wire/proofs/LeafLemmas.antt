@@ -54,3 +54,5 @@ text_none {T} now result fault old new e again =
           subst (λ (r : Result T StrFault). IsOkAnd r (λ read. now read ≡ t)) e h.0),
       refl,
     )
+
+pub ruleset number_fields = (number_read, number_short)

@@ -5,8 +5,8 @@ use Rattle.sed_wire.specs.FormReading.{Reading, Found, Stuck, read_on}
 use Rattle.sed_wire.specs.Form.{Form, pair_reads}
 use Rattle.sed_wire.specs.Row.{row}
 use Rattle.sed_wire.specs.Gives.{Gives}
-use Rattle.sed_wire.specs.declared.halt.Halt.{Halt}
-use Rattle.sed_wire.specs.declared.halt.Halt.TheVariants.{Fault, Memory}
+use Rattle.sed_value.specs.declared.halt.Halt.{Halt}
+use Rattle.sed_value.specs.declared.halt.Halt.TheVariants.{Fault, Memory}
 
 -- items that were read stand in front of those that are still read
 abbrev pub with_front : {A : Type 0} → List A → Reading (List A) → Reading (List A)

@@ -1,8 +1,8 @@
 -- What reading a form of bytes from left to right comes to.
 use Rattle.std.specs.Prelude.{ℕ, List}
 
--- What the front of the bytes spells, with the bytes that are left behind it. Or, where it spells nothing, the bytes from the
--- start of the first field on that is cut or not allowed.
+-- What the front of the bytes spells, with the bytes that are left behind it. Or, where it spells nothing, the bytes
+-- from the start of the first field on that is cut or not allowed.
 pub data Reading (A : Type 0) : Type 0 where
   Found : A → List ℕ → Reading A
   Stuck : List ℕ → Reading A

@@ -1,7 +1,7 @@
 -- What each form of bytes spells, and where bytes fault it.
 --
--- `faults bytes rest`: reading the bytes from the left, the first field that is cut or not allowed stands at the front of the
--- rest.
+-- `faults bytes rest`: reading the bytes from the left, the first field that is cut or not allowed stands at the front
+-- of the rest.
 use Rattle.std.specs.Prelude.{◌≡◌, ◌⊎◌, ℕ, Bool, false, IsTrue, List, [], ◌∷◌, ◌++◌, length}
 
 -- the bytes begin with such ones, and the rest is behind them
@@ -24,10 +24,12 @@ FieldFaults Spells bytes rest = NoneBegins Spells bytes × (bytes ≡ rest)
 -- ---- one form behind another, which may depend on what the first one spells
 
 abbrev pub ThenSpells : {A B : Type 0} → (A → List ℕ → Type 0) → (A → B → List ℕ → Type 0) → A × B → List ℕ → Type 0
-ThenSpells P Q both bytes = (first : List ℕ) × (second : List ℕ) × P both.0 first × Q both.0 both.1 second × (bytes ≡ first ++ second)
+ThenSpells P Q both bytes = (first : List ℕ) × (second : List ℕ) × P both.0 first
+    × Q both.0 both.1 second × (bytes ≡ first ++ second)
 
 -- the first one faults, or it spells something and the second one faults behind it
-abbrev pub ThenFaults : {A : Type 0} → (A → List ℕ → Type 0) → (List ℕ → List ℕ → Type 0) → (A → List ℕ → List ℕ → Type 0) → List ℕ → List ℕ → Type 0
+abbrev pub ThenFaults : {A : Type 0} → (A → List ℕ → Type 0) → (List ℕ → List ℕ → Type 0)
+    → (A → List ℕ → List ℕ → Type 0) → List ℕ → List ℕ → Type 0
 ThenFaults {A} P first second bytes rest =
     first bytes rest ⊎ ((a : A) × (middle : List ℕ) × Begins (P a) bytes middle × second a middle rest)
 
@@ -37,7 +39,8 @@ abbrev pub OnlySpells : {A : Type 0} → (A → Bool) → (A → List ℕ → Ty
 OnlySpells test P a bytes = P a bytes × IsTrue (test a)
 
 -- what is spelled and not allowed faults at its own start
-abbrev pub OnlyFaults : {A : Type 0} → (A → Bool) → (A → List ℕ → Type 0) → (List ℕ → List ℕ → Type 0) → List ℕ → List ℕ → Type 0
+abbrev pub OnlyFaults : {A : Type 0} → (A → Bool) → (A → List ℕ → Type 0)
+    → (List ℕ → List ℕ → Type 0) → List ℕ → List ℕ → Type 0
 OnlyFaults {A} test P faults bytes rest =
     faults bytes rest ⊎ ((a : A) × (behind : List ℕ) × Begins (P a) bytes behind × (test a ≡ false) × (bytes ≡ rest))
 

@@ -1,5 +1,6 @@
 -- The fields that bytes are made of: numbers, texts and runs of bytes.
-use Rattle.std.specs.Prelude.{◌≡◌, ℕ, ◌==◌, ◌&&◌, ◌<◌, ◌≤◌, ◌^◌, nat_le, ℤ, Bool, true, false, cond, IsTrue, Option, Some, None, List, [], ◌∷◌, ◌++◌, length, take, drop, refl}
+use Rattle.std.specs.Prelude.{◌≡◌, ℕ, ◌==◌, ◌&&◌, ◌<◌, ◌≤◌, ◌^◌, nat_le, ℤ, Bool, true, false, cond, IsTrue, Option}
+use Rattle.std.specs.Prelude.{Some, None, List, [], ◌∷◌, ◌++◌, length, take, drop, refl}
 use Rattle.std.specs.Option.{option_map}
 use Rattle.std.proofs.Common.{ap, ap₂, sym, ◌∙◌, arith, take-append-drop, length-take-le, le-leb, leb-true, eqb-true}
 use Rattle.std.proofs.lemmas.Bool.{and_from, and_parts}
@@ -13,7 +14,8 @@ use Rattle.sed_wire.specs.Text.{is_character, is_text, SpellsText}
 use Rattle.sed_wire.specs.OneSpelling.{one_number, one_signed, one_text, number_of-below}
 use Rattle.sed_wire.specs.FormReading.{Reading, Found, Stuck, ReadsAs}
 use Rattle.sed_wire.specs.FormSpelling.{Begins, SpellsRun}
-use Rattle.sed_wire.specs.Form.{Form, begins_again, field, seen_as, only, sized, stuck_eq, found_eq, not_found, not_stuck}
+use Rattle.sed_wire.specs.Form.{Form, begins_again, field, seen_as, only, sized, stuck_eq, found_eq, not_found}
+use Rattle.sed_wire.specs.Form.{not_stuck}
 
 -- the first so many bytes, where there are as many
 abbrev pub is_front : ℕ → List ℕ → Bool
@@ -27,11 +29,13 @@ pub record IsRun (n : ℕ) (bytes : List ℕ) : Type 0 where
   pub as_many : length bytes ≡ n
   pub are_bytes : IsTrue (list_all is_byte bytes)
 
-pub front_found : {A : Type 0} (see : List ℕ → A) (n : ℕ) (bytes : List ℕ) (a : A) (rest : List ℕ) → front_reads see n bytes ≡ Found a rest
+pub front_found : {A : Type 0} (see : List ℕ → A) (n : ℕ) (bytes : List ℕ) (a : A) (rest : List ℕ)
+    → front_reads see n bytes ≡ Found a rest
     → IsRun n (take n bytes) × (see (take n bytes) ≡ a) × (bytes ≡ take n bytes ++ rest)
 front_found {A} see n bytes a rest e = by_test (is_front n bytes) refl e
   where
-    by_test : (b : Bool) → is_front n bytes ≡ b → cond b (Found (see (take n bytes)) (drop n bytes)) (Stuck bytes) ≡ Found a rest
+    by_test : (b : Bool) → is_front n bytes ≡ b → cond b (Found (see (take n bytes)) (drop n bytes)) (Stuck bytes)
+        ≡ Found a rest
         → IsRun n (take n bytes) × (see (take n bytes) ≡ a) × (bytes ≡ take n bytes ++ rest)
     by_test false is e = absurd (not_found bytes rest a e)
     by_test true is e =
@@ -42,15 +46,20 @@ front_found {A} see n bytes a rest e = by_test (is_front n bytes) refl e
           sym (take-append-drop n bytes) ∙ ap (λ (r : List ℕ). take n bytes ++ r) g.1,
         )
 
-pub front_whole : {A : Type 0} (see : List ℕ → A) (n : ℕ) (front rest : List ℕ) → IsRun n front → front_reads see n (front ++ rest) ≡ Found (see front) rest
+pub front_whole : {A : Type 0} (see : List ℕ → A) (n : ℕ) (front rest : List ℕ)
+    → IsRun n front → front_reads see n (front ++ rest) ≡ Found (see front) rest
 front_whole see n front rest is =
     let taken : take n (front ++ rest) ≡ front = take_at front rest n is.as_many in
     let left : drop n (front ++ rest) ≡ rest = drop_at front rest n is.as_many in
-    let enough : nat_le n (length (front ++ rest)) ≡ true = le-leb n (length (front ++ rest)) (omega (arith, length-append front rest, is.as_many)) in
-    let test : is_front n (front ++ rest) ≡ true = and_from (nat_le n (length (front ++ rest))) (list_all is_byte (take n (front ++ rest))) enough (ap (list_all is_byte) taken ∙ is.are_bytes) in
+    let enough : nat_le n (length (front ++ rest)) ≡ true =
+    le-leb n (length (front ++ rest)) (omega (arith, length-append front rest, is.as_many)) in
+    let test : is_front n (front ++ rest) ≡ true =
+    and_from (nat_le n (length (front ++ rest))) (list_all is_byte (take n (front ++ rest)))
+    enough (ap (list_all is_byte) taken ∙ is.are_bytes) in
     rw (test, taken, left) refl
 
-pub front_stays : {A : Type 0} (see : List ℕ → A) (n : ℕ) (bytes rest : List ℕ) → front_reads see n bytes ≡ Stuck rest → bytes ≡ rest
+pub front_stays : {A : Type 0} (see : List ℕ → A) (n : ℕ) (bytes rest : List ℕ)
+    → front_reads see n bytes ≡ Stuck rest → bytes ≡ rest
 front_stays {A} see n bytes rest e = by_test (is_front n bytes) e
   where
     by_test : (b : Bool) → cond b (Found (see (take n bytes)) (drop n bytes)) (Stuck bytes) ≡ Stuck rest → bytes ≡ rest
@@ -59,19 +68,22 @@ front_stays {A} see n bytes rest e = by_test (is_front n bytes) e
 
 -- ---- numbers
 
-pub number_sound : (width : ℕ) (bytes : List ℕ) (n : ℕ) (rest : List ℕ) → front_reads number_of width bytes ≡ Found n rest → Begins (SpellsNumber width n) bytes rest
+pub number_sound : (width : ℕ) (bytes : List ℕ) (n : ℕ) (rest : List ℕ)
+    → front_reads number_of width bytes ≡ Found n rest → Begins (SpellsNumber width n) bytes rest
 number_sound width bytes n rest e =
     let h = front_found number_of width bytes n rest e in
     (take width bytes, record { as_many = h.0.as_many; are_bytes = h.0.are_bytes; is_number = h.1 }, h.2)
 
-pub number_whole : (width n : ℕ) (front rest : List ℕ) → SpellsNumber width n front → front_reads number_of width (front ++ rest) ≡ Found n rest
+pub number_whole : (width n : ℕ) (front rest : List ℕ) → SpellsNumber width n front
+    → front_reads number_of width (front ++ rest) ≡ Found n rest
 number_whole width n front rest is =
     front_whole number_of width front rest (record { as_many = is.as_many; are_bytes = is.are_bytes })
     ∙ ap (λ (m : ℕ). Found m rest) is.is_number
 
 -- a number in so many bytes, the highest first
 abbrev pub number : ℕ → Form ℕ
-number width = field (SpellsNumber width) (front_reads number_of width) (one_number width) (number_sound width) (number_whole width) (front_stays number_of width)
+number width = field (SpellsNumber width) (front_reads number_of width)
+    (one_number width) (number_sound width) (number_whole width) (front_stays number_of width)
 
 -- of the widths that there are, as calls see them
 unfoldable pub u1 : Form ℕ
@@ -86,7 +98,8 @@ u4 = number 4
 abbrev pub signed_of : List ℕ → ℤ
 signed_of bytes = cast_signed w32 (number_of bytes)
 
-pub signed_sound : (bytes : List ℕ) (n : ℤ) (rest : List ℕ) → front_reads signed_of 4 bytes ≡ Found n rest → Begins (SpellsSigned w32 n) bytes rest
+pub signed_sound : (bytes : List ℕ) (n : ℤ) (rest : List ℕ) → front_reads signed_of 4 bytes ≡ Found n rest
+    → Begins (SpellsSigned w32 n) bytes rest
 signed_sound bytes n rest e =
     let h = front_found signed_of 4 bytes n rest e in
     let below = number_of-below (take 4 bytes) h.0.are_bytes in
@@ -101,7 +114,8 @@ signed_sound bytes n rest e =
       h.2,
     )
 
-pub signed_whole : (n : ℤ) (front rest : List ℕ) → SpellsSigned w32 n front → front_reads signed_of 4 (front ++ rest) ≡ Found n rest
+pub signed_whole : (n : ℤ) (front rest : List ℕ) → SpellsSigned w32 n front
+    → front_reads signed_of 4 (front ++ rest) ≡ Found n rest
 signed_whole n front rest is =
     front_whole signed_of 4 front rest (record { as_many = is.complement.as_many; are_bytes = is.complement.are_bytes })
     ∙ ap (λ (m : ℕ). Found (cast_signed w32 m) rest) is.complement.is_number
@@ -109,7 +123,8 @@ signed_whole n front rest is =
 
 -- a signed number in four bytes
 abbrev pub i4 : Form ℤ
-i4 = field (SpellsSigned w32) (front_reads signed_of 4) (one_signed w32) signed_sound signed_whole (front_stays signed_of 4)
+i4 = field (SpellsSigned w32) (front_reads signed_of 4) (one_signed w32)
+    signed_sound signed_whole (front_stays signed_of 4)
 
 pub mark_is : (n m : ℕ) → IsTrue (m == n) → n ≡ m
 mark_is n m is = sym (eqb-true m n is)
@@ -123,22 +138,29 @@ mark width n = seen_as (λ m. tt) (λ u. n) (λ u. refl) (only (λ m. m == n) (n
 abbrev pub run_reads : ℕ → ReadsAs (List ℕ)
 run_reads n bytes = cond (nat_le n (length bytes)) (Found (take n bytes) (drop n bytes)) (Stuck bytes)
 
-pub run_sound : (n : ℕ) (bytes run rest : List ℕ) → run_reads n bytes ≡ Found run rest → Begins (SpellsRun n run) bytes rest
+pub run_sound : (n : ℕ) (bytes run rest : List ℕ) → run_reads n bytes ≡ Found run rest
+    → Begins (SpellsRun n run) bytes rest
 run_sound n bytes run rest e = by_test (nat_le n (length bytes)) refl e
   where
-    by_test : (b : Bool) → nat_le n (length bytes) ≡ b → cond b (Found (take n bytes) (drop n bytes)) (Stuck bytes) ≡ Found run rest → Begins (SpellsRun n run) bytes rest
+    by_test : (b : Bool) → nat_le n (length bytes) ≡ b
+        → cond b (Found (take n bytes) (drop n bytes)) (Stuck bytes) ≡ Found run rest
+        → Begins (SpellsRun n run) bytes rest
     by_test false is e = absurd (not_found bytes rest run e)
     by_test true is e =
         let g = found_eq (take n bytes) (drop n bytes) run rest e in
-        begins_again (SpellsRun n) bytes (take n bytes) run (drop n bytes) rest g.0 g.1
-        (take n bytes, record { as_many = length-take-le n bytes (leb-true n (length bytes) is); same = refl }, sym (take-append-drop n bytes))
+        begins_again (SpellsRun n) bytes (take n bytes) run (drop n bytes) rest g.0 g.1 (
+          take n bytes,
+          record { as_many = length-take-le n bytes (leb-true n (length bytes) is); same = refl },
+          sym (take-append-drop n bytes),
+        )
 
 pub run_whole : (n : ℕ) (run front rest : List ℕ) → SpellsRun n run front → run_reads n (front ++ rest) ≡ Found run rest
 run_whole n run front rest h =
     let as_many : length front ≡ n = ap length h.same ∙ h.as_many in
     let taken : take n (front ++ rest) ≡ front = take_at front rest n as_many in
     let left : drop n (front ++ rest) ≡ rest = drop_at front rest n as_many in
-    let enough : nat_le n (length (front ++ rest)) ≡ true = le-leb n (length (front ++ rest)) (omega (arith, length-append front rest, as_many)) in
+    let enough : nat_le n (length (front ++ rest)) ≡ true =
+    le-leb n (length (front ++ rest)) (omega (arith, length-append front rest, as_many)) in
     rw (enough, taken, left) (ap (λ (s : List ℕ). Found s rest) h.same)
 
 pub run_stays : (n : ℕ) (bytes rest : List ℕ) → run_reads n bytes ≡ Stuck rest → bytes ≡ rest
@@ -176,9 +198,11 @@ told (Some read) bytes = Found read.0 read.1
 abbrev pub text_reads : ReadsAs (List ℕ)
 text_reads bytes = told (text_at bytes) bytes
 
-pub told_found : {A : Type 0} (o : Option (A × List ℕ)) (bytes : List ℕ) (a : A) (rest : List ℕ) → told o bytes ≡ Found a rest → o ≡ Some (a, rest)
+pub told_found : {A : Type 0} (o : Option (A × List ℕ)) (bytes : List ℕ) (a : A) (rest : List ℕ)
+    → told o bytes ≡ Found a rest → o ≡ Some (a, rest)
 told_found None bytes a rest e = absurd (not_found bytes rest a e)
-told_found {A} (Some read) bytes a rest e = let g = found_eq read.0 read.1 a rest e in ap (λ (p : A × List ℕ). Some p) (ap₂ (λ (x : A) (y : List ℕ). (x, y)) g.0 g.1)
+told_found {A} (Some read) bytes a rest e = let g = found_eq read.0 read.1 a rest e
+    in ap (λ (p : A × List ℕ). Some p) (ap₂ (λ (x : A) (y : List ℕ). (x, y)) g.0 g.1)
 
 pub told_stays : {A : Type 0} (o : Option (A × List ℕ)) (bytes rest : List ℕ) → told o bytes ≡ Stuck rest → bytes ≡ rest
 told_stays {A} None bytes rest e = stuck_eq {A = A} bytes rest e
@@ -193,7 +217,8 @@ pair_eq {A} {B} a c b d e =
     (ap (λ (p : A × B). p.0) both, ap (λ (p : A × B). p.1) both)
 
 -- one step of the reading of a text
-step_found : (zero_byte character : Bool) (byte : ℕ) (behind : List ℕ) (o : Option (List ℕ × List ℕ)) (text rest : List ℕ)
+step_found : (zero_byte character : Bool) (byte : ℕ) (behind : List ℕ)
+    (o : Option (List ℕ × List ℕ)) (text rest : List ℕ)
     → (byte == 0) ≡ zero_byte → is_character byte ≡ character
     → ((t r : List ℕ) → o ≡ Some (t, r) → Begins (SpellsText t) behind r)
     → text_step zero_byte character byte behind o ≡ Some (text, rest)
@@ -201,20 +226,25 @@ step_found : (zero_byte character : Bool) (byte : ℕ) (behind : List ℕ) (o : 
 step_found true character byte behind o text rest is_zero is_one shorter e =
     let g = pair_eq {A = List ℕ} [] text behind rest e in
     let first : byte ≡ 0 = eqb-true byte 0 is_zero in
-    begins_again SpellsText (byte ∷ behind) [] text behind rest g.0 g.1 (0 ∷ [], record { characters = refl; ended = refl }, ap (λ (b : ℕ). b ∷ behind) first)
+    begins_again SpellsText (byte ∷ behind) [] text behind rest g.0 g.1
+    (0 ∷ [], record { characters = refl; ended = refl }, ap (λ (b : ℕ). b ∷ behind) first)
 step_found false true byte behind None text rest is_zero is_one shorter e = absurd cc
 step_found false true byte behind (Some (t, r)) text rest is_zero is_one shorter e =
     let g = pair_eq (byte ∷ t) text r rest e in
     let h = shorter t r refl in
     let all : IsTrue (is_text (byte ∷ t)) = and_from (is_character byte) (is_text t) is_one h.1.characters in
-    begins_again SpellsText (byte ∷ behind) (byte ∷ t) text r rest g.0 g.1
-    (byte ∷ h.0, record { characters = all; ended = ap (λ (s : List ℕ). byte ∷ s) h.1.ended }, ap (λ (s : List ℕ). byte ∷ s) h.2)
+    begins_again SpellsText (byte ∷ behind) (byte ∷ t) text r rest g.0 g.1 (
+      byte ∷ h.0,
+      record { characters = all; ended = ap (λ (s : List ℕ). byte ∷ s) h.1.ended },
+      ap (λ (s : List ℕ). byte ∷ s) h.2,
+    )
 step_found false false byte behind o text rest is_zero is_one shorter e = absurd cc
 
 text_at_found : (bytes text rest : List ℕ) → text_at bytes ≡ Some (text, rest) → Begins (SpellsText text) bytes rest
 text_at_found [] text rest e = absurd cc
 text_at_found (byte ∷ behind) text rest e =
-    step_found (byte == 0) (is_character byte) byte behind (text_at behind) text rest refl refl (λ t r. text_at_found behind t r) e
+    step_found (byte == 0) (is_character byte) byte behind (text_at behind)
+    text rest refl refl (λ t r. text_at_found behind t r) e
 
 pub text_sound : (bytes text rest : List ℕ) → text_reads bytes ≡ Found text rest → Begins (SpellsText text) bytes rest
 text_sound bytes text rest e = text_at_found bytes text rest (told_found (text_at bytes) bytes text rest e)
@@ -231,7 +261,8 @@ text_at_whole (byte ∷ more) rest is =
 
 pub text_whole : (text front rest : List ℕ) → SpellsText text front → text_reads (front ++ rest) ≡ Found text rest
 text_whole text front rest h =
-    let e : text_at (front ++ rest) ≡ Some (text, rest) = ap (λ (s : List ℕ). text_at (s ++ rest)) h.ended ∙ text_at_whole text rest h.characters in
+    let e : text_at (front ++ rest) ≡ Some (text, rest) =
+    ap (λ (s : List ℕ). text_at (s ++ rest)) h.ended ∙ text_at_whole text rest h.characters in
     ap (λ (o : Option (List ℕ × List ℕ)). told o (front ++ rest)) e
 
 -- characters of ASCII, and the 0 that ends them

@@ -1,14 +1,14 @@
-//! Reading the fields that forms of bytes are made of. Where none stands the answer is `Halt::Fault`, and the reader stays
-//! at the field's start.
+//! Reading the fields that forms of bytes are made of. Where none stands the answer is `Halt::Fault`, and the reader
+//! stays at the field's start.
 ghost use Rattle.std.specs.Prelude.{◌≡◌};
 ghost use Rattle.sed_wire.specs.Gives.{Gives};
 ghost use Rattle.sed_wire.specs.Leaves as leaf;
 
-use crate::halt::Halt;
 use crate::reader::Reader;
+use sed_value::Halt;
 
 /// A number in one byte.
-#[tactic(auto, unfolding(crate::specs::Leaves::u1), using(crate::proofs::LeafLemmas::number_read, crate::proofs::LeafLemmas::number_short))]
+#[tactic(auto, unfolding(crate::specs::Leaves::u1), using(crate::proofs::LeafLemmas::number_fields))]
 pub fn u1(reader: &mut Reader) -> Result<u8, Halt>
     ensures { Gives result reader.new (leaf.u1.reads reader.old) }
 {
@@ -19,7 +19,7 @@ pub fn u1(reader: &mut Reader) -> Result<u8, Halt>
 }
 
 /// A number in two bytes.
-#[tactic(auto, unfolding(crate::specs::Leaves::u2), using(crate::proofs::LeafLemmas::number_read, crate::proofs::LeafLemmas::number_short))]
+#[tactic(auto, unfolding(crate::specs::Leaves::u2), using(crate::proofs::LeafLemmas::number_fields))]
 pub fn u2(reader: &mut Reader) -> Result<u16, Halt>
     ensures { Gives result reader.new (leaf.u2.reads reader.old) }
 {
@@ -30,7 +30,7 @@ pub fn u2(reader: &mut Reader) -> Result<u16, Halt>
 }
 
 /// A number in four bytes.
-#[tactic(auto, unfolding(crate::specs::Leaves::u4), using(crate::proofs::LeafLemmas::number_read, crate::proofs::LeafLemmas::number_short))]
+#[tactic(auto, unfolding(crate::specs::Leaves::u4), using(crate::proofs::LeafLemmas::number_fields))]
 pub fn u4(reader: &mut Reader) -> Result<u32, Halt>
     ensures { Gives result reader.new (leaf.u4.reads reader.old) }
 {

@@ -14,7 +14,6 @@
 mod conditions;
 mod fault;
 pub mod fields;
-mod halt;
 mod laws;
 mod number;
 mod reader;
@@ -22,10 +21,10 @@ mod writer;
 
 pub use conditions::{can_be_held, has_spelling, is_text};
 pub use fault::{Full, Short, StrFault, ValueFault};
-pub use halt::Halt;
 pub use laws::{
     appends_add_up, numbers_are_read_one_way, signed_numbers_are_read_one_way,
     texts_are_read_one_way, values_are_read_one_way,
 };
 pub use reader::Reader;
+pub use sed_value::Halt;
 pub use writer::Writer;

@@ -1,11 +1,13 @@
 //! Reading what bytes spell.
-ghost use Rattle.std.specs.Prelude.{◌≡◌, ◌<◌, ◌≤◌, ◌↔◌, ℕ, ◌++◌, ◌∷◌, [], List, length, IsTrue, IsErr, IsErrOf, IfOk, IfErr, OnErr, IsOkAnd, MatchResult, ◌==◌, nat_lt, position};
+ghost use Rattle.std.specs.Prelude.{◌≡◌, ◌<◌, ◌≤◌, ◌↔◌, ℕ, ◌++◌, ◌∷◌, [], List, length, IsTrue, IsErr, IsErrOf, IfOk};
+ghost use Rattle.std.specs.Prelude.{IfErr, OnErr, IsOkAnd, MatchResult, ◌==◌, nat_lt, position};
 ghost use Rattle.std.specs.Int.{w32, w64};
 ghost use Rattle.std.specs.List.{list_any};
 ghost use Rattle.sed_value.specs.declared.slot_type.Primitive.TheVariants.{Bool as BoolType};
 ghost use Rattle.sed_value.specs.declared.slot_type.SlotType.TheVariants.{Prim as PrimSlot, Buf as BufSlot};
 ghost use Rattle.sed_value.specs.Value.{is_of_type};
-ghost use Rattle.sed_wire.specs.Faults.{BeginsNoText, BeginsNoValue, IsBadBool, IsTooLong, StandsAfter, HasNoEnd, IsNotAscii, size_of};
+ghost use Rattle.sed_wire.specs.Faults.{BeginsNoText, BeginsNoValue, IsBadBool, IsTooLong, StandsAfter, HasNoEnd};
+ghost use Rattle.sed_wire.specs.Faults.{IsNotAscii, size_of};
 ghost use Rattle.sed_wire.specs.Number.{SpellsNumber, SpellsSigned};
 ghost use Rattle.sed_wire.specs.Reading.{Reads, ReadsAgain};
 ghost use Rattle.sed_wire.specs.Spelling.{Spells, can_be_held};

@@ -1,5 +1,5 @@
-//! The program: `sedona` over the system's files, a UDP socket of 127.0.0.1, its clock, its disk and standard output. It
-//! ends with the status that the call gives.
+//! The program: `sedona` over the system's files, a UDP socket of 127.0.0.1, its clock, its disk and standard output.
+//! It ends with the status that the call gives.
 #![tactic(auto)]
 
 use disk_model::FileDisk;

@@ -3,7 +3,8 @@ use Rattle.std.specs.Prelude.{◌≡◌, ℕ, List, [], ◌∷◌, ◌++◌, Opt
 use Rattle.file_steps.specs.Steps.{Agree}
 use Rattle.sedona_cli.specs.declared.refusal.Refusal.{Refusal}
 use Rattle.file_steps.specs.Reads.{failed_names}
-use Rattle.sedona_cli.specs.Outside.{Ask, Writes, Attaches, Makes, Opens, Binds, Opened, Found, NotAStore, Unread, Unheld, Wrote, Written, Unwritten, Withheld, reads_in}
+use Rattle.sedona_cli.specs.Outside.{Ask, Writes, Attaches, Makes, Opens, Binds, Opened, Found, NotAStore, Unread}
+use Rattle.sedona_cli.specs.Outside.{Unheld, Wrote, Written, Unwritten, Withheld, reads_in}
 use Rattle.sedona_cli.specs.Refusals.{failed_of}
 use Rattle.sedona_cli.specs.Writing.{unwritten_in}
 
@@ -45,8 +46,8 @@ abbrev pub Pointwise : List Ask → List Ask → Type 0
 Pointwise (ask ∷ asks) (other ∷ others) = AgreesOn ask other × (ask ≡ other → Pointwise asks others)
 Pointwise asks others = Unit {0}
 
--- Two rows answer the same wherever they ask the same at one place: reads each by itself, all else as long as all before
--- was the same.
+-- Two rows answer the same wherever they ask the same at one place: reads each by itself, all else as long as all
+-- before was the same.
 pub record AgreeOn (asks others : List Ask) : Type 0 where
   pub reads : Agree (reads_in asks) (reads_in others)
   pub rest : Pointwise asks others

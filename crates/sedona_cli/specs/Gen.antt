@@ -46,8 +46,8 @@ RecordWritten asked inputs asks end =
 abbrev pub GenComes : RecordAsked → List Ask → Result (List ℕ) Refusal → Type 0
 GenComes asked = AndThen (RecordInputsRead asked) (RecordWritten asked)
 
--- What it leaves once it is done: where the files tell what they hold, the output file has exactly the bytes of the record
--- of what the files gave.
+-- What it leaves once it is done: where the files tell what they hold, the output file has exactly the bytes of the
+-- record of what the files gave.
 abbrev pub LeavesRecord : {S : Type 0} → FileGhosts S → RecordAsked → S → S → Type 0
 LeavesRecord {S} F asked files files_now = (middle : S) × HasReads F files middle (λ reads. (inputs : RecordInputs)
     × RecordInputsRead asked (of_reads reads) (Ok inputs)

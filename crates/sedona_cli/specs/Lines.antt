@@ -9,7 +9,10 @@ use Rattle.kit_sources.specs.declared.refusal.Why.TheVariants as why
 use Rattle.sedona_cli.specs.declared.lines.Line.{Line}
 use Rattle.sedona_cli.specs.declared.lines.Line.TheVariants.{Fixed, Spelled, Worded}
 use Rattle.sedona_cli.specs.declared.refusal.Refusal.{Refusal}
-use Rattle.sedona_cli.specs.declared.refusal.Refusal.TheVariants.{FileFault, Refused, Rule, SlotTooSmall, DeviceFault, StoreExists, NoStore, NoApplication, WrongKits, OverLimit, BadUsers, ShortSecret, BadRecord, LinkFault, Memory}
+use Rattle.sedona_cli.specs.declared.refusal.Refusal.TheVariants.{FileFault, Refused, Rule, SlotTooSmall, DeviceFault}
+use Rattle.sedona_cli.specs.declared.refusal.Refusal.TheVariants.{StoreExists, NoStore, NoApplication, WrongKits}
+use Rattle.sedona_cli.specs.declared.refusal.Refusal.TheVariants.{OverLimit, BadUsers, ShortSecret, BadRecord}
+use Rattle.sedona_cli.specs.declared.refusal.Refusal.TheVariants.{LinkFault, Memory}
 
 -- what is put of a line
 abbrev pub line_bytes : Line → List ℕ

@@ -33,8 +33,8 @@ NewOf store slot program =
 abbrev pub NewComes : List (List ℕ) → List ℕ → ℕ → List Ask → Result (List ℕ) Refusal → Type 0
 NewComes names store slot = AndThen (AfterKits names) (NewOf store slot)
 
--- What it leaves once it is done: one mark was made, and every image that a crash from then on may leave is a store with
--- slots of exactly so many bytes that opens to the App alone over the program that was loaded.
+-- What it leaves once it is done: one mark was made, and every image that a crash from then on may leave is a store
+-- with slots of exactly so many bytes that opens to the App alone over the program that was loaded.
 pub record LeavesNew {S : Type 0} (F : FileGhosts S) (names : List (List ℕ)) (slot : ℕ) (files files_now : S)
     (disk disk_now : Meaning) : Type 0 where
   pub mark : MarksUp disk disk_now 1

@@ -1,5 +1,6 @@
 -- What a command asks of the outside, in order, and how each was answered.
-use Rattle.std.specs.Prelude.{◌≡◌, ◌≢◌, ◌⊎◌, ◌+◌, ◌*◌, ◌≤◌, ℕ, Bool, true, false, IsTrue, List, [], ◌∷◌, length, map, Option, Some}
+use Rattle.std.specs.Prelude.{◌≡◌, ◌≢◌, ◌⊎◌, ◌+◌, ◌*◌, ◌≤◌, ℕ, Bool, true, false, IsTrue, List, [], ◌∷◌, length, map}
+use Rattle.std.specs.Prelude.{Option, Some}
 use Rattle.std.specs.List.{flat_map, list_all}
 use Rattle.sed_outside.specs.Cause.{HasCause}
 use Rattle.sed_outside.specs.declared.files.Files.{Ghosts as FileGhosts}
@@ -50,9 +51,10 @@ pub data Wrote : Type 0 where
   Unwritten : Wrote
   Withheld : Wrote
 
--- One thing that is asked, with how it was answered: a file is read; these bytes are written into the file of a name; the
--- file of a name is attached as the store's, which is done or fails; in it a store is made, with slots of so many bytes
--- and this first payload, or is opened; a port of the link is taken, which is done or fails; on the store a node is run.
+-- One thing that is asked, with how it was answered: a file is read; these bytes are written into the file of a name;
+-- the file of a name is attached as the store's, which is done or fails; in it a store is made, with slots of so many
+-- bytes and this first payload, or is opened; a port of the link is taken, which is done or fails; on the store a node
+-- is run.
 pub data Ask : Type 0 where
   Reads : Read → Ask
   Writes : List ℕ → List ℕ → Wrote → Ask
@@ -125,8 +127,8 @@ is_of_files (Opens how) = false
 is_of_files (Binds port done) = false
 is_of_files (Runs ran) = false
 
--- Nothing of the store was written, and no file but where that failed or memory was wanted for it; and nothing was asked
--- of the disk, or the store attached, once, and no other name.
+-- Nothing of the store was written, and no file but where that failed or memory was wanted for it; and nothing was
+-- asked of the disk, or the store attached, once, and no other name.
 pub record Spares (store : Option (List ℕ)) (asks : List Ask) : Type 0 where
   pub unwritten : list_all spares asks ≡ true
   pub attached : (list_all is_of_files asks ≡ true) ⊎ (map (λ name. Some name) (names_in asks) ≡ store ∷ [])
@@ -189,10 +191,10 @@ reached ran = run ran.code ran.setup ran.start ran.events
 abbrev pub saves_in : Application → Ran → List Save
 saves_in opened ran = saves_of ran.code ran.setup opened ran.start ran.events
 
--- A node was run on a store with slots of its setup's size. Its entries came to its events, where the disk's faults were
--- counted before and after; its saves were done, one after another, each of a text that is a file of what it saved; and
--- what a crash at any moment leaves opens to an application that was opened or saved, and to none before the last one
--- acknowledged by then.
+-- A node was run on a store with slots of its setup's size. Its entries came to its events, where the disk's faults
+-- were counted before and after; its saves were done, one after another, each of a text that is a file of what it
+-- saved; and what a crash at any moment leaves opens to an application that was opened or saved, and to none before the
+-- last one acknowledged by then.
 pub record IsRan {T : Type 0} (meaning : T → Meaning) (ran : Ran) (old new : T) : Type 0 where
   pub time : Elapses (meaning old) (meaning new)
   pub attached : (meaning new).attached ≡ (meaning old).attached
@@ -226,8 +228,8 @@ pub record AsksDisk {T : Type 0} (D : DiskGhosts T) (old new : T) (Holds : List 
   pub asked : AreAsked D asks old new
   pub holds : Holds asks
 
--- This was asked of files and of a disk: what the reads gave, what became of the counts of failed reads, and that no file
--- changed, is that of `HasReads`.
+-- This was asked of files and of a disk: what the reads gave, what became of the counts of failed reads, and that no
+-- file changed, is that of `HasReads`.
 abbrev pub HasAsks : {S T : Type 0} → FileGhosts S → DiskGhosts T → S → S → T → T → (List Ask → Type 0) → Type 0
 HasAsks F D files files_now disk disk_now Holds = HasReads F files files_now (λ reads.
     (asks : List Ask) × (reads_in asks ≡ reads) × AreAsked D asks disk disk_now × Holds asks)

@@ -1,5 +1,6 @@
 -- What the program answers.
-use Rattle.std.specs.Prelude.{◌≡◌, ◌≢◌, ◌⊎◌, ℕ, true, IsTrue, List, [], ◌∷◌, length, Contains, MatchBool, Option, Some, None, Result, Ok, Err}
+use Rattle.std.specs.Prelude.{◌≡◌, ◌≢◌, ◌⊎◌, ℕ, true, IsTrue, List, [], ◌∷◌, length, Contains, MatchBool, Option, Some}
+use Rattle.std.specs.Prelude.{None, Result, Ok, Err}
 use Rattle.std.specs.List.{flat_map}
 use Rattle.std.specs.Option.{option_map_or}
 use Rattle.sed_typed.specs.declared.program.Program.{Program as TheProgram}
@@ -22,7 +23,8 @@ use Rattle.sedona_cli.specs.Puts.{IsOneOf, Puts}
 use Rattle.sedona_cli.specs.Replay.{ReplayComes, ReplayStops}
 use Rattle.sedona_cli.specs.Run.{AsksLive, RanBy, RunComes}
 use Rattle.sedona_cli.specs.Show.{ShowComes}
-use Rattle.sedona_cli.specs.Outside.{Ask, Reads, Writes, Written, Attaches, Makes, Opens, Binds, Runs, Made, Whole, NotEmpty, Failed, Opened, Found, NotAStore, Unread, Unheld, IsNoStore, Spares}
+use Rattle.sedona_cli.specs.Outside.{Ask, Reads, Writes, Written, Attaches, Makes, Opens, Binds, Runs, Made, Whole}
+use Rattle.sedona_cli.specs.Outside.{NotEmpty, Failed, Opened, Found, NotAStore, Unread, Unheld, IsNoStore, Spares}
 use Rattle.sedona_cli.specs.Refusals.{is_want}
 use Rattle.sedona_cli.specs.Status.{number_of, status_of}
 use Rattle.sedona_cli.specs.Words.{command_asked}
@@ -83,9 +85,10 @@ OnCommand words P = (command : Command) → command_asked words ≡ Some command
 -- ---- how it is answered
 
 -- The status that a command is answered with, and what is put: its text, with status 0; a front of that text, with
--- status 8, where the sink failed, which has stopped what was yet to come where the text is put piece by piece; the line
--- of a refusal, with the refusal's status; and, free, want of memory.
-pub data IsAnswer (command : Command) (asks : List Ask) (before after : Option (List ℕ)) (faults_before faults_after : ℕ)
+-- status 8, where the sink failed, which has stopped what was yet to come where the text is put piece by piece; the
+-- line of a refusal, with the refusal's status; and, free, want of memory.
+pub data IsAnswer (command : Command) (asks : List Ask) (before after : Option (List ℕ))
+    (faults_before faults_after : ℕ)
     (status : ℕ) : Type 0 where
   done : (text : List ℕ) → Comes command asks (Ok text) → status ≡ 0 → after ≡ with_text before text
       → faults_after ≡ faults_before → IsAnswer command asks before after faults_before faults_after status
@@ -140,9 +143,10 @@ abbrev pub AsksStore : {T : Type 0} → DiskGhosts T → Option (List ℕ) → �
 AsksStore D None status disk disk_now = disk_now ≡ disk
 AsksStore D (Some name) status disk disk_now = AttachesBy D name status disk disk_now
 
--- What was asked of the link and the clock, by command: without a port nothing, and with one what `run` asks of them, and
--- where it was done, what it leaves.
-abbrev pub AsksLiveOf : {S T U V : Type 0} → FileGhosts S → DiskGhosts T → LinkGhosts U → ClockGhosts V → Command → S → S
+-- What was asked of the link and the clock, by command: without a port nothing, and with one what `run` asks of them,
+-- and where it was done, what it leaves.
+abbrev pub AsksLiveOf : {S T U V : Type 0} → FileGhosts S → DiskGhosts T
+    → LinkGhosts U → ClockGhosts V → Command → S → S
     → U → U → V → V → T → T → Option (List ℕ) → Option (List ℕ) → ℕ → Type 0
 AsksLiveOf F D L C (Run asked) files files_now link link_now clock clock_now disk disk_now before after status =
     AsksLive L C asked.port status link link_now clock clock_now

@@ -9,7 +9,10 @@ use Rattle.sed_outside.specs.declared.files.FileFault.TheVariants.{Failed, Memor
 use Rattle.sed_kits.specs.declared.refusal.KitsRefusal.{KitsRefusal}
 use Rattle.sed_kits.specs.declared.refusal.KitsRefusal.TheVariants as kits
 use Rattle.sedona_cli.specs.declared.refusal.Refusal.{Refusal}
-use Rattle.sedona_cli.specs.declared.refusal.Refusal.TheVariants.{FileFault, Refused, Rule, SlotTooSmall, DeviceFault, StoreExists, NoStore, NoApplication, WrongKits, OverLimit, BadUsers, ShortSecret, BadRecord, LinkFault, Memory}
+use Rattle.sedona_cli.specs.declared.refusal.Refusal.TheVariants.{FileFault, Refused, Rule, SlotTooSmall, DeviceFault}
+use Rattle.sedona_cli.specs.declared.refusal.Refusal.TheVariants.{StoreExists, NoStore, NoApplication, WrongKits}
+use Rattle.sedona_cli.specs.declared.refusal.Refusal.TheVariants.{OverLimit, BadUsers, ShortSecret, BadRecord}
+use Rattle.sedona_cli.specs.declared.refusal.Refusal.TheVariants.{LinkFault, Memory}
 
 -- it is want of memory
 abbrev pub is_want : Refusal → Bool

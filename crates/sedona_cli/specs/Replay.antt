@@ -93,7 +93,8 @@ pub record Stops (asked : NodeAsked) (inputs : Inputs) (a : Application) (asks :
   pub fails : FailsAt ran left put last
 
 -- How a run is answered: all was put, with status 0; or the sink failed, with status 8.
-pub data Plays (asked : NodeAsked) (inputs : Inputs) (a : Application) (asks : List Ask) (before after : Option (List ℕ))
+pub data Plays (asked : NodeAsked) (inputs : Inputs) (a : Application)
+    (asks : List Ask) (before after : Option (List ℕ))
     (faults_before faults_after : ℕ) (status : ℕ) : Type 0 where
   all_put : (text : List ℕ) → Replays asked inputs a asks (Ok text) → status ≡ 0 → after ≡ with_text before text
       → faults_after ≡ faults_before → Plays asked inputs a asks before after faults_before faults_after status

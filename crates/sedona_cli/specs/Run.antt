@@ -1,5 +1,6 @@
 -- What `run` comes to, and what it leaves.
-use Rattle.std.specs.Prelude.{◌≡◌, ◌⊎◌, ℕ, ℤ, Bool, true, false, List, [], ◌∷◌, map, Option, Some, None, IfSome, Result, Ok, Err}
+use Rattle.std.specs.Prelude.{◌≡◌, ◌⊎◌, ℕ, ℤ, Bool, true, false, List, [], ◌∷◌, map, Option, Some, None, IfSome, Result}
+use Rattle.std.specs.Prelude.{Ok, Err}
 use Rattle.std.specs.Option.{option_map}
 use Rattle.sed_typed.specs.declared.program.Program.{Program as TheProgram}
 use Rattle.sed_outside.specs.Cause.{Rose}
@@ -124,10 +125,10 @@ at_link = 0 ∷ 8 ∷ 10 ∷ []
 abbrev pub WasTaken : Option Bound → Bool → Type 0
 WasTaken bound was_taken = IfSome bound (λ last. last.taken ≡ was_taken)
 
--- A command with a port asks for it, once, exactly where the order comes to the link; with want of memory once or never.
--- Where all was done the port was taken, and with 10 it was not. Before the link it asks nothing of the link or the clock.
--- With want of memory, and where the port is not taken, it then hears and offers nothing, and asks for no sleep; and where
--- it is not taken, for no moment.
+-- A command with a port asks for it, once, exactly where the order comes to the link; with want of memory once or
+-- never. Where all was done the port was taken, and with 10 it was not. Before the link it asks nothing of the link or
+-- the clock. With want of memory, and where the port is not taken, it then hears and offers nothing, and asks for no
+-- sleep; and where it is not taken, for no moment.
 pub record BindsBy {U V : Type 0} (L : LinkGhosts U) (C : ClockGhosts V) (port status : ℕ) (link link_now : U)
     (clock clock_now : V) : Type 0 where
   pub never : IsOneOf before_link status → (link_now ≡ link) × (clock_now ≡ clock)
@@ -168,11 +169,11 @@ pub record ShowsEnd (ran : Ran) (before after : Option (List ℕ)) (status : ℕ
   pub front : PutsFront before after (end_text ran.code (reached ran))
   pub whole : status ≡ 0 → after ≡ with_text before (end_text ran.code (reached ran))
 
--- What a run over a link and a clock hears, offers and shows. The node began, at the next moment of the clock, with this
--- application. The entries of its run are those of so many cycles, each at most 16 datagrams and then a tick: over the
--- polls of the link and the moments behind the opening one, where these are told, and the ones behind them are still to
--- come. Each datagram that was sent was offered, in their order; behind each cycle it slept until as many periods were over
--- as cycles were done, from the moment of the first tick on.
+-- What a run over a link and a clock hears, offers and shows. The node began, at the next moment of the clock, with
+-- this application. The entries of its run are those of so many cycles, each at most 16 datagrams and then a tick: over
+-- the polls of the link and the moments behind the opening one, where these are told, and the ones behind them are
+-- still to come. Each datagram that was sent was offered, in their order; behind each cycle it slept until as many
+-- periods were over as cycles were done, from the moment of the first tick on.
 pub record RunsLive {U V : Type 0} (L : LinkGhosts U) (C : ClockGhosts V) (asked : RunAsked) (code : Code)
     (users : List User) (secret : List ℕ) (a : Application) (ran : Ran) (before after : Option (List ℕ)) (status : ℕ)
     (link link_now : U) (clock clock_now : V) : Type 0 where
@@ -186,7 +187,8 @@ pub record RunsLive {U V : Type 0} (L : LinkGhosts U) (C : ClockGhosts V) (asked
   pub sends : AreTexts (reached ran).sent sent
   pub offered_are : AddsWhereTold (L.offered link) (L.offered link_now) (map offered_as sent)
   pub sleeps : Sleeps (behind_opening (C.moments clock)) asked.cycles asked.period (C.asked clock) (C.asked clock_now)
-  pub left : IsLeft asked.cycles (L.polls link) (L.polls link_now) (behind_opening (C.moments clock)) (C.moments clock_now)
+  pub left : IsLeft asked.cycles (L.polls link) (L.polls link_now) (behind_opening (C.moments clock))
+      (C.moments clock_now)
 
 -- So it runs from a node that is ready, with the clock as it is behind the opening moment.
 pub record RunsReady {T U V : Type 0} (D : DiskGhosts T) (L : LinkGhosts U) (C : ClockGhosts V) (moment : ℤ)
@@ -211,8 +213,8 @@ pub record RunsOn {T U V : Type 0} (D : DiskGhosts T) (L : LinkGhosts U) (C : Cl
   pub is_ran : IsRan D.meaning ran disk disk_now
   pub live : RunsLive L C asked code users secret a ran before after status link link_now clock clock_now
 
--- So it runs on the application that its store opens to. Of the disk this run was asked, and nothing but the opening of its
--- store before it.
+-- So it runs on the application that its store opens to. Of the disk this run was asked, and nothing but the opening of
+-- its store before it.
 pub record RunsKept {T U V : Type 0} (D : DiskGhosts T) (L : LinkGhosts U) (C : ClockGhosts V) (asked : RunAsked)
     (inputs : NodeInputs) (before after : Option (List ℕ)) (status : ℕ) (link link_now : U) (clock clock_now : V)
     (disk disk_now : T) : Type 0 where

@@ -3,7 +3,9 @@ use Rattle.std.specs.Prelude.{ℕ}
 use Rattle.sedona_cli.specs.declared.refusal.Refusal.{Refusal}
 use Rattle.sedona_cli.specs.declared.refusal.Refusal.TheVariants as refusal
 use Rattle.sedona_cli.specs.declared.status.Status.{Status}
-use Rattle.sedona_cli.specs.declared.status.Status.TheVariants.{Done, Usage, Refused, FileFault, DeviceFault, StoreRefused, NoMemory, SinkFault, RecordRefused, LinkFault, InputRefused, SlotTooSmall}
+use Rattle.sedona_cli.specs.declared.status.Status.TheVariants.{Done, Usage, Refused, FileFault, DeviceFault}
+use Rattle.sedona_cli.specs.declared.status.Status.TheVariants.{StoreRefused, NoMemory, SinkFault, RecordRefused}
+use Rattle.sedona_cli.specs.declared.status.Status.TheVariants.{LinkFault, InputRefused, SlotTooSmall}
 
 abbrev pub number_of : Status → ℕ
 number_of Done = 0

@@ -43,8 +43,8 @@ Prints text = Decides (λ end. end ≡ Ok text)
 abbrev pub done_text : List ℕ
 done_text = codes "ok" ++ line_end
 
--- These bytes are written into the file of a name, and `ok` is printed; or the write fails, and it ends with that file's
--- fault. Nothing more is asked.
+-- These bytes are written into the file of a name, and `ok` is printed; or the write fails, and it ends with that
+-- file's fault. Nothing more is asked.
 abbrev pub FileWritten : List ℕ → List ℕ → List Ask → Result (List ℕ) Refusal → Type 0
 FileWritten name bytes asks (Ok text) = (asks ≡ Writes name bytes Written ∷ []) × (text ≡ done_text)
 FileWritten name bytes asks (Err refusal) = (asks ≡ Writes name bytes Unwritten ∷ []) × (refusal ≡ FileFault name)

@@ -7,9 +7,11 @@ use Rattle.comp_tree.specs.Application.{Application}
 use Rattle.app_file.specs.Reading.{CanBeTold, IsReadAs, Reading, no_file, wrong_kits, over_limit, file}
 use Rattle.file_steps.specs.Steps.{Decides}
 use Rattle.sedona_cli.specs.declared.refusal.Refusal.{Refusal}
-use Rattle.sedona_cli.specs.declared.refusal.Refusal.TheVariants.{SlotTooSmall, DeviceFault, StoreExists, NoStore, NoApplication, WrongKits, OverLimit}
+use Rattle.sedona_cli.specs.declared.refusal.Refusal.TheVariants.{SlotTooSmall, DeviceFault, StoreExists, NoStore}
+use Rattle.sedona_cli.specs.declared.refusal.Refusal.TheVariants.{NoApplication, WrongKits, OverLimit}
 use Rattle.sedona_cli.specs.Refusals.{is_want}
-use Rattle.sedona_cli.specs.Outside.{Ask, Attaches, Makes, Opens, Whole, NotEmpty, Failed, Found, NotAStore, Unread, Unheld}
+use Rattle.sedona_cli.specs.Outside.{Ask, Attaches, Makes, Opens, Whole, NotEmpty, Failed, Found, NotAStore, Unread}
+use Rattle.sedona_cli.specs.Outside.{Unheld}
 
 -- A slot of so many bytes has room for a text, or needs so many and has fewer.
 abbrev pub IsMeasured : ℕ → List ℕ → Result (Unit {0}) Refusal → Type 0
@@ -24,8 +26,8 @@ abbrev pub StoreAttached : List ℕ → List Ask → Result (Unit {0}) Refusal �
 StoreAttached name asks (Ok done) = asks ≡ Attaches name true ∷ []
 StoreAttached name asks (Err refusal) = (asks ≡ Attaches name false ∷ []) × (refusal ≡ DeviceFault)
 
--- In the file that is attached a store is made, with slots of so many bytes and this payload; or the file is not empty, or
--- the disk fails.
+-- In the file that is attached a store is made, with slots of so many bytes and this payload; or the file is not empty,
+-- or the disk fails.
 abbrev pub StoreMade : ℕ → List ℕ → List Ask → Result (Unit {0}) Refusal → Type 0
 StoreMade slot payload asks (Ok done) = asks ≡ Makes slot payload Whole ∷ []
 StoreMade slot payload asks (Err refusal) =
@@ -58,7 +60,8 @@ application_in (file application) = Ok application
 
 -- A payload is read as the file of an application over a program, with at most so many bytes of data. The program is
 -- one of whose classes a file can tell, as each that is loaded.
-pub record IsRead (program : TheProgram) (limit : ℕ) (payload : List ℕ) (end : Result Application Refusal) : Type 0 where
+pub record IsRead (program : TheProgram) (limit : ℕ) (payload : List ℕ)
+    (end : Result Application Refusal) : Type 0 where
   pub tables : HasTables (meaning_of program)
   pub told : CanBeTold program.schema
   pub reading : Reading

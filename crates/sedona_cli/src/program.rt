@@ -4,7 +4,8 @@ ghost use Rattle.sed_outside.specs.Cause.{Rose};
 ghost use Rattle.file_steps.specs.Reads.{AreKnown};
 ghost use Rattle.sedona_cli.specs.declared.refusal.Refusal.{Refusal as TheRefusal};
 ghost use Rattle.sedona_words.specs.Asked.{asked_command, IsMeant};
-ghost use Rattle.sedona_words.specs.Command.{Command, New, NodeAsked, Replay, Run, RunAsked, Show, output_of, port_of, store_of, texts};
+ghost use Rattle.sedona_words.specs.Command.{Command, New, NodeAsked, Replay, Run, RunAsked, Show, output_of, port_of};
+ghost use Rattle.sedona_words.specs.Command.{store_of, texts};
 ghost use Rattle.sedona_cli.specs.Lines.{memory_line, usage_line};
 ghost use Rattle.sedona_cli.specs.Outside.{Ask, reads_in};
 ghost use Rattle.sedona_cli.specs.Puts.{IsOneOf, Puts};
@@ -14,7 +15,8 @@ ghost use Rattle.sedona_cli.specs.Show.{OpensToNone, ShowsKept};
 ghost use Rattle.sedona_cli.specs.Status.{number_of};
 ghost use Rattle.sedona_cli.specs.Words.{command_asked, is_run};
 ghost use Rattle.sedona_cli.specs.Writing.{AsksOf, DidNotFailToWrite, KeepsFiles, KeepsWrites};
-ghost use Rattle.sedona_cli.specs.Program.{AreToldOf, AsksLiveOf, AsksStore, Comes, ComesOrWants, DidNotFail, Follows, IsAnswer, Leaves, OnCommand, PutsAtOnce, SparesDisk};
+ghost use Rattle.sedona_cli.specs.Program.{AreToldOf, AsksLiveOf, AsksStore, Comes, ComesOrWants, DidNotFail, Follows};
+ghost use Rattle.sedona_cli.specs.Program.{IsAnswer, Leaves, OnCommand, PutsAtOnce, SparesDisk};
 
 use crate::coming::{check, cycles};
 use crate::generating::generate;
@@ -63,7 +65,8 @@ fn command<F: Files, L: Link, C: Clock, D: Disk, O: Sink>(
     out: &mut O,
 ) -> Status
     requires { IsMeant asked }
-    ensures answered { AsksOf F.Files D.Disk (output_of (asked_command asked.entry)) files.old files.new disk.old disk.new
+    ensures answered { AsksOf F.Files D.Disk (output_of (asked_command asked.entry))
+        files.old files.new disk.old disk.new
         (λ asks. IsAnswer (asked_command asked.entry) asks (O.text out.old) (O.text out.new)
         (O.faults out.old) (O.faults out.new) (number_of result)) }
     ensures leaves { IsOneOf (0 ∷ 8 ∷ []) (number_of result) →
@@ -102,7 +105,7 @@ fn command<F: Files, L: Link, C: Clock, D: Disk, O: Sink>(
 /// | 8 | only where the sink failed as the text of status 0 was put, and there always; `replay` stops then |
 /// | 9 | exactly where the bytes of a record's file are no record |
 /// | 10 | only where the link failed as `run` asked for its port |
-/// | 11 | exactly where a users file is outside its grammar, `gen`'s user is not in it, or a secret file has fewer than 20 bytes |
+/// | 11 | exactly where a users file is outside its grammar or lacks `gen`'s user, or a secret has under 20 bytes |
 /// | 12 | exactly where the slot of a new store is smaller than the application |
 ///
 /// The outside is asked in the order of the steps of a command until one is refused; the first refusal counts. Each
@@ -122,8 +125,8 @@ pub fn sedona<F: Files, L: Link, C: Clock, D: Disk, O: Sink>(
 ) -> u8
     ensures statuses { IsOneOf (0 ∷ 1 ∷ 2 ∷ 3 ∷ 4 ∷ 5 ∷ 7 ∷ 8 ∷ 9 ∷ 10 ∷ 11 ∷ 12 ∷ []) result }
 
-    // 1: exactly where the words are outside the table of words, unless memory was wanted for those behind `run`, which is
-    // told as 7. Nothing is asked of the outside then, with 1 as with 7.
+    // 1: exactly where the words are outside the table of words, unless memory was wanted for those behind `run`, which
+    // is told as 7. Nothing is asked of the outside then, with 1 as with 7.
     ensures usage { result ≡ 1 → command_asked (texts words.now) ≡ None }
     ensures usage_comes { command_asked (texts words.now) ≡ None → IsOneOf (1 ∷ 7 ∷ []) result }
     ensures usage_sure { is_run (texts words.now) ≡ false → command_asked (texts words.now) ≡ None → result ≡ 1 }
@@ -188,8 +191,8 @@ pub fn sedona<F: Files, L: Link, C: Clock, D: Disk, O: Sink>(
         command ≡ Replay asked file → result ≡ 5 → IsTrue (D.meaning disk.old).tells →
         HoldsNone F.Files asked file files.old files.new (D.meaning disk.old)) }
     // What `run` puts is what stands at the end of a run from the application that its store opens to, from the clock's
-    // next moment on, over the polls of the link and the moments behind that one; with 8 a front of it. What was sent is
-    // what was offered, and it slept by its period. Of the store the same holds as of `replay`.
+    // next moment on, over the polls of the link and the moments behind that one; with 8 a front of it. What was sent
+    // is what was offered, and it slept by its period. Of the store the same holds as of `replay`.
     ensures ran { OnCommand (texts words.now) (λ command. (asked : RunAsked) →
         command ≡ Run asked → IsOneOf (0 ∷ 8 ∷ []) result →
         RanBy F.Files D.Disk L.Link C.Clock asked files.old files.new link.old link.new clock.old clock.new
@@ -199,9 +202,9 @@ pub fn sedona<F: Files, L: Link, C: Clock, D: Disk, O: Sink>(
         RunsNone F.Files asked.node files.old files.new (D.meaning disk.old)) }
     ensures spared { IsOneOf (5 ∷ 7 ∷ 10 ∷ []) result → SparesDisk (D.meaning disk.old) (D.meaning disk.new) }
 
-    // The link and the clock: the port is asked for exactly where the steps come to it, once and by the number given, and
-    // with 0 and 8 it was taken, where the link tells it; 10 only where the link failed, and it was not. With want of
-    // memory, and with 10, nothing is polled or offered.
+    // The link and the clock: the port is asked for exactly where the steps come to it, once and by the number given,
+    // and with 0 and 8 it was taken, where the link tells it; 10 only where the link failed, and it was not. With want
+    // of memory, and with 10, nothing is polled or offered.
     ensures bound { OnCommand (texts words.now) (λ command.
         AsksLink L.Link C.Clock (port_of command) result link.old link.new clock.old clock.new) }
     ensures link_fault { result ≡ 10 → Rose (L.faults link.old) (L.faults link.new) }

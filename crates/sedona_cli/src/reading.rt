@@ -10,8 +10,8 @@ use sed_value::Memory;
 use sedona_words::{Asked, read_words};
 use std::alloc::Global;
 
-/// What the words ask for. None exactly where they are outside the table of words. It fails only for want of memory, which
-/// the words behind `run` may take.
+/// What the words ask for. None exactly where they are outside the table of words. It fails only for want of memory,
+/// which the words behind `run` may take.
 pub fn read_command<'a>(alloc: Global, words: &'a [String]) -> Result<Option<Asked<'a>>, Memory>
     ensures command { IfOk result (λ asked. option_map asked_command asked ≡ command_asked (texts words.now)) }
     ensures meant { IfOk result (λ asked. IfSome asked IsMeant) }

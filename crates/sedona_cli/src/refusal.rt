@@ -12,8 +12,8 @@ use sed_value::KitRef;
 /// Why a command is refused. Each has a status and a line.
 #[derive(Drop)]
 pub enum Refusal {
-    /// The file could not be read, or the output file not be written, and the count of its failed reads, or writes, rose or
-    /// stands at its last value.
+    /// The file could not be read, or the output file not be written, and the count of its failed reads, or writes,
+    /// rose or stands at its last value.
     FileFault {
         file: Text,
     },

@@ -6,7 +6,8 @@ use Rattle.sedona_words.specs.declared.command.RunWords.{RunWords}
 use Rattle.sedona_words.specs.declared.command.Asked.TheVariants as asked
 use Rattle.sedona_words.specs.declared.gen_words.GenWords.{GenWords}
 use Rattle.record_making.specs.Spec.{IsAllowed}
-use Rattle.sedona_words.specs.Command.{Command, Cycles, Check, Gen, New, NodeAsked, RecordAsked, Replay, Run, RunAsked, Show, are_manifests, is_file_name, names_within, texts}
+use Rattle.sedona_words.specs.Command.{Command, Cycles, Check, Gen, New, NodeAsked, RecordAsked, Replay, Run, RunAsked}
+use Rattle.sedona_words.specs.Command.{Show, are_manifests, is_file_name, names_within, texts}
 
 abbrev pub asked_node : NodeWords → NodeAsked
 asked_node words = record {

@@ -1,5 +1,6 @@
 -- What the words of a command line ask for.
-use Rattle.std.specs.Prelude.{ℕ, Bool, ◌==◌, ◌&&◌, ◌||◌, not, nat_le, if◌then◌else◌, List, [], ◌∷◌, length, map, slice_index, Option, Some, None, codes, String, string_bytes}
+use Rattle.std.specs.Prelude.{ℕ, Bool, ◌==◌, ◌&&◌, ◌||◌, not, nat_le, if◌then◌else◌, List, [], ◌∷◌, length, map}
+use Rattle.std.specs.Prelude.{slice_index, Option, Some, None, codes, String, string_bytes}
 use Rattle.std.specs.List.{list_all, slice_split}
 use Rattle.std.specs.Option.{option_and_then, option_map, option_map_or}
 use Rattle.std.specs.Str.{bytes_eq}
@@ -11,8 +12,8 @@ infixl 10 ◌>>=◌
 abbrev pub ◌>>=◌ : {A B : Type 0} → Option A → (A → Option B) → Option B
 o >>= f = option_and_then f o
 
--- What a command asks that runs a node: the names of the kits' manifests, of the store, of the users file and of the secret
--- file, the turns of each root call, and the most bytes of data.
+-- What a command asks that runs a node: the names of the kits' manifests, of the store, of the users file and of the
+-- secret file, the turns of each root call, and the most bytes of data.
 pub record NodeAsked : Type 0 where
   pub kits : List (List ℕ)
   pub store : List ℕ
@@ -28,8 +29,8 @@ pub record RunAsked : Type 0 where
   pub cycles : ℕ
   pub period : ℕ
 
--- What `gen` asks: the numbers of the record, the names of the kits' manifests and of the users file, the name of a user,
--- and the names of the secret file and of the output file.
+-- What `gen` asks: the numbers of the record, the names of the kits' manifests and of the users file, the name of a
+-- user, and the names of the secret file and of the output file.
 pub record RecordAsked : Type 0 where
   pub numbers : GenAsked
   pub kits : List (List ℕ)

@@ -1,15 +1,19 @@
 -- What a command comes to: the application after it, what is asked of the node, and the reply.
-use Rattle.std.specs.Prelude.{ℕ, ℤ, ◌≡◌, ◌-◌, Bool, true, false, IsTrue, IsOk, if◌then◌else◌, slice_get, Option, Some, None, Result, Ok, Err}
+use Rattle.std.specs.Prelude.{ℕ, ℤ, ◌≡◌, ◌-◌, Bool, true, false, IsTrue, IsOk, if◌then◌else◌, slice_get, Option, Some}
+use Rattle.std.specs.Prelude.{None, Result, Ok, Err}
 use Rattle.std.specs.Option.{option_map_or}
 use Rattle.sed_value.specs.declared.refusal.Refusal.{Refusal}
 use Rattle.sed_value.specs.declared.refusal.Refusal.TheVariants.{Malformed, OutOfMemory}
 use Rattle.sed_value.specs.Refusal.{refusals}
 use Rattle.sed_engine.specs.Code.{Meaning}
 use Rattle.comp_tree.specs.Application.{Application}
-use Rattle.comp_tree.specs.Edit.{Command, Add, ReadPart, Delete, Invoke, Connect, Disconnect, Rename, Reorder, ReadSlot, Subscribe, Unsubscribe, Version, Write, Clear, Edit, Edited, Reply, Added, Told, is_save}
+use Rattle.comp_tree.specs.Edit.{Command, Add, ReadPart, Delete, Invoke, Connect, Disconnect, Rename, Reorder, ReadSlot}
+use Rattle.comp_tree.specs.Edit.{Subscribe, Unsubscribe, Version, Write, Clear, Edit, Edited, Reply, Added, Told}
+use Rattle.comp_tree.specs.Edit.{is_save}
 use Rattle.sox_msg.specs.Answered as told
 use Rattle.sox_msg.specs.Answered.{Answered}
-use Rattle.sox_msg.specs.Command.{Asked, add, read_part, delete, invoke, link, unlink, rename, reorder, read_slot, subscribe, unsubscribe, version, write, clear, letter_of}
+use Rattle.sox_msg.specs.Command.{Asked, add, read_part, delete, invoke, link, unlink, rename, reorder, read_slot}
+use Rattle.sox_msg.specs.Command.{subscribe, unsubscribe, version, write, clear, letter_of}
 use Rattle.sox_commands.specs.Table.{link_between}
 use Rattle.sox_commands.specs.declared.served.Served.{Served}
 use Rattle.sox_commands.specs.declared.served.Served.TheVariants as served

@@ -4,11 +4,15 @@ use Rattle.std.specs.Prelude.{ℕ, Bool, List, []}
 use Rattle.sed_value.specs.declared.refusal.Refusal.{Refusal}
 use Rattle.sed_engine.specs.Code.{Meaning}
 use Rattle.comp_tree.specs.Application.{Application, Link}
-use Rattle.comp_tree.specs.Refusals.{refusals_of_add, refusals_of_clear, refusals_of_delete, refusals_of_invoke, refusals_of_link, refusals_of_part, refusals_of_read, refusals_of_rename, refusals_of_reorder, refusals_of_unlink, refusals_of_write}
-use Rattle.sox_msg.specs.Command.{Asked, add, read_part, delete, invoke, link, unlink, rename, reorder, read_slot, subscribe, unsubscribe, version, write, clear}
+use Rattle.comp_tree.specs.Refusals.{refusals_of_add, refusals_of_clear, refusals_of_delete, refusals_of_invoke}
+use Rattle.comp_tree.specs.Refusals.{refusals_of_link, refusals_of_part, refusals_of_read, refusals_of_rename}
+use Rattle.comp_tree.specs.Refusals.{refusals_of_reorder, refusals_of_unlink, refusals_of_write}
+use Rattle.sox_msg.specs.Command.{Asked, add, read_part, delete, invoke, link, unlink, rename, reorder, read_slot}
+use Rattle.sox_msg.specs.Command.{subscribe, unsubscribe, version, write, clear}
 
 abbrev pub link_between : ℕ → ℕ → ℕ → ℕ → Link
-link_between source from_slot target to_slot = record { from = source; from_slot = from_slot; to = target; to_slot = to_slot }
+link_between source from_slot target to_slot =
+    record { from = source; from_slot = from_slot; to = target; to_slot = to_slot }
 
 abbrev pub refusals_of : Meaning → Application → Asked → List (Bool × Refusal)
 -- a: 3 4 5 6 7 8 9 10 14 15 11

@@ -1,5 +1,6 @@
 -- How many parts are compared with their last events.
-use Rattle.std.specs.Prelude.{ℕ, zero, suc, ◌≡◌, ◌+◌, ◌-◌, ◌^◌, ◌&&◌, not, min, max, Bool, true, List, Option, None, is_some, unwrap_or}
+use Rattle.std.specs.Prelude.{ℕ, zero, suc, ◌≡◌, ◌+◌, ◌-◌, ◌^◌, ◌&&◌, not, min, max, Bool, true, List, Option, None}
+use Rattle.std.specs.Prelude.{is_some, unwrap_or}
 use Rattle.link_prop.specs.Linked.{Linked, one_if}
 use Rattle.sub_table.specs.declared.part.Part.{Part}
 use Rattle.sub_table.specs.declared.part.Part.TheVariants.{Tree, Config, Runtime, Links}
@@ -12,10 +13,12 @@ has_event kept = is_some (unwrap_or kept None)
 
 -- a part with a last event that was marked for the place and is no more: it has been settled, so it was compared
 abbrev pub was_compared : {E : Type 0} → Linked E → Linked E → Subscriptions → ℕ → Those
-was_compared old new subs place id part = has_event (subs place id part) && (marked old place id part && not (marked new place id part))
+was_compared old new subs place id part = has_event (subs place id part)
+    && (marked old place id part && not (marked new place id part))
 
 abbrev pub of_one : Those → ℕ → ℕ
-of_one those id = one_if (those id Tree) + one_if (those id Config) + one_if (those id Runtime) + one_if (those id Links)
+of_one those id = one_if (those id Tree) + one_if (those id Config)
+    + one_if (those id Runtime) + one_if (those id Links)
 
 -- how many parts of the ids below one are meant
 unfoldable pub count_below : ℕ → Those → ℕ

@@ -1,5 +1,6 @@
 -- What is due to a session place: by the marks of an application, and by what differs.
-use Rattle.std.specs.Prelude.{ℕ, ◌≡◌, ◌≤◌, ◌==◌, ◌&&◌, ◌||◌, not, nat_eq, nat_lt, Bool, true, false, if◌then◌else◌, List, ◌∷◌, ◌++◌, Option, Some, None, is_some, unwrap_or}
+use Rattle.std.specs.Prelude.{ℕ, ◌≡◌, ◌≤◌, ◌==◌, ◌&&◌, ◌||◌, not, nat_eq, nat_lt, Bool, true, false, if◌then◌else◌}
+use Rattle.std.specs.Prelude.{List, ◌∷◌, ◌++◌, Option, Some, None, is_some, unwrap_or}
 use Rattle.std.specs.Option.{option_map_or}
 use Rattle.std.specs.Cmp.Lexicographic.{pointwise}
 use Rattle.sed_typed.specs.declared.schema.Schema.{Schema}
@@ -55,7 +56,8 @@ marked a place id part = is_marked a id place (app_part part)
 -- other bytes than the last event
 abbrev pub is_due_after : {E : Type 0} → Ghosts E → Linked E → ℕ → ℕ → Part → Option (List ℕ) → Bool
 is_due_after g a place id part last =
-    lives g a id && option_map_or (λ bytes. marked a place id part && not (pointwise nat_eq bytes (bytes_of g a id part))) last true
+    lives g a id && option_map_or (λ bytes. marked a place id part
+    && not (pointwise nat_eq bytes (bytes_of g a id part))) last true
 
 -- the part is due at the place, by the marks
 abbrev pub is_due : {E : Type 0} → Ghosts E → Linked E → Subscriptions → ℕ → ℕ → Part → Bool
@@ -64,7 +66,8 @@ is_due g a subs place id part = option_map_or (is_due_after g a place id part) (
 -- a part that is subscribed, where it is of a live component: no event of it was posted, or it has other bytes than the
 -- last event. This knows no marks
 abbrev pub differs_from : {E : Type 0} → Ghosts E → Linked E → ℕ → Part → Option (List ℕ) → Bool
-differs_from g a id part last = lives g a id && option_map_or (λ bytes. not (pointwise nat_eq bytes (bytes_of g a id part))) last true
+differs_from g a id part last =
+    lives g a id && option_map_or (λ bytes. not (pointwise nat_eq bytes (bytes_of g a id part))) last true
 
 -- the part differs from what was posted of it at the place
 abbrev pub differs : {E : Type 0} → Ghosts E → Linked E → Subscriptions → ℕ → ℕ → Part → Bool
@@ -84,7 +87,8 @@ is_last bytes kept = option_map_or (λ last. pointwise nat_eq last bytes) (unwra
 -- event. It is said of every id, so of those of live components
 abbrev pub MarksAgree : {E : Type 0} → Ghosts E → Linked E → Subscriptions → Type 0
 MarksAgree g a subs =
-    (place id : ℕ) (part : Part) (bytes : List ℕ) → subs place id part ≡ Some (Some bytes) → marked a place id part ≡ false
+    (place id : ℕ) (part : Part) (bytes : List ℕ) → subs place id part ≡ Some (Some bytes)
+    → marked a place id part ≡ false
     → bytes_of g a id part ≡ bytes
 
 -- ---- what contracts see of those who are told
@@ -144,9 +148,10 @@ before_it id part i other = nat_lt i id || (i == id && nat_lt (rank other) (rank
 abbrev pub is_watched : {E : Type 0} → Ghosts E → Linked E → Subscriptions → ℕ → ℕ → Part → Bool
 is_watched g a subs place id part = is_some (subs place id part) && lives g a id
 
--- some parts are passed: none of them is due at the place, each of them that is watched is settled there, and nothing else
--- changes
-pub record Passes {E : Type 0} (g : Ghosts E) (old new : Linked E) (subs : Subscriptions) (place : ℕ) (passed : Those) : Type 0 where
+-- some parts are passed: none of them is due at the place, each of them that is watched is settled there, and nothing
+-- else changes
+pub record Passes {E : Type 0} (g : Ghosts E) (old new : Linked E)
+    (subs : Subscriptions) (place : ℕ) (passed : Those) : Type 0 where
   pub stays : application_of g new ≡ application_of g old
   pub meaning : g.meaning new.tree.engine ≡ g.meaning old.tree.engine
   pub steady : g.fixed new.tree.engine ≡ g.fixed old.tree.engine
@@ -154,9 +159,10 @@ pub record Passes {E : Type 0} (g : Ghosts E) (old new : Linked E) (subs : Subsc
   pub marks : (p id : ℕ) (part : Part) → marked new p id part
       ≡ (if (p == place && passed id part) && is_watched g old subs place id part then false else marked old p id part)
 
--- an event of a part is given when some parts are passed: it is due, it is settled too, its text is put, and its bytes are
--- those of its last event
-pub record Gives {E : Type 0} (g : Ghosts E) (old new : Linked E) (subs after : Subscriptions) (place : ℕ) (passed : Those) (id : ℕ) (part : Part)
+-- an event of a part is given when some parts are passed: it is due, it is settled too, its text is put, and its bytes
+-- are those of its last event
+pub record Gives {E : Type 0} (g : Ghosts E) (old new : Linked E) (subs after : Subscriptions)
+    (place : ℕ) (passed : Those) (id : ℕ) (part : Part)
     (count : ℕ) (into now : List ℕ) : Type 0 where
   pub stays : application_of g new ≡ application_of g old
   pub meaning : g.meaning new.tree.engine ≡ g.meaning old.tree.engine
@@ -164,6 +170,8 @@ pub record Gives {E : Type 0} (g : Ghosts E) (old new : Linked E) (subs after : 
   pub due : is_due g old subs place id part ≡ true
   pub none : (i : ℕ) (other : Part) → passed i other ≡ true → is_due g old subs place i other ≡ false
   pub marks : (p i : ℕ) (other : Part) → marked new p i other
-      ≡ (if (p == place && (passed i other || only id part i other)) && is_watched g old subs place i other then false else marked old p i other)
-  pub posted : (p i : ℕ) (other : Part) → after p i other ≡ with_event place id part (bytes_of g old id part) subs p i other
+      ≡ (if (p == place && (passed i other || only id part i other)) && is_watched g old subs place i other
+      then false else marked old p i other)
+  pub posted : (p i : ℕ) (other : Part)
+      → after p i other ≡ with_event place id part (bytes_of g old id part) subs p i other
   pub text : Puts (101 ∷ 255 ∷ (u2 id ++ letter_of part ∷ bytes_of g old id part)) count into now

@@ -2,7 +2,8 @@
 ghost use Rattle.link_prop.specs.Linked.{Linked};
 ghost use Rattle.link_prop.specs.Marks.{Tells};
 ghost use Rattle.sub_table.specs.declared.part.Part.{Part as PartOf};
-ghost use Rattle.sub_table.specs.Table.{Subscriptions, nothing_subscribed, with_subscribed, without_subscribed, without_place};
+ghost use Rattle.sub_table.specs.Table.{Subscriptions, nothing_subscribed, with_subscribed, without_subscribed};
+ghost use Rattle.sub_table.specs.Table.{without_place};
 ghost use Rattle.std.specs.Prelude.{◌≡◌, ℕ, List, true, false};
 ghost use Rattle.sox_events.specs.Compared.{has_event, how_many, risen, was_compared};
 ghost use Rattle.sox_events.specs.Due.{Gives, MarksAgree, Passes, Those, differs, is_due, lives, marked, of_the_live};
@@ -12,13 +13,15 @@ use sed_engine::Engine;
 /// Where the marks agree with the subscriptions, they still do after every call of an application of which the marks
 /// tell; so after each but `settle`.
 pub fn agreement_lasts<E: Engine>()
-    ensures { (before after : Linked E) (subs : Subscriptions) → Tells E.Engine before after → MarksAgree E.Engine before subs → MarksAgree E.Engine after subs }
+    ensures { (before after : Linked E) (subs : Subscriptions) → Tells E.Engine before after
+        → MarksAgree E.Engine before subs → MarksAgree E.Engine after subs }
 {}
 
 /// The marks agree where nothing is subscribed. Where they agree with the subscriptions, they agree with those that
 /// `subscribe`, `unsubscribe`, `drop_session` and `drop_dead` leave.
 pub fn subscribing_keeps_agreement<E: Engine>()
-    ensures nothing { (a : Linked E) (subs : Subscriptions) → ((p i : ℕ) (part : PartOf) → subs p i part ≡ nothing_subscribed p i part)
+    ensures nothing { (a : Linked E) (subs : Subscriptions)
+        → ((p i : ℕ) (part : PartOf) → subs p i part ≡ nothing_subscribed p i part)
         → MarksAgree E.Engine a subs }
     ensures subscribed { (a : Linked E) (before after : Subscriptions) (place id mask : ℕ)
         → ((p i : ℕ) (part : PartOf) → after p i part ≡ with_subscribed place id mask before p i part)
@@ -43,9 +46,11 @@ pub fn agreeing_marks_tell_what_differs<E: Engine>()
 /// Where the marks agree with the subscriptions, they agree with those that `next_event` leaves: where no part is
 /// due, and where an event is given.
 pub fn events_keep_agreement<E: Engine>()
-    ensures none { (before after : Linked E) (subs : Subscriptions) (place : ℕ) (passed : Those) → Passes E.Engine before after subs place passed
+    ensures none { (before after : Linked E) (subs : Subscriptions) (place : ℕ) (passed : Those)
+        → Passes E.Engine before after subs place passed
         → MarksAgree E.Engine before subs → MarksAgree E.Engine after subs }
-    ensures event { (before after : Linked E) (subs told : Subscriptions) (place : ℕ) (passed : Those) (id : ℕ) (part : PartOf) (count : ℕ) (into now : List ℕ)
+    ensures event { (before after : Linked E) (subs told : Subscriptions)
+        (place : ℕ) (passed : Those) (id : ℕ) (part : PartOf) (count : ℕ) (into now : List ℕ)
         → Gives E.Engine before after subs told place passed id part count into now
         → MarksAgree E.Engine before subs → MarksAgree E.Engine after told }
 {}
@@ -53,21 +58,29 @@ pub fn events_keep_agreement<E: Engine>()
 /// Where the marks agree with the subscriptions, the part of which `next_event` gives an event differs from its last
 /// event, and none of those before it does; where it gives none, no part does. This knows no marks.
 pub fn events_are_of_what_differs<E: Engine>()
-    ensures none { (before after : Linked E) (subs : Subscriptions) (place : ℕ) (passed : Those) → Passes E.Engine before after subs place passed
-        → MarksAgree E.Engine before subs → (i : ℕ) (other : PartOf) → passed i other ≡ true → differs E.Engine before subs place i other ≡ false }
-    ensures event { (before after : Linked E) (subs told : Subscriptions) (place : ℕ) (passed : Those) (id : ℕ) (part : PartOf) (count : ℕ) (into now : List ℕ)
+    ensures none { (before after : Linked E) (subs : Subscriptions) (place : ℕ) (passed : Those)
+        → Passes E.Engine before after subs place passed
+        → MarksAgree E.Engine before subs → (i : ℕ) (other : PartOf) → passed i other ≡ true
+        → differs E.Engine before subs place i other ≡ false }
+    ensures event { (before after : Linked E) (subs told : Subscriptions)
+        (place : ℕ) (passed : Those) (id : ℕ) (part : PartOf) (count : ℕ) (into now : List ℕ)
         → Gives E.Engine before after subs told place passed id part count into now → MarksAgree E.Engine before subs
-        → (differs E.Engine before subs place id part ≡ true) × ((i : ℕ) (other : PartOf) → passed i other ≡ true → differs E.Engine before subs place i other ≡ false) }
+        → (differs E.Engine before subs place id part ≡ true)
+        × ((i : ℕ) (other : PartOf) → passed i other ≡ true → differs E.Engine before subs place i other ≡ false) }
 {}
 
 /// Where no subscribed part of a live component is marked at a place and has a last event, `next_event` compares
 /// nothing there, whether it gives an event or not.
 pub fn what_is_not_marked_is_not_compared<E: Engine>()
-    ensures none { (before after : Linked E) (subs : Subscriptions) (place : ℕ) (passed : Those) → Passes E.Engine before after subs place passed
-        → ((i : ℕ) (other : PartOf) → lives E.Engine before i ≡ true → has_event (subs place i other) ≡ true → marked before place i other ≡ false)
+    ensures none { (before after : Linked E) (subs : Subscriptions) (place : ℕ) (passed : Those)
+        → Passes E.Engine before after subs place passed
+        → ((i : ℕ) (other : PartOf) → lives E.Engine before i ≡ true → has_event (subs place i other) ≡ true
+        → marked before place i other ≡ false)
         → (count : ℕ) → risen count (how_many (was_compared before after subs place)) ≡ count }
-    ensures event { (before after : Linked E) (subs told : Subscriptions) (place : ℕ) (passed : Those) (id : ℕ) (part : PartOf) (length : ℕ) (into now : List ℕ)
+    ensures event { (before after : Linked E) (subs told : Subscriptions)
+        (place : ℕ) (passed : Those) (id : ℕ) (part : PartOf) (length : ℕ) (into now : List ℕ)
         → Gives E.Engine before after subs told place passed id part length into now
-        → ((i : ℕ) (other : PartOf) → lives E.Engine before i ≡ true → has_event (subs place i other) ≡ true → marked before place i other ≡ false)
+        → ((i : ℕ) (other : PartOf) → lives E.Engine before i ≡ true → has_event (subs place i other) ≡ true
+        → marked before place i other ≡ false)
         → (count : ℕ) → risen count (how_many (was_compared before after subs place)) ≡ count }
 {}

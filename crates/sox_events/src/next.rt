@@ -1,5 +1,6 @@
 //! The next event.
-ghost use Rattle.std.specs.Prelude.{◌≡◌, ◌==◌, ◌&&◌, ◌<◌, ◌≤◌, ℕ, MatchOption, IsSome, IsTrue, true, false, nat_lt, length, take};
+ghost use Rattle.std.specs.Prelude.{◌≡◌, ◌==◌, ◌&&◌, ◌<◌, ◌≤◌, ℕ, MatchOption, IsSome, IsTrue, true, false, nat_lt};
+ghost use Rattle.std.specs.Prelude.{length, take};
 ghost use Rattle.std.specs.FinMap as map;
 ghost use Rattle.comp_tree.specs.Held.{components_of};
 ghost use Rattle.sox_msg.specs.Reply.{Puts, event_text, is_told};
@@ -7,7 +8,9 @@ ghost use Rattle.sub_table.specs.declared.part.Part.{Part as PartOf};
 ghost use Rattle.sub_table.specs.Table.{at, most_bytes, with_event};
 ghost use Rattle.link_prop.specs.Linked.{one_if};
 ghost use Rattle.sox_events.specs.Compared.{Counts, has_event, how_many, risen, was_compared};
-ghost use Rattle.sox_events.specs.Due.{comparisons, Gives, HasRoom, Passes, before_it, all_of_them, bit_of, bytes_of, is_last, letter_of, longest, marked, may_be_due, none_of_them, only, rank, room_for, subscriptions};
+ghost use Rattle.sox_events.specs.Due.{comparisons, Gives, HasRoom, Passes, before_it, all_of_them, bit_of, bytes_of};
+ghost use Rattle.sox_events.specs.Due.{is_last, letter_of, longest, marked, may_be_due, none_of_them, only, rank};
+ghost use Rattle.sox_events.specs.Due.{room_for, subscriptions};
 ghost use Rattle.sox_msg.specs.Command.{u2};
 ghost use Rattle.std.specs.Prelude.{◌∷◌, ◌++◌};
 
@@ -21,8 +24,8 @@ use sub_table::{Part, SubTable};
 
 impl Subs {
     /// The first event that is due at a place, 0 to 15, by ascending id and then in the order `t`, `c`, `r`, `l`: its
-    /// text is put in front of `into`, with its length as the answer, and what stood behind it stays. None exactly where
-    /// none is due.
+    /// text is put in front of `into`, with its length as the answer, and what stood behind it stays. None exactly
+    /// where none is due.
     ///
     /// The part that is given is settled for that place, and each subscribed part of a live component before it; where
     /// there is none, each of all. Those of them that are marked and have a last event are compared with it, and no
@@ -36,9 +39,13 @@ impl Subs {
         requires place { place < 16 }
         requires room { HasRoom (E.meaning app.old.tree.engine).schema self.old }
         ensures event { MatchOption result
-            (Passes E.Engine app.old app.new (subscriptions self.old) place all_of_them × (subscriptions self.new ≡ subscriptions self.old) × (into.new ≡ into.old))
-            (λ count. (id : ℕ) × (part : PartOf) × Gives E.Engine app.old app.new (subscriptions self.old) (subscriptions self.new) place (before_it id part) id part count into.old into.new) }
-        ensures compared { comparisons self.new ≡ risen (comparisons self.old) (how_many (was_compared app.old app.new (subscriptions self.old) place)) }
+            (Passes E.Engine app.old app.new (subscriptions self.old) place all_of_them
+            × (subscriptions self.new ≡ subscriptions self.old) × (into.new ≡ into.old))
+            (λ count. (id : ℕ) × (part : PartOf)
+            × Gives E.Engine app.old app.new (subscriptions self.old) (subscriptions self.new)
+            place (before_it id part) id part count into.old into.new) }
+        ensures compared { comparisons self.new
+            ≡ risen (comparisons self.old) (how_many (was_compared app.old app.new (subscriptions self.old) place)) }
         ensures room { (part : PartOf) → room_for self.new part ≡ room_for self.old part }
     {
         next_of(&mut self.table, place, app, into, &mut self.compared)
@@ -56,8 +63,11 @@ fn next_of<E: Engine>(
     requires place { place < 16 }
     requires room { (part : PartOf) → longest (E.meaning app.old.tree.engine).schema part ≤ most_bytes table.old part }
     ensures event { MatchOption result
-        (Passes E.Engine app.old app.new (at table.old) place all_of_them × (at table.new ≡ at table.old) × (into.new ≡ into.old))
-        (λ count. (id : ℕ) × (part : PartOf) × Gives E.Engine app.old app.new (at table.old) (at table.new) place (before_it id part) id part count into.old into.new) }
+        (Passes E.Engine app.old app.new (at table.old) place all_of_them
+        × (at table.new ≡ at table.old) × (into.new ≡ into.old))
+        (λ count. (id : ℕ) × (part : PartOf)
+        × Gives E.Engine app.old app.new (at table.old) (at table.new)
+        place (before_it id part) id part count into.old into.new) }
     ensures compared { Counts app.old app.new (at table.old) place compared.old compared.new }
     ensures room { (part : PartOf) → most_bytes table.new part ≡ most_bytes table.old part }
 {
@@ -85,8 +95,10 @@ fn event_of<E: Engine>(
     requires bound { id.0 < 4096 }
     requires room { (part : PartOf) → longest (E.meaning app.old.tree.engine).schema part ≤ most_bytes table.old part }
     ensures event { MatchOption result
-        (Passes E.Engine app.old app.new (at table.old) place (λ i q. i == id.0) × (table.new ≡ table.old) × (into.new ≡ into.old))
-        (λ count. (part : PartOf) × Gives E.Engine app.old app.new (at table.old) (at table.new) place (λ i q. i == id.0 && nat_lt (rank q) (rank part)) id.0 part count into.old into.new) }
+        (Passes E.Engine app.old app.new (at table.old) place (λ i q. i == id.0)
+        × (table.new ≡ table.old) × (into.new ≡ into.old))
+        (λ count. (part : PartOf) × Gives E.Engine app.old app.new (at table.old)
+        (at table.new) place (λ i q. i == id.0 && nat_lt (rank q) (rank part)) id.0 part count into.old into.new) }
     ensures compared { Counts app.old app.new (at table.old) place compared.old compared.new }
     ensures room { (part : PartOf) → most_bytes table.new part ≡ most_bytes table.old part }
     ensures meaning { E.meaning app.new.tree.engine ≡ E.meaning app.old.tree.engine }
@@ -111,8 +123,10 @@ fn event_of_parts<E: Engine>(
     requires live { IsSome (map.get (components_of E.Engine app.old.tree).by_id id.0) }
     requires room { (part : PartOf) → longest (E.meaning app.old.tree.engine).schema part ≤ most_bytes table.old part }
     ensures event { MatchOption result
-        (Passes E.Engine app.old app.new (at table.old) place (λ i q. i == id.0) × (table.new ≡ table.old) × (into.new ≡ into.old))
-        (λ count. (part : PartOf) × Gives E.Engine app.old app.new (at table.old) (at table.new) place (λ i q. i == id.0 && nat_lt (rank q) (rank part)) id.0 part count into.old into.new) }
+        (Passes E.Engine app.old app.new (at table.old) place (λ i q. i == id.0)
+        × (table.new ≡ table.old) × (into.new ≡ into.old))
+        (λ count. (part : PartOf) × Gives E.Engine app.old app.new (at table.old)
+        (at table.new) place (λ i q. i == id.0 && nat_lt (rank q) (rank part)) id.0 part count into.old into.new) }
     ensures compared { Counts app.old app.new (at table.old) place compared.old compared.new }
     ensures room { (part : PartOf) → most_bytes table.new part ≡ most_bytes table.old part }
     ensures meaning { E.meaning app.new.tree.engine ≡ E.meaning app.old.tree.engine }
@@ -147,8 +161,10 @@ fn event_of_part<E: Engine>(
     requires live { IsSome (map.get (components_of E.Engine app.old.tree).by_id id.0) }
     requires room { longest (E.meaning app.old.tree.engine).schema part ≤ most_bytes table.old part }
     ensures event { MatchOption result
-        (Passes E.Engine app.old app.new (at table.old) place (only id.0 part) × (table.new ≡ table.old) × (into.new ≡ into.old))
-        (λ count. Gives E.Engine app.old app.new (at table.old) (at table.new) place none_of_them id.0 part count into.old into.new) }
+        (Passes E.Engine app.old app.new (at table.old) place (only id.0 part)
+        × (table.new ≡ table.old) × (into.new ≡ into.old))
+        (λ count. Gives E.Engine app.old app.new (at table.old) (at table.new)
+        place none_of_them id.0 part count into.old into.new) }
     ensures compared { Counts app.old app.new (at table.old) place compared.old compared.new }
     ensures room { (other : PartOf) → most_bytes table.new other ≡ most_bytes table.old other }
     ensures meaning { E.meaning app.new.tree.engine ≡ E.meaning app.old.tree.engine }
@@ -203,7 +219,8 @@ fn event_of_bytes(
     ensures event { MatchOption result
         ((is_last bytes.now (at table.old place id.0 part) ≡ true) × (table.new ≡ table.old) × (into.new ≡ into.old))
         (λ count. (is_last bytes.now (at table.old place id.0 part) ≡ false)
-        × ((p i : ℕ) (other : PartOf) → at table.new p i other ≡ with_event place id.0 part bytes.now (at table.old) p i other)
+        × ((p i : ℕ) (other : PartOf) → at table.new p i other
+        ≡ with_event place id.0 part bytes.now (at table.old) p i other)
         × Puts (101 ∷ 255 ∷ (u2 id.0 ++ letter_of part ∷ bytes.now)) count into.old into.new) }
     ensures compared { compared.new ≡ risen compared.old (one_if (has_event (at table.old place id.0 part))) }
     ensures room { (other : PartOf) → most_bytes table.new other ≡ most_bytes table.old other }

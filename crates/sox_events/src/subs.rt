@@ -2,7 +2,8 @@
 ghost use Rattle.std.specs.Prelude.{◌≡◌, ◌&&◌, ◌==◌, ◌<◌, ◌↔◌, ℕ, None, IfOk, true, nat_le, not, if◌then◌else◌};
 ghost use Rattle.sub_table.specs.declared.part.Part.{Part as PartOf};
 ghost use Rattle.sub_table.specs.Parts.{width_of};
-ghost use Rattle.sub_table.specs.Table.{at, most_bytes, nothing_subscribed, with_subscribed, without_subscribed, without_place};
+ghost use Rattle.sub_table.specs.Table.{at, most_bytes, nothing_subscribed, with_subscribed, without_subscribed};
+ghost use Rattle.sub_table.specs.Table.{without_place};
 ghost use Rattle.sox_events.specs.Due.{HasRoom, comparisons, lives, longest, of_the_live, room_for, subscriptions};
 
 use crate::next::letter_of;
@@ -31,7 +32,8 @@ impl Subs {
     /// Nothing is subscribed, and nothing was compared. There is room for an event of every part of every component of
     /// an application over the schema, at every place.
     pub fn new(alloc: Global, schema: &Schema) -> Result<Subs, Memory>
-        ensures none { IfOk result (λ subs. (p i : ℕ) (part : PartOf) → subscriptions subs p i part ≡ nothing_subscribed p i part) }
+        ensures none { IfOk result (λ subs. (p i : ℕ) (part : PartOf)
+            → subscriptions subs p i part ≡ nothing_subscribed p i part) }
         ensures compared { IfOk result (λ subs. comparisons subs ≡ 0) }
         ensures room { IfOk result (λ subs. (part : PartOf) → room_for subs part ≡ longest schema.now part) }
     {
@@ -57,7 +59,8 @@ impl Subs {
         requires place { place < 16 }
         requires id { id.0 < 4096 }
         requires mask { mask < 16 }
-        ensures after { (p i : ℕ) (part : PartOf) → subscriptions self.new p i part ≡ with_subscribed place id.0 mask (subscriptions self.old) p i part }
+        ensures after { (p i : ℕ) (part : PartOf) → subscriptions self.new p i part
+            ≡ with_subscribed place id.0 mask (subscriptions self.old) p i part }
         ensures compared { comparisons self.new ≡ comparisons self.old }
         ensures room { (part : PartOf) → room_for self.new part ≡ room_for self.old part }
     {
@@ -69,7 +72,8 @@ impl Subs {
         requires place { place < 16 }
         requires id { id.0 < 4096 }
         requires mask { mask < 16 }
-        ensures after { (p i : ℕ) (part : PartOf) → subscriptions self.new p i part ≡ without_subscribed place id.0 mask (subscriptions self.old) p i part }
+        ensures after { (p i : ℕ) (part : PartOf) → subscriptions self.new p i part
+            ≡ without_subscribed place id.0 mask (subscriptions self.old) p i part }
         ensures compared { comparisons self.new ≡ comparisons self.old }
         ensures room { (part : PartOf) → room_for self.new part ≡ room_for self.old part }
     {
@@ -79,7 +83,8 @@ impl Subs {
     /// Nothing is subscribed any more at a place.
     pub fn drop_session(&mut self, place: u8)
         requires { place < 16 }
-        ensures after { (p i : ℕ) (part : PartOf) → subscriptions self.new p i part ≡ without_place place (subscriptions self.old) p i part }
+        ensures after { (p i : ℕ) (part : PartOf) → subscriptions self.new p i part
+            ≡ without_place place (subscriptions self.old) p i part }
         ensures compared { comparisons self.new ≡ comparisons self.old }
         ensures room { (part : PartOf) → room_for self.new part ≡ room_for self.old part }
     {
@@ -88,7 +93,8 @@ impl Subs {
 
     /// Nothing of a component that is gone is subscribed any more, at any place; what is of those that live stays.
     pub fn drop_dead<E: Engine>(&mut self, app: &App<E>)
-        ensures after { (p i : ℕ) (part : PartOf) → subscriptions self.new p i part ≡ of_the_live E.Engine app.now (subscriptions self.old) p i part }
+        ensures after { (p i : ℕ) (part : PartOf) → subscriptions self.new p i part
+            ≡ of_the_live E.Engine app.now (subscriptions self.old) p i part }
         ensures compared { comparisons self.new ≡ comparisons self.old }
         ensures room { (part : PartOf) → room_for self.new part ≡ room_for self.old part }
     {
@@ -130,7 +136,8 @@ fn fits(table: &SubTable, part: Part, schema: &Schema) -> bool
 
 // Nothing of an id that is not live is subscribed any more.
 fn drop_all_dead<E: Engine>(table: &mut SubTable, app: &App<E>)
-    ensures after { (p i : ℕ) (part : PartOf) → at table.new p i part ≡ of_the_live E.Engine app.now (at table.old) p i part }
+    ensures after { (p i : ℕ) (part : PartOf) → at table.new p i part
+        ≡ of_the_live E.Engine app.now (at table.old) p i part }
     ensures widths { (part : PartOf) → most_bytes table.new part ≡ most_bytes table.old part }
 {
     for id in 0..IDS {
@@ -142,7 +149,8 @@ fn drop_all_dead<E: Engine>(table: &mut SubTable, app: &App<E>)
 // Nothing of an id is subscribed any more, where it is dead.
 fn drop_if(table: &mut SubTable, id: Id, dead: bool)
     requires { id.0 < 4096 }
-    ensures after { (p i : ℕ) (part : PartOf) → at table.new p i part ≡ (if dead && (i == id.0) then None else at table.old p i part) }
+    ensures after { (p i : ℕ) (part : PartOf) → at table.new p i part
+        ≡ (if dead && (i == id.0) then None else at table.old p i part) }
     ensures widths { (part : PartOf) → most_bytes table.new part ≡ most_bytes table.old part }
 {
     if dead {

@@ -2,7 +2,8 @@
 use Rattle.std.specs.Prelude.{ℕ, ◌+◌, ◌*◌, ◌==◌, nat_lt, if◌then◌else◌, Option, Some, None, List, [], ◌∷◌, length}
 use Rattle.std.specs.Option.{option_and_then}
 use Rattle.sed_wire.specs.Text.{is_character}
-use Rattle.sox_msg.specs.Command.{Asked, add, read_part, delete, invoke, link, unlink, rename, reorder, read_slot, subscribe, unsubscribe, version, write, clear, is_part}
+use Rattle.sox_msg.specs.Command.{Asked, add, read_part, delete, invoke, link, unlink, rename, reorder, read_slot}
+use Rattle.sox_msg.specs.Command.{subscribe, unsubscribe, version, write, clear, is_part}
 
 abbrev pub id_at : ℕ → ℕ → ℕ
 id_at high low = high * 256 + low

@@ -1,8 +1,11 @@
 -- Commands without where their bytes lie in memory.
 use Rattle.sox_msg.specs.declared.command.Command.{Command}
-use Rattle.sox_msg.specs.declared.command.Command.TheVariants.{Add, ReadPart, Delete, Invoke, Link, Unlink, Rename, Reorder, ReadSlot, Subscribe, Unsubscribe, Version, Write, Clear}
+use Rattle.sox_msg.specs.declared.command.Command.TheVariants.{Add, ReadPart, Delete, Invoke, Link, Unlink, Rename}
+use Rattle.sox_msg.specs.declared.command.Command.TheVariants.{Reorder, ReadSlot, Subscribe, Unsubscribe, Version}
+use Rattle.sox_msg.specs.declared.command.Command.TheVariants.{Write, Clear}
 use Rattle.sox_msg.specs.declared.command.Request.{Request}
-use Rattle.sox_msg.specs.Command.{Asked, Asking, add, read_part, delete, invoke, link, unlink, rename, reorder, read_slot, subscribe, unsubscribe, version, write, clear}
+use Rattle.sox_msg.specs.Command.{Asked, Asking, add, read_part, delete, invoke, link, unlink, rename, reorder}
+use Rattle.sox_msg.specs.Command.{read_slot, subscribe, unsubscribe, version, write, clear}
 
 abbrev pub asked_of : Command → Asked
 asked_of (Add parent kit kind name config) = add parent.0 kit kind name.now config.now

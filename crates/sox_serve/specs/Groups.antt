@@ -1,5 +1,6 @@
 -- Commands in groups, without where their bytes lie in memory.
-use Rattle.sox_msg.specs.Command.{Asked, add, read_part, delete, invoke, link, unlink, rename, reorder, read_slot, subscribe, unsubscribe, version, write, clear}
+use Rattle.sox_msg.specs.Command.{Asked, add, read_part, delete, invoke, link, unlink, rename, reorder, read_slot}
+use Rattle.sox_msg.specs.Command.{subscribe, unsubscribe, version, write, clear}
 use Rattle.sox_serve.specs.declared.groups.Group.{Group}
 use Rattle.sox_serve.specs.declared.groups.Group.TheVariants.{Shape, Values, Links, Read, Watch}
 use Rattle.sox_serve.specs.declared.groups.ShapeCommand.{ShapeCommand}

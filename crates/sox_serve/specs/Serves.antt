@@ -12,9 +12,11 @@ use Rattle.sox_commands.specs.declared.served.Served.{Served}
 abbrev pub answer_over : {E : Type 0} → Ghosts E → Linked E → Asked → ℕ → ℤ → Answer
 answer_over g h asked turns moment = answer (g.meaning h.tree.engine) (application_of g h) asked turns moment
 
--- an answer is done: the application is the one after it, it is asked what the answer asks, and the reply to the request
--- of this number has these bytes. The code is the same, and whether the engine is fixed; and the marks tell what has changed.
-pub record Gives {E : Type 0} (g : Ghosts E) (old new : Linked E) (asks : Served) (bytes : List ℕ) (number : ℕ) (given : Answer) : Type 0 where
+-- an answer is done: the application is the one after it, it is asked what the answer asks, and the reply to the
+-- request of this number has these bytes. The code is the same, and whether the engine is fixed; and the marks tell
+-- what has changed.
+pub record Gives {E : Type 0} (g : Ghosts E) (old new : Linked E) (asks : Served)
+    (bytes : List ℕ) (number : ℕ) (given : Answer) : Type 0 where
   pub application : application_of g new ≡ given.application
   pub served : asks ≡ given.served
   pub reply : bytes ≡ reply_bytes number given.reply
@@ -29,17 +31,20 @@ is_add asked = false
 
 -- want of memory in the place of an answer: an add alone wants some, since the room for all links is taken with the
 -- application, and that only where the engine is not fixed
-pub record LacksMemory {E : Type 0} (g : Ghosts E) (h : Linked E) (asked : Asked) (turns : ℕ) (moment : ℤ) (given : Answer) : Type 0 where
+pub record LacksMemory {E : Type 0} (g : Ghosts E) (h : Linked E) (asked : Asked)
+    (turns : ℕ) (moment : ℤ) (given : Answer) : Type 0 where
   pub add : IsTrue (is_add asked)
   pub not_fixed : g.fixed h.tree.engine ≡ false
   pub wants : WantsMemory (g.meaning h.tree.engine) (application_of g h) asked turns moment given
 
 -- what a request is given: the answer of its command, or want of memory
 abbrev pub IsAnswered : {E : Type 0} → Ghosts E → Linked E → Asked → ℕ → ℤ → Answer → Type 0
-IsAnswered g h asked turns moment given = (given ≡ answer_over g h asked turns moment) ⊎ LacksMemory g h asked turns moment given
+IsAnswered g h asked turns moment given = (given ≡ answer_over g h asked turns moment)
+    ⊎ LacksMemory g h asked turns moment given
 
 -- a request with this command and number is served: what it is given is done
-pub record Serves {E : Type 0} (g : Ghosts E) (old new : Linked E) (asked : Asked) (number turns : ℕ) (moment : ℤ) (asks : Served) (bytes : List ℕ) : Type 0 where
+pub record Serves {E : Type 0} (g : Ghosts E) (old new : Linked E)
+    (asked : Asked) (number turns : ℕ) (moment : ℤ) (asks : Served) (bytes : List ℕ) : Type 0 where
   pub given : Answer
   pub is : IsAnswered g old asked turns moment given
   pub gives : Gives g old new asks bytes number given

@@ -26,7 +26,8 @@ pub fn reply_to(into: &mut ReplyBuf, number: u8, letter: u8, end: Result<(), Ref
 
 /// The one refusal where a component is not live.
 pub fn check_live<E: Engine>(tree: &Tree<E>, id: Id) -> Result<(), Refusal>
-    ensures { MatchResult result (λ _. first_refusal (refusals_of_clear (components_of E.Engine tree.now).by_id id.0) ≡ None)
+    ensures { MatchResult result (λ _.
+        first_refusal (refusals_of_clear (components_of E.Engine tree.now).by_id id.0) ≡ None)
         (λ refusal. first_refusal (refusals_of_clear (components_of E.Engine tree.now).by_id id.0) ≡ Some refusal) }
 {
     match tree.find(id) {

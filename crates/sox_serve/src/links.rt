@@ -20,7 +20,9 @@ pub fn serve_links<E: Engine>(
     number: u8,
     into: &mut ReplyBuf,
 ) -> Served
-    ensures served { (turns : ℕ) (moment : ℤ) → Gives E.Engine app.old app.new result into.new number (answer_over E.Engine app.old (asked_of_links command) turns moment) }
+    ensures served { (turns : ℕ) (moment : ℤ)
+        → Gives E.Engine app.old app.new result into.new number
+        (answer_over E.Engine app.old (asked_of_links command) turns moment) }
     ensures marks { MarksByRow E.Engine app.old app.new (asked_of_links command) number into.new }
 {
     match command {
@@ -31,7 +33,9 @@ pub fn serve_links<E: Engine>(
 
 // Puts a link.
 fn link<E: Engine>(app: &mut App<E>, l: LinkRec, number: u8, into: &mut ReplyBuf) -> Served
-    ensures served { (turns : ℕ) (moment : ℤ) → Gives E.Engine app.old app.new result into.new number (answer_over E.Engine app.old (linked l.from l.from_slot l.to l.to_slot) turns moment) }
+    ensures served { (turns : ℕ) (moment : ℤ)
+        → Gives E.Engine app.old app.new result into.new number
+        (answer_over E.Engine app.old (linked l.from l.from_slot l.to l.to_slot) turns moment) }
     ensures marks { MarksByRow E.Engine app.old app.new (linked l.from l.from_slot l.to l.to_slot) number into.new }
 {
     let end = app.link(l);
@@ -41,7 +45,9 @@ fn link<E: Engine>(app: &mut App<E>, l: LinkRec, number: u8, into: &mut ReplyBuf
 
 // Takes a link away.
 fn unlink<E: Engine>(app: &mut App<E>, l: LinkRec, number: u8, into: &mut ReplyBuf) -> Served
-    ensures served { (turns : ℕ) (moment : ℤ) → Gives E.Engine app.old app.new result into.new number (answer_over E.Engine app.old (unlinked l.from l.from_slot l.to l.to_slot) turns moment) }
+    ensures served { (turns : ℕ) (moment : ℤ)
+        → Gives E.Engine app.old app.new result into.new number
+        (answer_over E.Engine app.old (unlinked l.from l.from_slot l.to l.to_slot) turns moment) }
     ensures marks { MarksByRow E.Engine app.old app.new (unlinked l.from l.from_slot l.to l.to_slot) number into.new }
 {
     let end = app.unlink(l);

@@ -5,7 +5,8 @@ ghost use Rattle.comp_tree.specs.Values.{spelling_of};
 ghost use Rattle.link_prop.specs.Linked.{application_of};
 ghost use Rattle.sox_commands.specs.Replies.{reply_bytes};
 ghost use Rattle.sox_msg.specs.Answered as told;
-ghost use Rattle.sox_msg.specs.Command.{is_part, read_part as part_read, read_slot as slot_read, version as version_read, CanBeAsked};
+ghost use Rattle.sox_msg.specs.Command.{is_part, read_part as part_read, read_slot as slot_read};
+ghost use Rattle.sox_msg.specs.Command.{version as version_read, CanBeAsked};
 ghost use Rattle.sox_serve.specs.Groups.{asked_of_read};
 ghost use Rattle.sox_serve.specs.Serves.{Gives, answer_over};
 
@@ -27,7 +28,9 @@ pub fn serve_read<E: Engine>(
     into: &mut ReplyBuf,
 ) -> Served
     requires { CanBeAsked (asked_of_read command) }
-    ensures { (turns : ℕ) (moment : ℤ) → Gives E.Engine app.now app.now result into.new number (answer_over E.Engine app.now (asked_of_read command) turns moment) }
+    ensures { (turns : ℕ) (moment : ℤ)
+        → Gives E.Engine app.now app.now result into.new number
+        (answer_over E.Engine app.now (asked_of_read command) turns moment) }
 {
     match command {
         ReadCommand::Part { id, part } => read_part(app, id, part, number, into),
@@ -39,7 +42,9 @@ pub fn serve_read<E: Engine>(
 // Tells a part of a component.
 fn read_part<E: Engine>(app: &App<E>, id: Id, part: u8, number: u8, into: &mut ReplyBuf) -> Served
     requires { IsTrue (is_part part) }
-    ensures { (turns : ℕ) (moment : ℤ) → Gives E.Engine app.now app.now result into.new number (answer_over E.Engine app.now (part_read id.0 part) turns moment) }
+    ensures { (turns : ℕ) (moment : ℤ)
+        → Gives E.Engine app.now app.now result into.new number
+        (answer_over E.Engine app.now (part_read id.0 part) turns moment) }
 {
     match check_live(app.tree(), id) {
         Ok(()) => put_part(app, id, part, number, into),
@@ -51,7 +56,9 @@ fn read_part<E: Engine>(app: &App<E>, id: Id, part: u8, number: u8, into: &mut R
 // Puts the reply that tells a part.
 fn put_part<E: Engine>(app: &App<E>, id: Id, part: u8, number: u8, into: &mut ReplyBuf)
     requires { IsTrue (is_part part) }
-    ensures { into.new ≡ reply_bytes number (Some (told.part id.0 part (part_bytes (E.meaning app.now.tree.engine) (application_of E.Engine app.now) id.0 part))) }
+    ensures { into.new ≡ reply_bytes number
+        (Some (told.part id.0 part
+        (part_bytes (E.meaning app.now.tree.engine) (application_of E.Engine app.now) id.0 part))) }
 {
     let mut bytes = [0; 438];
     let count = write_part(app, id, part, &mut bytes);
@@ -60,7 +67,9 @@ fn put_part<E: Engine>(app: &App<E>, id: Id, part: u8, number: u8, into: &mut Re
 
 // Tells the value of a property.
 fn read_slot<E: Engine>(app: &App<E>, id: Id, slot: u8, number: u8, into: &mut ReplyBuf) -> Served
-    ensures { (turns : ℕ) (moment : ℤ) → Gives E.Engine app.now app.now result into.new number (answer_over E.Engine app.now (slot_read id.0 slot) turns moment) }
+    ensures { (turns : ℕ) (moment : ℤ)
+        → Gives E.Engine app.now app.now result into.new number
+        (answer_over E.Engine app.now (slot_read id.0 slot) turns moment) }
 {
     let mut holder = SlotBuf::new();
     match app.tree().get(id, slot, &mut holder) {
@@ -81,7 +90,9 @@ fn put_slot(value: &Value, id: Id, slot: u8, number: u8, into: &mut ReplyBuf)
 
 // Tells the kits.
 fn read_version<E: Engine>(app: &App<E>, number: u8, into: &mut ReplyBuf) -> Served
-    ensures { (turns : ℕ) (moment : ℤ) → Gives E.Engine app.now app.now result into.new number (answer_over E.Engine app.now version_read turns moment) }
+    ensures { (turns : ℕ) (moment : ℤ)
+        → Gives E.Engine app.now app.now result into.new number
+        (answer_over E.Engine app.now version_read turns moment) }
 {
     let mut bytes = [0; 465];
     let count = write_schema(app.tree().schema(), &mut bytes);

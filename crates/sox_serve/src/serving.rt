@@ -26,13 +26,13 @@ use sed_engine::Engine;
 use sox_commands::{Served, refused_commands_change_nothing};
 use sox_msg::Request;
 
-/// Does one request on an application, and puts its reply in the place of what there was. The callbacks and actions that
-/// it calls have so many turns each, 1 to 1,000,000, at a moment in nanoseconds.
+/// Does one request on an application, and puts its reply in the place of what there was. The callbacks and actions
+/// that it calls have so many turns each, 1 to 1,000,000, at a moment in nanoseconds.
 ///
-/// The application after it, what is asked of the node and the bytes of the reply are those of the answer to its command.
-/// So a refusal is the first of the command's row, and leaves the application as it was; and a save is asked for exactly
-/// where the App's `save` may be invoked, and then there is no reply yet. Where an add is refused by no row, it may be
-/// answered that memory is wanted, and then nothing is changed; over a fixed engine that never comes.
+/// The application after it, what is asked of the node and the bytes of the reply are those of the answer to its
+/// command. So a refusal is the first of the command's row, and leaves the application as it was; and a save is asked
+/// for exactly where the App's `save` may be invoked, and then there is no reply yet. Where an add is refused by no
+/// row, it may be answered that memory is wanted, and then nothing is changed; over a fixed engine that never comes.
 ///
 /// A request may set the marks of its command's row, for every place, and clears none. So a part whose mark is clear
 /// after the request had a clear mark before it too, and has the bytes that it had then. A read, a version, a clear, a
@@ -47,15 +47,24 @@ pub fn serve<E: Engine>(
     requires can { CanBeAsked (asked_of request.now.command) }
     requires some_turns { 1 ≤ turns }
     requires most_turns { turns ≤ 1000000 }
-    ensures served { Serves E.Engine app.old app.new (asked_of request.now.command) request.now.number turns ticks result reply.new }
-    ensures refused { (refusal : Refusal) → reply.new ≡ reply_bytes request.now.number (Some (refused_as refusal)) → application_of E.Engine app.new ≡ application_of E.Engine app.old }
-    ensures exact { E.fixed app.old.tree.engine ≡ true → Gives E.Engine app.old app.new result reply.new request.now.number (answer_over E.Engine app.old (asked_of request.now.command) turns ticks) }
-    ensures saves { (result ≡ Served.SaveAsked) ↔ (IsTrue (asks_for_save (asked_of request.now.command)) × (first_refusal (refusals_of (E.meaning app.old.tree.engine) (application_of E.Engine app.old) (asked_of request.now.command)) ≡ None)) }
-    ensures saving { result ≡ Served.SaveAsked → (application_of E.Engine app.new ≡ application_of E.Engine app.old) × (reply.new ≡ []) }
+    ensures served { Serves E.Engine app.old app.new (asked_of request.now.command)
+        request.now.number turns ticks result reply.new }
+    ensures refused { (refusal : Refusal) → reply.new ≡ reply_bytes request.now.number (Some (refused_as refusal))
+        → application_of E.Engine app.new ≡ application_of E.Engine app.old }
+    ensures exact { E.fixed app.old.tree.engine ≡ true
+        → Gives E.Engine app.old app.new result reply.new request.now.number
+        (answer_over E.Engine app.old (asked_of request.now.command) turns ticks) }
+    ensures saves { (result ≡ Served.SaveAsked) ↔ (IsTrue (asks_for_save (asked_of request.now.command))
+        × (first_refusal (refusals_of (E.meaning app.old.tree.engine) (application_of E.Engine app.old)
+        (asked_of request.now.command)) ≡ None)) }
+    ensures saving { result ≡ Served.SaveAsked → (application_of E.Engine app.new ≡ application_of E.Engine app.old)
+        × (reply.new ≡ []) }
     ensures meaning { E.meaning app.new.tree.engine ≡ E.meaning app.old.tree.engine }
     ensures tells { Tells E.Engine app.old app.new }
-    ensures marks { KeepsRow E.Engine (row_of (application_of E.Engine app.old) (asked_of request.now.command)) app.old app.new }
-    ensures unmarked { (refusal : Refusal) → reply.new ≡ reply_bytes request.now.number (Some (refused_as refusal)) → KeepsRow E.Engine nothing app.old app.new }
+    ensures marks { KeepsRow E.Engine (row_of (application_of E.Engine app.old) (asked_of request.now.command))
+        app.old app.new }
+    ensures unmarked { (refusal : Refusal) → reply.new ≡ reply_bytes request.now.number (Some (refused_as refusal))
+        → KeepsRow E.Engine nothing app.old app.new }
     ensures steady { E.fixed app.new.tree.engine ≡ E.fixed app.old.tree.engine }
 {
     refused_commands_change_nothing();

@@ -59,7 +59,8 @@ fn add<E: Engine>(
 ) -> Served
     requires some_turns { 1 ≤ turns }
     requires most_turns { turns ≤ 1000000 }
-    ensures served { Serves E.Engine app.old app.new (added parent.0 kit kind name.now config.now) number turns ticks result into.new }
+    ensures served { Serves E.Engine app.old app.new (added parent.0 kit kind name.now config.now)
+        number turns ticks result into.new }
     ensures marks { MarksByRow E.Engine app.old app.new (added parent.0 kit kind name.now config.now) number into.new }
 {
     match app.add(parent, kit, kind, name, config, turns, ticks) {
@@ -80,7 +81,8 @@ fn delete<E: Engine>(
 ) -> Served
     requires some_turns { 1 ≤ turns }
     requires most_turns { turns ≤ 1000000 }
-    ensures served { Gives E.Engine app.old app.new result into.new number (answer_over E.Engine app.old (deleted id.0) turns ticks) }
+    ensures served { Gives E.Engine app.old app.new result into.new number
+        (answer_over E.Engine app.old (deleted id.0) turns ticks) }
     ensures marks { MarksByRow E.Engine app.old app.new (deleted id.0) number into.new }
 {
     match app.delete(id, turns, ticks) {
@@ -103,7 +105,9 @@ fn rename<E: Engine>(
     number: u8,
     into: &mut ReplyBuf,
 ) -> Served
-    ensures served { (turns : ℕ) (moment : ℤ) → Gives E.Engine app.old app.new result into.new number (answer_over E.Engine app.old (renamed id.0 name.now) turns moment) }
+    ensures served { (turns : ℕ) (moment : ℤ)
+        → Gives E.Engine app.old app.new result into.new number
+        (answer_over E.Engine app.old (renamed id.0 name.now) turns moment) }
     ensures marks { MarksByRow E.Engine app.old app.new (renamed id.0 name.now) number into.new }
 {
     let end = app.rename(id, name);
@@ -119,7 +123,9 @@ fn reorder<E: Engine>(
     number: u8,
     into: &mut ReplyBuf,
 ) -> Served
-    ensures served { (turns : ℕ) (moment : ℤ) → Gives E.Engine app.old app.new result into.new number (answer_over E.Engine app.old (reordered id.0 children.now) turns moment) }
+    ensures served { (turns : ℕ) (moment : ℤ)
+        → Gives E.Engine app.old app.new result into.new number
+        (answer_over E.Engine app.old (reordered id.0 children.now) turns moment) }
     ensures marks { MarksByRow E.Engine app.old app.new (reordered id.0 children.now) number into.new }
 {
     let end = app.reorder(id, children);

@@ -26,7 +26,8 @@ pub fn serve_values<E: Engine>(
 ) -> Served
     requires some_turns { 1 ≤ turns }
     requires most_turns { turns ≤ 1000000 }
-    ensures served { Gives E.Engine app.old app.new result into.new number (answer_over E.Engine app.old (asked_of_values command.now) turns ticks) }
+    ensures served { Gives E.Engine app.old app.new result into.new number
+        (answer_over E.Engine app.old (asked_of_values command.now) turns ticks) }
     ensures marks { MarksByRow E.Engine app.old app.new (asked_of_values command.now) number into.new }
 {
     match command {
@@ -53,7 +54,8 @@ fn write<E: Engine>(
 ) -> Served
     requires some_turns { 1 ≤ turns }
     requires most_turns { turns ≤ 1000000 }
-    ensures served { Gives E.Engine app.old app.new result into.new number (answer_over E.Engine app.old (written id.0 slot value.now) turns ticks) }
+    ensures served { Gives E.Engine app.old app.new result into.new number
+        (answer_over E.Engine app.old (written id.0 slot value.now) turns ticks) }
     ensures marks { MarksByRow E.Engine app.old app.new (written id.0 slot value.now) number into.new }
 {
     let end = app.write(id, slot, value, turns, ticks);
@@ -63,7 +65,9 @@ fn write<E: Engine>(
 
 // Sets a component's fault to 0.
 fn clear<E: Engine>(app: &mut App<E>, id: Id, number: u8, into: &mut ReplyBuf) -> Served
-    ensures served { (turns : ℕ) (moment : ℤ) → Gives E.Engine app.old app.new result into.new number (answer_over E.Engine app.old (cleared id.0) turns moment) }
+    ensures served { (turns : ℕ) (moment : ℤ)
+        → Gives E.Engine app.old app.new result into.new number
+        (answer_over E.Engine app.old (cleared id.0) turns moment) }
     ensures marks { MarksByRow E.Engine app.old app.new (cleared id.0) number into.new }
 {
     let end = app.clear(id);
@@ -84,7 +88,8 @@ fn invoke<E: Engine>(
 ) -> Served
     requires some_turns { 1 ≤ turns }
     requires most_turns { turns ≤ 1000000 }
-    ensures served { Gives E.Engine app.old app.new result into.new number (answer_over E.Engine app.old (invoked id.0 slot arg.now) turns ticks) }
+    ensures served { Gives E.Engine app.old app.new result into.new number
+        (answer_over E.Engine app.old (invoked id.0 slot arg.now) turns ticks) }
     ensures marks { MarksByRow E.Engine app.old app.new (invoked id.0 slot arg.now) number into.new }
 {
     if is_save(id, slot) {
@@ -114,7 +119,8 @@ fn run<E: Engine>(
     requires no_save { IsTrue (not (is_save_of id.0 slot)) }
     requires some_turns { 1 ≤ turns }
     requires most_turns { turns ≤ 1000000 }
-    ensures served { Gives E.Engine app.old app.new result into.new number (answer_over E.Engine app.old (invoked id.0 slot arg.now) turns ticks) }
+    ensures served { Gives E.Engine app.old app.new result into.new number
+        (answer_over E.Engine app.old (invoked id.0 slot arg.now) turns ticks) }
     ensures marks { MarksByRow E.Engine app.old app.new (invoked id.0 slot arg.now) number into.new }
 {
     match app.invoke(id, slot, arg, turns, ticks) {
@@ -134,7 +140,9 @@ fn ask_for_save<E: Engine>(
     into: &mut ReplyBuf,
 ) -> Served
     requires { IsTrue (is_save_of id.0 slot) }
-    ensures { (turns : ℕ) (moment : ℤ) → Gives E.Engine app.now app.now result into.new number (answer_over E.Engine app.now (invoked id.0 slot arg.now) turns moment) }
+    ensures { (turns : ℕ) (moment : ℤ)
+        → Gives E.Engine app.now app.now result into.new number
+        (answer_over E.Engine app.now (invoked id.0 slot arg.now) turns moment) }
 {
     match app.tree().check_invoke(id, slot, arg) {
         Ok(()) => {

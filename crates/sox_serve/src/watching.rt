@@ -20,7 +20,9 @@ pub fn serve_watch<E: Engine>(
     number: u8,
     into: &mut ReplyBuf,
 ) -> Served
-    ensures { (turns : ℕ) (moment : ℤ) → Gives E.Engine app.now app.now result into.new number (answer_over E.Engine app.now (asked_of_watch command) turns moment) }
+    ensures { (turns : ℕ) (moment : ℤ)
+        → Gives E.Engine app.now app.now result into.new number
+        (answer_over E.Engine app.now (asked_of_watch command) turns moment) }
 {
     match command {
         WatchCommand::Begin { id, mask } => subscribe(app, id, mask, number, into),
@@ -30,7 +32,9 @@ pub fn serve_watch<E: Engine>(
 
 // Begins events.
 fn subscribe<E: Engine>(app: &App<E>, id: Id, mask: u8, number: u8, into: &mut ReplyBuf) -> Served
-    ensures { (turns : ℕ) (moment : ℤ) → Gives E.Engine app.now app.now result into.new number (answer_over E.Engine app.now (subscribed id.0 mask) turns moment) }
+    ensures { (turns : ℕ) (moment : ℤ)
+        → Gives E.Engine app.now app.now result into.new number
+        (answer_over E.Engine app.now (subscribed id.0 mask) turns moment) }
 {
     match check_live(app.tree(), id) {
         Ok(()) => {
@@ -46,7 +50,9 @@ fn subscribe<E: Engine>(app: &App<E>, id: Id, mask: u8, number: u8, into: &mut R
 
 // Ends events.
 fn unsubscribe<E: Engine>(app: &App<E>, id: Id, mask: u8, number: u8, into: &mut ReplyBuf) -> Served
-    ensures { (turns : ℕ) (moment : ℤ) → Gives E.Engine app.now app.now result into.new number (answer_over E.Engine app.now (unsubscribed id.0 mask) turns moment) }
+    ensures { (turns : ℕ) (moment : ℤ)
+        → Gives E.Engine app.now app.now result into.new number
+        (answer_over E.Engine app.now (unsubscribed id.0 mask) turns moment) }
 {
     match check_live(app.tree(), id) {
         Ok(()) => {

@@ -1,5 +1,6 @@
 -- What is kept of one part: who has subscribed it, and the bytes of its last events.
-use Rattle.std.specs.Prelude.{ℕ, ◌≡◌, ◌≤◌, ◌*◌, ◌/◌, ◌%◌, ◌==◌, ◌&&◌, Bool, if◌then◌else◌, List, length, take, drop, Option, Some, None, unwrap_or, slice_index, slice_index_or}
+use Rattle.std.specs.Prelude.{ℕ, ◌≡◌, ◌≤◌, ◌*◌, ◌/◌, ◌%◌, ◌==◌, ◌&&◌, Bool, if◌then◌else◌, List, length, take, drop}
+use Rattle.std.specs.Prelude.{Option, Some, None, unwrap_or, slice_index, slice_index_or}
 use Rattle.std.specs.Option.{option_map}
 use Rattle.std.specs.Int.{bit_at}
 
@@ -32,7 +33,8 @@ pub record IsRoomy (k : Kept) : Type 0 where
 -- what a call changes: of the one number, where it is meant, and of no other
 abbrev pub Changes : (Option (Option (List ℕ)) → Option (Option (List ℕ))) → ℕ → Bool → Kept → Kept → Type 0
 Changes f number named before after =
-    (other : ℕ) → kept_at after other ≡ (if named && other == number then f (kept_at before other) else kept_at before other)
+    (other : ℕ) → kept_at after other ≡ (if named && other == number
+    then f (kept_at before other) else kept_at before other)
 
 abbrev pub subscribed : Option (Option (List ℕ)) → Option (Option (List ℕ))
 subscribed o = Some (unwrap_or o None)

@@ -1,5 +1,6 @@
 -- A table of subscriptions, as a function of a session place, an id and a part.
-use Rattle.std.specs.Prelude.{ℕ, ◌≡◌, ◌+◌, ◌*◌, ◌/◌, ◌<◌, ◌≤◌, ◌==◌, ◌&&◌, ◌||◌, Bool, true, false, if◌then◌else◌, nat_lt, List, Option, None, is_some}
+use Rattle.std.specs.Prelude.{ℕ, ◌≡◌, ◌+◌, ◌*◌, ◌/◌, ◌<◌, ◌≤◌, ◌==◌, ◌&&◌, ◌||◌, Bool, true, false, if◌then◌else◌}
+use Rattle.std.specs.Prelude.{nat_lt, List, Option, None, is_some}
 use Rattle.sub_table.specs.declared.part.Part.{Part}
 use Rattle.sub_table.specs.declared.part.Part.TheVariants.{Tree, Config, Runtime, Links}
 use Rattle.sub_table.specs.declared.table.SubTable.{SubTable}
@@ -19,7 +20,8 @@ nothing_subscribed place id part = None
 -- some part of the id is subscribed at the place
 abbrev pub is_subscribed : Subscriptions → ℕ → ℕ → Bool
 is_subscribed subs place id =
-    is_some (subs place id Tree) || is_some (subs place id Config) || is_some (subs place id Runtime) || is_some (subs place id Links)
+    is_some (subs place id Tree) || is_some (subs place id Config) || is_some (subs place id Runtime)
+    || is_some (subs place id Links)
 
 -- ---- what the calls leave
 
@@ -77,7 +79,8 @@ end_of number = number / 64 * 64 + 64
 -- some part is subscribed by this number
 abbrev pub is_any : SubTable → ℕ → Bool
 is_any t number =
-    is_member t.tree.words number || is_member t.config.words number || is_member t.runtime.words number || is_member t.links.words number
+    is_member t.tree.words number || is_member t.config.words number
+    || is_member t.runtime.words number || is_member t.links.words number
 
 -- the least number from this one on that has subscribed some part
 pub record IsNextNumber (t : SubTable) (start next : ℕ) : Type 0 where

@@ -1,5 +1,6 @@
 //! Bits of subscribers.
-ghost use Rattle.std.specs.Prelude.{◌≡◌, ◌≢◌, ◌<◌, ◌/◌, ◌%◌, ◌==◌, ℕ, true, false, IfOk, length, replicate, slice_index};
+ghost use Rattle.std.specs.Prelude.{◌≡◌, ◌≢◌, ◌<◌, ◌/◌, ◌%◌, ◌==◌, ℕ, true, false, IfOk, length, replicate};
+ghost use Rattle.std.specs.Prelude.{slice_index};
 ghost use Rattle.sub_table.specs.Events.{is_member};
 
 use sed_value::Memory;

@@ -1,5 +1,6 @@
 //! The subscriptions of one part, and the bytes of their last events.
-ghost use Rattle.std.specs.Prelude.{◌≡◌, ◌<◌, ◌≤◌, ◌+◌, ◌*◌, ◌++◌, ℕ, IfOk, IsSome, None, true, is_some, unwrap_or, length, take, drop, replicate, slice_index, slice_index_or};
+ghost use Rattle.std.specs.Prelude.{◌≡◌, ◌<◌, ◌≤◌, ◌+◌, ◌*◌, ◌++◌, ℕ, IfOk, IsSome, None, true, is_some, unwrap_or};
+ghost use Rattle.std.specs.Prelude.{length, take, drop, replicate, slice_index, slice_index_or};
 ghost use Rattle.std.specs.Option.{option_copied};
 ghost use Rattle.sub_table.specs.Events.{kept_at, Changes, subscribed, unsubscribed, posted};
 
@@ -28,9 +29,15 @@ impl Model for Events {
 
     ghost Value = { Kept };
 
-    ghost view = { λ e. record { words = e.subscribed; lengths = e.lengths.items; bytes = e.bytes.items; width = e.width } };
+    ghost view = { λ e. record {
+      words = e.subscribed;
+      lengths = e.lengths.items;
+      bytes = e.bytes.items;
+      width = e.width;
+    } };
 
-    ghost invariant = { λ e. IsRoomy (record { words = e.subscribed; lengths = e.lengths.items; bytes = e.bytes.items; width = e.width }) };
+    ghost invariant = { λ e.
+        IsRoomy (record { words = e.subscribed; lengths = e.lengths.items; bytes = e.bytes.items; width = e.width }) };
 }
 
 impl Events {

@@ -1,11 +1,13 @@
 //! The table.
-ghost use Rattle.std.specs.Prelude.{◌≡◌, ◌==◌, ◌<◌, ◌≤◌, ◌/◌, ◌%◌, ℕ, None, IfOk, IsSome, MatchOption, true, false, if◌then◌else◌, is_some, unwrap_or, length};
+ghost use Rattle.std.specs.Prelude.{◌≡◌, ◌==◌, ◌<◌, ◌≤◌, ◌/◌, ◌%◌, ℕ, None, IfOk, IsSome, MatchOption, true, false};
+ghost use Rattle.std.specs.Prelude.{if◌then◌else◌, is_some, unwrap_or, length};
 ghost use Rattle.std.specs.Int.{bit_at};
 ghost use Rattle.std.specs.Option.{option_copied};
 ghost use Rattle.sub_table.specs.declared.part.Part.{Part as PartOf};
 ghost use Rattle.sub_table.specs.Parts.{is_in, one_of, width_of};
 ghost use Rattle.sub_table.specs.Events.{Changes, kept_at, posted, subscribed, unsubscribed};
-ghost use Rattle.sub_table.specs.Table.{at, most_bytes, end_of, is_any, is_subscribed, kept_of, number_of, IsNextId, IsNextNumber, nothing_subscribed};
+ghost use Rattle.sub_table.specs.Table.{at, most_bytes, end_of, is_any, is_subscribed, kept_of, number_of, IsNextId};
+ghost use Rattle.sub_table.specs.Table.{IsNextNumber, nothing_subscribed};
 ghost use Rattle.sub_table.specs.Table.{with_subscribed, without_subscribed, without_id, without_place, with_event};
 
 use crate::events::Events;
@@ -39,7 +41,8 @@ pub struct SubTable {
 impl SubTable {
     /// Nothing is subscribed. An event of a part may have as many bytes as the widths say.
     pub fn new(alloc: Global, widths: Widths) -> Result<SubTable, Memory>
-        ensures none { IfOk result (λ table. (p i : ℕ) (part : PartOf) → at table p i part ≡ nothing_subscribed p i part) }
+        ensures none { IfOk result (λ table. (p i : ℕ) (part : PartOf)
+            → at table p i part ≡ nothing_subscribed p i part) }
         ensures widths { IfOk result (λ table. (part : PartOf) → most_bytes table part ≡ width_of widths part) }
     {
         let tree = Events::new(alloc, widths.tree)?;
@@ -71,7 +74,8 @@ impl SubTable {
         requires place { place < 16 }
         requires id { id.0 < 4096 }
         requires mask { mask < 16 }
-        ensures after { (p i : ℕ) (part : PartOf) → at self.new p i part ≡ with_subscribed place id.0 mask (at self.old) p i part }
+        ensures after { (p i : ℕ) (part : PartOf) → at self.new p i part
+            ≡ with_subscribed place id.0 mask (at self.old) p i part }
         ensures widths { (part : PartOf) → most_bytes self.new part ≡ most_bytes self.old part }
     {
         let number = number_of(place, id);
@@ -86,7 +90,8 @@ impl SubTable {
         requires place { place < 16 }
         requires id { id.0 < 4096 }
         requires mask { mask < 16 }
-        ensures after { (p i : ℕ) (part : PartOf) → at self.new p i part ≡ without_subscribed place id.0 mask (at self.old) p i part }
+        ensures after { (p i : ℕ) (part : PartOf) → at self.new p i part
+            ≡ without_subscribed place id.0 mask (at self.old) p i part }
         ensures widths { (part : PartOf) → most_bytes self.new part ≡ most_bytes self.old part }
     {
         let number = number_of(place, id);
@@ -150,7 +155,8 @@ impl SubTable {
         requires id { id.0 < 4096 }
         requires subscribed { IsSome (at self.old place id.0 part) }
         requires short { length event.now ≤ most_bytes self.old part }
-        ensures after { (p i : ℕ) (other : PartOf) → at self.new p i other ≡ with_event place id.0 part event.now (at self.old) p i other }
+        ensures after { (p i : ℕ) (other : PartOf) → at self.new p i other
+            ≡ with_event place id.0 part event.now (at self.old) p i other }
         ensures widths { (other : PartOf) → most_bytes self.new other ≡ most_bytes self.old other }
     {
         let number = number_of(place, id);
@@ -164,7 +170,8 @@ impl SubTable {
     /// at a time.
     pub fn next_id(&self, place: u8, from: Id) -> Option<Id>
         requires { place < 16 }
-        ensures { MatchOption result ((id : ℕ) → from.0 ≤ id → is_subscribed (at self.now) place id ≡ false) (λ id. IsNextId (at self.now) place from.0 id.0) }
+        ensures { MatchOption result ((id : ℕ) → from.0 ≤ id → is_subscribed (at self.now) place id ≡ false)
+            (λ id. IsNextId (at self.now) place from.0 id.0) }
     {
         let first = usize::from(place) * 4096;
         match self.next_number(first + usize::from(from.0), first + 4096) {
@@ -177,7 +184,8 @@ impl SubTable {
     fn next_number(&self, from: usize, end: usize) -> Option<usize>
         requires whole { end % 64 ≡ 0 }
         requires bound { end ≤ 65536 }
-        ensures { MatchOption result ((number : ℕ) → from ≤ number → number < end → is_any self.now number ≡ false) (λ next. IsNextNumber self.now from next × (next < end)) }
+        ensures { MatchOption result ((number : ℕ) → from ≤ number → number < end
+            → is_any self.now number ≡ false) (λ next. IsNextNumber self.now from next × (next < end)) }
     {
         let mut number = from;
         while number < end {
@@ -193,7 +201,8 @@ impl SubTable {
     // The least number from this one on, within its word, that has subscribed some part.
     fn next_in_word(&self, number: usize) -> Option<usize>
         requires { number < 65536 }
-        ensures { MatchOption result ((other : ℕ) → number ≤ other → other < end_of number → is_any self.now other ≡ false) (λ next. IsNextNumber self.now number next × (next < end_of number)) }
+        ensures { MatchOption result ((other : ℕ) → number ≤ other → other < end_of number
+            → is_any self.now other ≡ false) (λ next. IsNextNumber self.now number next × (next < end_of number)) }
     {
         match next_bit(self.word(number / 64), number % 64) {
             Some(bit) => Some(number / 64 * 64 + bit),

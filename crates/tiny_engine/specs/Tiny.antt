@@ -1,5 +1,6 @@
 -- The code of `sys` alone, and what the tiny engine keeps.
-use Rattle.std.specs.Prelude.{ℕ, ◌≡◌, ◌==◌, ◌||◌, ◌&&◌, ℤ, pos, nat_lt, Bool, IsTrue, if◌then◌else◌, List, [], ◌∷◌, Option, Some, None}
+use Rattle.std.specs.Prelude.{ℕ, ◌≡◌, ◌==◌, ◌||◌, ◌&&◌, ℤ, pos, nat_lt, Bool, IsTrue, if◌then◌else◌, List, [], ◌∷◌}
+use Rattle.std.specs.Prelude.{Option, Some, None}
 use Rattle.std.specs.FinMap as map
 use Rattle.std.specs.Int.{w32}
 use Rattle.sed_value.specs.Value.{is_signed}

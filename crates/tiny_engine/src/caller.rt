@@ -1,7 +1,8 @@
 //! Callers that know an engine by its trait alone, and their use at the tiny engine.
 ghost use Rattle.std.specs.Prelude.{◌≡◌, ◌≢◌, ◌↔◌, ℕ, ◌+◌, ◌<◌, ◌≤◌, false, IsTrue, IfOk, IfSome, IsSomeAnd, OnErr};
 ghost use Rattle.std.specs.FinMap as map;
-ghost use Rattle.sed_engine.specs.Code.{called, data_of, is_creatable, may_call, may_store, new_object, root_of, slot_value, with_slot};
+ghost use Rattle.sed_engine.specs.Code.{called, data_of, is_creatable, may_call, may_store, new_object, root_of};
+ghost use Rattle.sed_engine.specs.Code.{slot_value, with_slot};
 ghost use Rattle.sed_engine.specs.Whole.{EndsWell};
 
 use crate::tiny::{Tiny, int_kept};
@@ -23,11 +24,16 @@ pub fn make_with<E: Engine>(
     requires creatable { IsTrue (is_creatable (E.meaning engine.old) t.0) }
     requires few { map.len (E.live engine.old) < 4096 }
     requires goes { IsTrue (may_store (E.meaning engine.old) t.0 s.0 v.now) }
-    ensures made { IfOk result (λ p. map.get (E.live engine.new) p.0 ≡ Some (with_slot (E.meaning engine.old) (new_object (E.meaning engine.old) t.0) s.0 v.now)) }
-    ensures read { IfOk result (λ p. out.new ≡ slot_value (E.meaning engine.old) (with_slot (E.meaning engine.old) (new_object (E.meaning engine.old) t.0) s.0 v.now) s.0) }
-    ensures others { IfOk result (λ p. (q : ℕ) → q ≢ p.0 → map.get (E.live engine.new) q ≡ map.get (E.live engine.old) q) }
+    ensures made { IfOk result (λ p. map.get (E.live engine.new) p.0
+        ≡ Some (with_slot (E.meaning engine.old) (new_object (E.meaning engine.old) t.0) s.0 v.now)) }
+    ensures read { IfOk result (λ p. out.new
+        ≡ slot_value (E.meaning engine.old)
+        (with_slot (E.meaning engine.old) (new_object (E.meaning engine.old) t.0) s.0 v.now) s.0) }
+    ensures others { IfOk result (λ p. (q : ℕ) → q ≢ p.0
+        → map.get (E.live engine.new) q ≡ map.get (E.live engine.old) q) }
     ensures refused { OnErr result (E.live engine.new ≡ E.live engine.old) }
-    ensures full { (result ≡ Err AddRefusal.DataFull) ↔ (E.limit engine.old < data_of (E.meaning engine.old) (E.live engine.old) + (E.meaning engine.old).data_size t.0) }
+    ensures full { (result ≡ Err AddRefusal.DataFull) ↔ (E.limit engine.old
+        < data_of (E.meaning engine.old) (E.live engine.old) + (E.meaning engine.old).data_size t.0) }
     ensures memory { result ≡ Err AddRefusal.Memory → E.fixed engine.old ≡ false }
     ensures meaning { E.meaning engine.new ≡ E.meaning engine.old }
     ensures statics { E.statics engine.new ≡ E.statics engine.old }
@@ -52,13 +58,19 @@ pub fn call_well<E: Engine>(
     turns: u32,
     ticks: i64,
 ) -> CallEnd
-    requires live { IsSomeAnd (map.get (E.live engine.old) p.0) (λ o. IsTrue (may_call (E.meaning engine.old) o.class r arg.now)) }
+    requires live { IsSomeAnd (map.get (E.live engine.old) p.0) (λ o.
+        IsTrue (may_call (E.meaning engine.old) o.class r arg.now)) }
     requires some_turns { 1 ≤ turns }
     requires most_turns { turns ≤ 1000000 }
     ensures well { EndsWell turns result }
-    ensures end { IfSome (map.get (E.live engine.old) p.0) (λ o. result ≡ (root_of (E.meaning engine.old) o (E.statics engine.old) r arg.now turns ticks).end) }
-    ensures left { IfSome (map.get (E.live engine.old) p.0) (λ o. E.live engine.new ≡ map.insert (E.live engine.old) p.0 (called o (root_of (E.meaning engine.old) o (E.statics engine.old) r arg.now turns ticks))) }
-    ensures statics { IfSome (map.get (E.live engine.old) p.0) (λ o. E.statics engine.new ≡ (root_of (E.meaning engine.old) o (E.statics engine.old) r arg.now turns ticks).statics) }
+    ensures end { IfSome (map.get (E.live engine.old) p.0) (λ o.
+        result ≡ (root_of (E.meaning engine.old) o (E.statics engine.old) r arg.now turns ticks).end) }
+    ensures left { IfSome (map.get (E.live engine.old) p.0) (λ o.
+        E.live engine.new ≡ map.insert (E.live engine.old) p.0
+        (called o (root_of (E.meaning engine.old) o (E.statics engine.old) r arg.now turns ticks))) }
+    ensures statics { IfSome (map.get (E.live engine.old) p.0) (λ o.
+        E.statics engine.new ≡ (root_of (E.meaning engine.old) o (E.statics engine.old)
+        r arg.now turns ticks).statics) }
     ensures meaning { E.meaning engine.new ≡ E.meaning engine.old }
 {
     let _schema = engine.schema();

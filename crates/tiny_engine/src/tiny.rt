@@ -38,9 +38,15 @@ impl Model for Tiny {
 
     ghost Value = { Held };
 
-    ghost view = { λ t. record { schema = t.schema; limit = t.limit; one = option_map (λ o. record { class = o.class; meta = o.meta }) t.one } };
+    ghost view = { λ t. record {
+      schema = t.schema;
+      limit = t.limit;
+      one = option_map (λ o. record { class = o.class; meta = o.meta }) t.one;
+    } };
 
-    ghost invariant = { λ t. IsSys t.schema × IsCreated (option_map (λ o. record { class = o.class; meta = o.meta }) t.one) × KeepsInt (option_map (λ o. record { class = o.class; meta = o.meta }) t.one) };
+    ghost invariant = { λ t. IsSys t.schema
+        × IsCreated (option_map (λ o. record { class = o.class; meta = o.meta }) t.one)
+        × KeepsInt (option_map (λ o. record { class = o.class; meta = o.meta }) t.one) };
 }
 
 impl Tiny {
@@ -64,7 +70,8 @@ impl Tiny {
     // Whether the data of the component and a new one of this class pass the limit.
     fn is_full(&self, _t: TypeNo) -> bool
         requires { IsTrue (is_creatable (meaning_of self.now.schema) _t.0) }
-        ensures { result ≡ nat_lt self.now.limit (data_of (meaning_of self.now.schema) (live_of self.now.one) + (meaning_of self.now.schema).data_size _t.0) }
+        ensures { result ≡ nat_lt self.now.limit (data_of (meaning_of self.now.schema) (live_of self.now.one)
+            + (meaning_of self.now.schema).data_size _t.0) }
     {
         self.limit < used(self.one) + 4
     }
@@ -82,7 +89,10 @@ fn meta_of(one: Option<Component>) -> Value
 
 // The component with what is kept of a value as its `meta`.
 fn stored_in(one: Option<Component>, v: &SlotBuf) -> Option<Component>
-    ensures { result ≡ option_map (λ o. record { class = o.class; meta = int_or (pos 0) (stored (PrimSlot IntType) v.now) }) one }
+    ensures { result ≡ option_map (λ o. record {
+      class = o.class;
+      meta = int_or (pos 0) (stored (PrimSlot IntType) v.now);
+    }) one }
 {
     let meta = int_kept(v);
     match one {

@@ -1,5 +1,6 @@
 -- The objects that cells stand for, and the cells behind slots.
-use Rattle.std.specs.Prelude.{ℕ, ◌≡◌, ◌<◌, List, length, slice_get, slice_index_or, slice_set, IfSome, Option, None, Vec}
+use Rattle.std.specs.Prelude.{ℕ, ◌≡◌, ◌<◌, List, length, slice_get, slice_index_or, slice_set, IfSome, Option, None}
+use Rattle.std.specs.Prelude.{Vec}
 use Rattle.std.specs.declared.alloc.Global.{Global}
 use Rattle.std.specs.Option.{option_map}
 use Rattle.sed_value.specs.declared.value.Value.{Value}
@@ -22,9 +23,11 @@ path_behind plan class slot = slot_path (meaning_of plan.program) class slot
 -- without a cell no value is kept at the path
 pub record IsCell (plan : Plan) (class slot : ℕ) (cell : Option ℕ) : Type 0 where
   pub read : (values : List Value) →
-      value_at (contents_of plan class values) (path_behind plan class slot) ≡ option_map (λ n. slice_index_or values n kept.Nothing) cell
+      value_at (contents_of plan class values) (path_behind plan class slot)
+      ≡ option_map (λ n. slice_index_or values n kept.Nothing) cell
   pub written : IfSome cell (λ n. (values : List Value) (v : Value) → n < length values →
-      contents_of plan class (slice_set values n v) ≡ with_value (contents_of plan class values) (path_behind plan class slot) v)
+      contents_of plan class (slice_set values n v)
+      ≡ with_value (contents_of plan class values) (path_behind plan class slot) v)
 
 -- a cell for each slot of a class
 pub record IsRow (plan : Plan) (class : ℕ) (row : List (Option ℕ)) : Type 0 where

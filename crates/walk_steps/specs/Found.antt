@@ -14,7 +14,8 @@ use Rattle.walk_steps.specs.Seen.{spot_seen}
 -- nothing is kept at a path from a base
 abbrev pub NothingIn : Plan → ℕ → val.Base → Path → Type 0
 NothingIn plan class val.Component path = (values : List Value) → value_at (contents_of plan class values) path ≡ None
-NothingIn plan class val.Statics path = (values : List Value) → value_at (contents_of plan (classes_in plan) values) path ≡ None
+NothingIn plan class val.Statics path = (values : List Value)
+    → value_at (contents_of plan (classes_in plan) values) path ≡ None
 
 -- no place, or one where nothing is kept
 abbrev pub NothingAt : Plan → ℕ → Result Spot stops.Stop → Type 0

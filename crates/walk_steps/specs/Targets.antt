@@ -20,13 +20,15 @@ use Rattle.walk_steps.specs.Seen.{seen, stop_seen}
 
 -- what an evaluation stands in, in a root call on a component of this class, with so many frames left
 abbrev pub setting_of : Plan → ℕ → ℕ → Setting
-setting_of plan class frames = record { program = plan.program; class = class; calls = calls_with plan.program class frames }
+setting_of plan class frames =
+    record { program = plan.program; class = class; calls = calls_with plan.program class frames }
 
 abbrev pub target_seen : Plan → ℕ → Target → target.Target
 target_seen plan class (Local kind i) = target.OfLocal kind i
 target_seen plan class (Static p i) = target.OfStatic p i
 target_seen plan class (Field p object i) = target.OfField p (seen plan class object) i
-target_seen plan class (Element p count object i index) = target.OfElement p count (seen plan class object) i (seen plan class index)
+target_seen plan class (Element p count object i index) =
+    target.OfElement p count (seen plan class object) i (seen plan class index)
 target_seen plan class (StaticElement p count i index) = target.OfStaticElement p count i (seen plan class index)
 
 -- how the look for a target ends
@@ -58,17 +60,22 @@ text_lent v (Err stop) = Err (stop_seen stop)
 -- the bytes with a character at an index
 abbrev pub character_put : List ℕ → val.Val → val.Val → Result (List ℕ) stops.Stop
 character_put bytes index character =
-    and_then (index_of (length bytes - 1) index) (λ i. map_ok (λ c. with_character bytes i c) (val.whole width.Int character))
+    and_then (index_of (length bytes - 1) index) (λ i.
+    map_ok (λ c. with_character bytes i c) (val.whole width.Int character))
 
 abbrev pub put_character : val.Spot → val.Val → val.Val → State → End val.Val
 put_character spot index character s =
-    then_do (read_bytes spot s) (λ bytes s1. then_do (answers (character_put bytes index character) s1) (λ new s2. write_bytes spot new s2))
+    then_do (read_bytes spot s) (λ bytes s1.
+    then_do (answers (character_put bytes index character) s1) (λ new s2. write_bytes spot new s2))
 
 -- a Str with the characters of a text
 abbrev pub text_copied : List (List ℕ) → val.Spot → val.Val → State → End val.Val
 text_copied texts spot other s =
-    then_do (read_bytes spot s) (λ old s1. then_do (text_bytes texts other s1) (λ new s2. write_bytes spot (filled (length old) (characters new)) s2))
+    then_do (read_bytes spot s) (λ old s1.
+    then_do (text_bytes texts other s1) (λ new s2. write_bytes spot (filled (length old) (characters new)) s2))
 
 -- a literal is not changed
 abbrev pub literal_copied : List (List ℕ) → val.Val → val.Val → State → End val.Val
-literal_copied texts v other s = then_do (text_bytes texts v s) (λ old s1. then_do (text_bytes texts other s1) (λ new s2. answers (Err (stops.Traps OutOfRange)) s2))
+literal_copied texts v other s =
+    then_do (text_bytes texts v s) (λ old s1.
+    then_do (text_bytes texts other s1) (λ new s2. answers (Err (stops.Traps OutOfRange)) s2))

@@ -8,6 +8,7 @@
 //! itself, through expressions, statements and calls, stands on these.
 #![tactic(auto)]
 
+pub mod bufs;
 pub mod locals;
 pub mod operators;
 pub mod places;

@@ -33,7 +33,8 @@ pub fn frame_of(receiver: Word) -> [Word; FRAME]
 /// The value of a local, which is 0, false or null where it is not begun.
 #[inline(always)]
 pub fn read(locals: &[Word], kind: Kind, number: usize) -> Result<Word, Stop>
-    ensures { (plan : Planned) (class : ℕ) → ends plan class result ≡ map_ok (λ v. val.begun kind v) (there (slice_get (map (seen plan class) locals.now) number)) }
+    ensures { (plan : Planned) (class : ℕ) → ends plan class result
+        ≡ map_ok (λ v. val.begun kind v) (there (slice_get (map (seen plan class) locals.now) number)) }
 {
     match locals.get(number) {
         Some(word) => Ok(word.begun(kind)),
@@ -44,8 +45,11 @@ pub fn read(locals: &[Word], kind: Kind, number: usize) -> Result<Word, Stop>
 /// The receiver, which stands in local 0.
 #[inline(always)]
 pub fn this(locals: &[Word]) -> Result<Word, Stop>
-    ensures value { (plan : Planned) (class : ℕ) → ends plan class result ≡ and_then (there (slice_get (map (seen plan class) locals.now) 0)) val.receiver }
-    ensures end { (plan : Planned) (class : ℕ) (store : Stored) → ended plan class (ends plan class result) store locals.now ≡ read_this (state_of plan class store locals.now) }
+    ensures value { (plan : Planned) (class : ℕ) → ends plan class result
+        ≡ and_then (there (slice_get (map (seen plan class) locals.now) 0)) val.receiver }
+    ensures end { (plan : Planned) (class : ℕ) (store : Stored)
+        → ended plan class (ends plan class result) store locals.now
+        ≡ read_this (state_of plan class store locals.now) }
 {
     match locals.get(0) {
         Some(word) => word.receiver(),
@@ -56,7 +60,8 @@ pub fn this(locals: &[Word]) -> Result<Word, Stop>
 /// Puts a value into a local.
 #[inline(always)]
 pub fn write(locals: &mut [Word], number: usize, value: Word) -> Result<(), Stop>
-    ensures end { (plan : Planned) (class : ℕ) → framed plan class result locals.new ≡ with_local (map (seen plan class) locals.old) number (seen plan class value) }
+    ensures end { (plan : Planned) (class : ℕ) → framed plan class result locals.new
+        ≡ with_local (map (seen plan class) locals.old) number (seen plan class value) }
     ensures kept { OnErr result (locals.new ≡ locals.old) }
 {
     if number < locals.len() {
@@ -70,7 +75,9 @@ pub fn write(locals: &mut [Word], number: usize, value: Word) -> Result<(), Stop
 /// Puts a value into a local, and gives it.
 #[inline(always)]
 pub fn put(locals: &mut [Word], number: usize, value: Word) -> Result<Word, Stop>
-    ensures { (plan : Planned) (class : ℕ) (store : Stored) → ended plan class (ends plan class result) store locals.new ≡ write_local number (seen plan class value) (state_of plan class store locals.old) }
+    ensures { (plan : Planned) (class : ℕ) (store : Stored)
+        → ended plan class (ends plan class result) store locals.new
+        ≡ write_local number (seen plan class value) (state_of plan class store locals.old) }
 {
     match write(locals, number, value) {
         Ok(()) => Ok(value),

@@ -2,12 +2,15 @@
 ghost use Rattle.std.specs.Prelude.{◌≡◌, ◌≤◌, ℕ, map};
 ghost use Rattle.std.specs.Int.{w8, w16, w32, w64};
 ghost use Rattle.sed_value.specs.Wrap.{low_bits};
-ghost use Rattle.sed_engine.specs.Operators.{computed, compared as compared_of, arithmetic_of, binary_of, unary_of, given as given_of};
+ghost use Rattle.sed_engine.specs.Operators.{computed, compared as compared_of, arithmetic_of, binary_of, unary_of};
+ghost use Rattle.sed_engine.specs.Operators.{given as given_of};
 ghost use Rattle.sed_engine.specs.Values.{same_reference};
 ghost use Rattle.sed_cells.specs.Places.{Plan as Planned, classes_in};
 ghost use Rattle.sed_typed.specs.declared.operators.Width.TheVariants.{Int as IntWidth, Long as LongWidth};
-ghost use Rattle.sed_typed.specs.declared.operators.Arithmetic.TheVariants.{ShiftLeft as LeftShift, ShiftRight as RightShift};
-ghost use Rattle.sed_typed.specs.declared.operators.Binary.TheVariants.{Compare as CompareOf, SameTruth as TruthSame, OtherTruth as TruthOther};
+ghost use Rattle.sed_typed.specs.declared.operators.Arithmetic.TheVariants.{ShiftLeft as LeftShift};
+ghost use Rattle.sed_typed.specs.declared.operators.Arithmetic.TheVariants.{ShiftRight as RightShift};
+ghost use Rattle.sed_typed.specs.declared.operators.Binary.TheVariants.{Compare as CompareOf, SameTruth as TruthSame};
+ghost use Rattle.sed_typed.specs.declared.operators.Binary.TheVariants.{OtherTruth as TruthOther};
 ghost use Rattle.sed_typed.specs.declared.operators.Unary.TheVariants.{LowByte as ByteOf, LowShort as ShortOf};
 ghost use Rattle.walk_steps.specs.Seen.{seen, ends, as_it_is, IsStraight};
 
@@ -84,7 +87,8 @@ pub fn is_so(op: Comparison, a: i64, b: i64) -> bool
 /// The arithmetic of two values.
 #[inline(always)]
 pub fn arithmetic(op: Arithmetic, width: Width, a: Word, b: Word) -> Result<Word, Stop>
-    ensures { (plan : Planned) (class : ℕ) → ends plan class result ≡ arithmetic_of op width (seen plan class a) (seen plan class b) }
+    ensures { (plan : Planned) (class : ℕ) → ends plan class result
+        ≡ arithmetic_of op width (seen plan class a) (seen plan class b) }
 {
     match width {
         Width::Int => int_words(op, a, b),
@@ -98,7 +102,8 @@ pub fn arithmetic(op: Arithmetic, width: Width, a: Word, b: Word) -> Result<Word
 
 #[inline(always)]
 fn int_words(op: Arithmetic, a: Word, b: Word) -> Result<Word, Stop>
-    ensures { (plan : Planned) (class : ℕ) → ends plan class result ≡ arithmetic_of op IntWidth (seen plan class a) (seen plan class b) }
+    ensures { (plan : Planned) (class : ℕ) → ends plan class result
+        ≡ arithmetic_of op IntWidth (seen plan class a) (seen plan class b) }
 {
     let x = a.int()?;
     let y = b.int()?;
@@ -108,7 +113,8 @@ fn int_words(op: Arithmetic, a: Word, b: Word) -> Result<Word, Stop>
 
 fn long_words(op: Arithmetic, a: Word, b: Word) -> Result<Word, Stop>
     requires { IsStraight op }
-    ensures { (plan : Planned) (class : ℕ) → ends plan class result ≡ arithmetic_of op LongWidth (seen plan class a) (seen plan class b) }
+    ensures { (plan : Planned) (class : ℕ) → ends plan class result
+        ≡ arithmetic_of op LongWidth (seen plan class a) (seen plan class b) }
 {
     let x = a.long()?;
     let y = b.long()?;
@@ -117,7 +123,8 @@ fn long_words(op: Arithmetic, a: Word, b: Word) -> Result<Word, Stop>
 }
 
 fn shift_left_words(a: Word, b: Word) -> Result<Word, Stop>
-    ensures { (plan : Planned) (class : ℕ) → ends plan class result ≡ arithmetic_of LeftShift LongWidth (seen plan class a) (seen plan class b) }
+    ensures { (plan : Planned) (class : ℕ) → ends plan class result
+        ≡ arithmetic_of LeftShift LongWidth (seen plan class a) (seen plan class b) }
 {
     let x = a.long()?;
     let y = b.int()?;
@@ -125,7 +132,8 @@ fn shift_left_words(a: Word, b: Word) -> Result<Word, Stop>
 }
 
 fn shift_right_words(a: Word, b: Word) -> Result<Word, Stop>
-    ensures { (plan : Planned) (class : ℕ) → ends plan class result ≡ arithmetic_of RightShift LongWidth (seen plan class a) (seen plan class b) }
+    ensures { (plan : Planned) (class : ℕ) → ends plan class result
+        ≡ arithmetic_of RightShift LongWidth (seen plan class a) (seen plan class b) }
 {
     let x = a.long()?;
     let y = b.int()?;
@@ -134,7 +142,8 @@ fn shift_right_words(a: Word, b: Word) -> Result<Word, Stop>
 
 #[inline(always)]
 fn compare(op: Comparison, width: Width, a: Word, b: Word) -> Result<Word, Stop>
-    ensures { (plan : Planned) (class : ℕ) → ends plan class result ≡ binary_of (CompareOf op width) (seen plan class a) (seen plan class b) }
+    ensures { (plan : Planned) (class : ℕ) → ends plan class result
+        ≡ binary_of (CompareOf op width) (seen plan class a) (seen plan class b) }
 {
     match width {
         Width::Int => {
@@ -151,7 +160,8 @@ fn compare(op: Comparison, width: Width, a: Word, b: Word) -> Result<Word, Stop>
 }
 
 fn same_truth(a: Word, b: Word) -> Result<Word, Stop>
-    ensures { (plan : Planned) (class : ℕ) → ends plan class result ≡ binary_of TruthSame (seen plan class a) (seen plan class b) }
+    ensures { (plan : Planned) (class : ℕ) → ends plan class result
+        ≡ binary_of TruthSame (seen plan class a) (seen plan class b) }
 {
     let x = a.truth()?;
     let y = b.truth()?;
@@ -159,7 +169,8 @@ fn same_truth(a: Word, b: Word) -> Result<Word, Stop>
 }
 
 fn other_truth(a: Word, b: Word) -> Result<Word, Stop>
-    ensures { (plan : Planned) (class : ℕ) → ends plan class result ≡ binary_of TruthOther (seen plan class a) (seen plan class b) }
+    ensures { (plan : Planned) (class : ℕ) → ends plan class result
+        ≡ binary_of TruthOther (seen plan class a) (seen plan class b) }
 {
     let x = a.truth()?;
     let y = b.truth()?;
@@ -287,7 +298,8 @@ fn long_to_short(number: i64) -> u16
 
 /// The value of a compound assignment.
 pub fn given(gives: Gives, old: Word, new: Word) -> Word
-    ensures { (plan : Planned) (class : ℕ) → seen plan class result ≡ given_of gives (seen plan class old) (seen plan class new) }
+    ensures { (plan : Planned) (class : ℕ) → seen plan class result
+        ≡ given_of gives (seen plan class old) (seen plan class new) }
 {
     match gives {
         Gives::Old => old,

@@ -1,5 +1,6 @@
 //! Fields and elements: their places, what is read of them, and what is stored in them.
-ghost use Rattle.std.specs.Prelude.{◌≡◌, ◌≤◌, ◌<◌, ◌++◌, ◌∷◌, [], ℕ, List, IfOk, IfSome, IfNone, None, Ok, Result, is_some, length};
+ghost use Rattle.std.specs.Prelude.{◌≡◌, ◌≤◌, ◌<◌, ◌++◌, ◌∷◌, [], ℕ, List, IfOk, IfSome, IfNone, None, Ok, Result};
+ghost use Rattle.std.specs.Prelude.{is_some, length};
 ghost use Rattle.sed_value.specs.declared.value.Value.{Value};
 ghost use Rattle.sed_typed.specs.Contents.{value_at};
 ghost use Rattle.sed_engine.specs.Stops.{map_ok, and_then, there, Stop as AnyStop};
@@ -12,7 +13,7 @@ ghost use Rattle.sed_engine.specs.Values as val;
 ghost use Rattle.sed_cells.specs.Places.{classes_in, contents_of, class_there, place_of as path_of};
 ghost use Rattle.walk_steps.specs.Seen.{seen, ends, as_it_is, spot_seen};
 ghost use Rattle.walk_steps.specs.Found.{IsFound};
-ghost use Rattle.walk_steps.specs.Stored.{stepped, shared_of};
+ghost use Rattle.walk_steps.specs.Stored.{stepped, with_locals};
 ghost use Rattle.walk_steps.specs.Targets.{setting_of, lent};
 
 use crate::places::{index_of, place_of, top};
@@ -59,7 +60,8 @@ pub fn static_field(plan: &Plan, class: usize, number: usize) -> Result<(Base, u
 #[inline(always)]
 pub fn field(plan: &Plan, class: usize, object: Word, number: usize) -> Result<(Base, usize), Stop>
     requires { class ≤ classes_in plan.now }
-    ensures { IsFound plan.now class result (map_ok (λ spot. inside spot number) (val.spot_of (seen plan.now class object))) }
+    ensures { IsFound plan.now class result
+        (map_ok (λ spot. inside spot number) (val.spot_of (seen plan.now class object))) }
 {
     match place_of(object) {
         Ok((base, place)) => step(plan, class, base, place, number),
@@ -70,8 +72,11 @@ pub fn field(plan: &Plan, class: usize, object: Word, number: usize) -> Result<(
 // The place at two steps from a place.
 fn two_steps(plan: &Plan, top: usize, place: usize, number: usize, index: usize) -> Option<usize>
     requires { top ≤ classes_in plan.now }
-    ensures found { IfSome result (λ m. path_of plan.now top m ≡ (path_of plan.now top place ++ number ∷ []) ++ index ∷ []) }
-    ensures nothing { IfNone result ((values : List Value) → value_at (contents_of plan.now top values) ((path_of plan.now top place ++ number ∷ []) ++ index ∷ []) ≡ None) }
+    ensures found { IfSome result (λ m. path_of plan.now top m
+        ≡ (path_of plan.now top place ++ number ∷ []) ++ index ∷ []) }
+    ensures nothing { IfNone result ((values : List Value)
+        → value_at (contents_of plan.now top values) ((path_of plan.now top place ++ number ∷ [])
+        ++ index ∷ []) ≡ None) }
 {
     match plan.inside(top, place, number) {
         Some(array) => plan.inside(top, array, index),
@@ -114,7 +119,9 @@ pub fn element(
     index: Word,
 ) -> Result<(Base, usize), Stop>
     requires { class ≤ classes_in plan.now }
-    ensures { IsFound plan.now class result (and_then (val.spot_of (seen plan.now class object)) (λ spot. map_ok (λ i. inside (inside spot number) i) (index_in count (seen plan.now class index)))) }
+    ensures { IsFound plan.now class result
+        (and_then (val.spot_of (seen plan.now class object)) (λ spot.
+        map_ok (λ i. inside (inside spot number) i) (index_in count (seen plan.now class index)))) }
 {
     match place_of(object) {
         Ok((base, place)) => indexed(plan, class, base, place, count, number, index),
@@ -133,7 +140,9 @@ fn indexed(
     index: Word,
 ) -> Result<(Base, usize), Stop>
     requires { class ≤ classes_in plan.now }
-    ensures { IsFound plan.now class result (map_ok (λ i. inside (inside (spot_seen plan.now class base place) number) i) (index_in count (seen plan.now class index))) }
+    ensures { IsFound plan.now class result
+        (map_ok (λ i. inside (inside (spot_seen plan.now class base place) number) i)
+        (index_in count (seen plan.now class index))) }
 {
     match index_of(count, index) {
         Ok(at) => element_from(plan, class, base, place, number, at),
@@ -150,7 +159,8 @@ pub fn static_element(
     index: Word,
 ) -> Result<(Base, usize), Stop>
     requires { class ≤ classes_in plan.now }
-    ensures { IsFound plan.now class result (map_ok (λ i. inside (static_spot number) i) (index_in count (seen plan.now class index))) }
+    ensures { IsFound plan.now class result
+        (map_ok (λ i. inside (static_spot number) i) (index_in count (seen plan.now class index))) }
 {
     indexed(plan, class, Base::Statics, 0, count, number, index)
 }
@@ -165,7 +175,8 @@ pub fn read(
 ) -> Result<Word, Stop>
     requires { class ≤ classes_in plan.now }
     ensures { (locals : List val.Val) (r : Result val.Spot AnyStop) → IsFound plan.now class found r →
-        stepped plan.now class (ends plan.now class result) store.now locals ≡ then_do (answers r (record { shared = shared_of plan.now class store.now; locals = locals })) (λ spot s1. read_spot spot s1) }
+        stepped plan.now class (ends plan.now class result) store.now locals
+        ≡ then_do (answers r (with_locals plan.now class store.now locals)) (λ spot s1. read_spot spot s1) }
 {
     match found {
         Ok((base, place)) => store.read(plan, class, base, place),
@@ -178,7 +189,8 @@ pub fn read(
 pub fn read_static(store: &Store, plan: &Plan, class: usize, number: usize) -> Result<Word, Stop>
     requires { class ≤ classes_in plan.now }
     ensures { (locals : List val.Val) →
-        stepped plan.now class (ends plan.now class result) store.now locals ≡ read_spot (static_spot number) (record { shared = shared_of plan.now class store.now; locals = locals }) }
+        stepped plan.now class (ends plan.now class result) store.now locals
+        ≡ read_spot (static_spot number) (with_locals plan.now class store.now locals) }
 {
     let found = static_field(plan, class, number);
     read(store, plan, class, found)
@@ -195,7 +207,9 @@ pub fn read_field(
 ) -> Result<Word, Stop>
     requires { class ≤ classes_in plan.now }
     ensures { (locals : List val.Val) →
-        stepped plan.now class (ends plan.now class result) store.now locals ≡ then_do (field_spot (seen plan.now class object) number (record { shared = shared_of plan.now class store.now; locals = locals })) (λ spot s1. read_spot spot s1) }
+        stepped plan.now class (ends plan.now class result) store.now locals
+        ≡ then_do (field_spot (seen plan.now class object) number (with_locals plan.now class store.now locals))
+        (λ spot s1. read_spot spot s1) }
 {
     let found = field(plan, class, object, number);
     read(store, plan, class, found)
@@ -210,7 +224,8 @@ pub fn bytes<'a>(
 ) -> Result<&'a [u8], Stop>
     requires { class ≤ classes_in plan.now }
     ensures read { (locals : List val.Val) (r : Result val.Spot AnyStop) → IsFound plan.now class found r →
-        stepped plan.now class (lent result) store.now locals ≡ then_do (answers r (record { shared = shared_of plan.now class store.now; locals = locals })) (λ spot s1. read_bytes spot s1) }
+        stepped plan.now class (lent result) store.now locals
+        ≡ then_do (answers r (with_locals plan.now class store.now locals)) (λ spot s1. read_bytes spot s1) }
     ensures few { IfOk result (λ bytes. length bytes.now ≤ 255) }
 {
     match found {
@@ -232,7 +247,9 @@ pub fn write(
 ) -> Result<Word, Stop>
     requires { class ≤ classes_in plan.now }
     ensures end { (locals : List val.Val) (r : Result val.Spot AnyStop) → IsFound plan.now class found r →
-        stepped plan.now class (ends plan.now class result) store.new locals ≡ then_do (answers r (record { shared = shared_of plan.now class store.old; locals = locals })) (λ spot s1. write_spot prim spot (seen plan.now class word) s1) }
+        stepped plan.now class (ends plan.now class result) store.new locals
+        ≡ then_do (answers r (with_locals plan.now class store.old locals))
+        (λ spot s1. write_spot prim spot (seen plan.now class word) s1) }
     ensures turns { store.new.turns ≡ store.old.turns }
 {
     match found {
@@ -255,7 +272,9 @@ pub fn write_field(
 ) -> Result<Word, Stop>
     requires { class ≤ classes_in plan.now }
     ensures end { (locals : List val.Val) →
-        stepped plan.now class (ends plan.now class result) store.new locals ≡ then_do (field_spot (seen plan.now class object) number (record { shared = shared_of plan.now class store.old; locals = locals })) (λ spot s1. write_spot prim spot (seen plan.now class word) s1) }
+        stepped plan.now class (ends plan.now class result) store.new locals
+        ≡ then_do (field_spot (seen plan.now class object) number (with_locals plan.now class store.old locals))
+        (λ spot s1. write_spot prim spot (seen plan.now class word) s1) }
     ensures turns { store.new.turns ≡ store.old.turns }
 {
     let found = field(plan, class, object, number);
@@ -272,7 +291,9 @@ pub fn static_part(
 ) -> Result<Word, Stop>
     requires { class < classes_in plan.now }
     ensures { (frames : ℕ) (locals : List val.Val) →
-        stepped plan.now class (ends plan.now class result) store.now locals ≡ part_at (setting_of plan.now class frames) kind (static_spot number) (record { shared = shared_of plan.now class store.now; locals = locals }) }
+        stepped plan.now class (ends plan.now class result) store.now locals
+        ≡ part_at (setting_of plan.now class frames) kind (static_spot number)
+        (with_locals plan.now class store.now locals) }
 {
     part_in(store, plan, class, kind, Base::Statics, 0, number)
 }
@@ -288,7 +309,9 @@ pub fn part(
 ) -> Result<Word, Stop>
     requires { class < classes_in plan.now }
     ensures { (frames : ℕ) (locals : List val.Val) →
-        stepped plan.now class (ends plan.now class result) store.now locals ≡ then_do (field_spot (seen plan.now class object) number (record { shared = shared_of plan.now class store.now; locals = locals })) (λ spot s1. part_at (setting_of plan.now class frames) kind spot s1) }
+        stepped plan.now class (ends plan.now class result) store.now locals
+        ≡ then_do (field_spot (seen plan.now class object) number (with_locals plan.now class store.now locals))
+        (λ spot s1. part_at (setting_of plan.now class frames) kind spot s1) }
 {
     match place_of(object) {
         Ok((base, place)) => part_in(store, plan, class, kind, base, place, number),
@@ -308,7 +331,9 @@ fn part_in(
 ) -> Result<Word, Stop>
     requires { class < classes_in plan.now }
     ensures { (frames : ℕ) (locals : List val.Val) →
-        stepped plan.now class (ends plan.now class result) store.now locals ≡ part_at (setting_of plan.now class frames) kind (inside (spot_seen plan.now class base place) number) (record { shared = shared_of plan.now class store.now; locals = locals }) }
+        stepped plan.now class (ends plan.now class result) store.now locals
+        ≡ part_at (setting_of plan.now class frames) kind (inside (spot_seen plan.now class base place) number)
+        (with_locals plan.now class store.now locals) }
 {
     match kind {
         Kind::Text => text_in(store, plan, class, base, place, number),
@@ -328,7 +353,10 @@ fn text_in(
 ) -> Result<Word, Stop>
     requires { class ≤ classes_in plan.now }
     ensures { (locals : List val.Val) →
-        stepped plan.now class (ends plan.now class result) store.now locals ≡ then_do (read_bytes (inside (spot_seen plan.now class base place) number) (record { shared = shared_of plan.now class store.now; locals = locals })) (λ _ s1. gives (val.At (inside (spot_seen plan.now class base place) number)) s1) }
+        stepped plan.now class (ends plan.now class result) store.now locals
+        ≡ then_do (read_bytes (inside (spot_seen plan.now class base place) number)
+        (with_locals plan.now class store.now locals)) (λ _ s1.
+        gives (val.At (inside (spot_seen plan.now class base place) number)) s1) }
 {
     match step(plan, class, base, place, number) {
         Ok((base, place)) => text_at(store, plan, class, base, place),
@@ -340,7 +368,9 @@ fn text_in(
 fn text_at(store: &Store, plan: &Plan, class: usize, base: Base, place: usize) -> Result<Word, Stop>
     requires { class ≤ classes_in plan.now }
     ensures { (locals : List val.Val) →
-        stepped plan.now class (ends plan.now class result) store.now locals ≡ then_do (read_bytes (spot_seen plan.now class base place) (record { shared = shared_of plan.now class store.now; locals = locals })) (λ _ s1. gives (val.At (spot_seen plan.now class base place)) s1) }
+        stepped plan.now class (ends plan.now class result) store.now locals
+        ≡ then_do (read_bytes (spot_seen plan.now class base place) (with_locals plan.now class store.now locals))
+        (λ _ s1. gives (val.At (spot_seen plan.now class base place)) s1) }
 {
     match store.bytes(plan, class, base, place) {
         Ok(_) => Ok(Word::At(base, place)),
@@ -357,7 +387,9 @@ fn object_in(
     number: usize,
 ) -> Result<Word, Stop>
     requires { class < classes_in plan.now }
-    ensures { (frames : ℕ) → ends plan.now class result ≡ map_ok (λ _. val.At (inside (spot_seen plan.now class base place) number)) (there (class_of (setting_of plan.now class frames) (inside (spot_seen plan.now class base place) number))) }
+    ensures { (frames : ℕ) → ends plan.now class result
+        ≡ map_ok (λ _. val.At (inside (spot_seen plan.now class base place) number))
+        (there (class_of (setting_of plan.now class frames) (inside (spot_seen plan.now class base place) number))) }
 {
     match base {
         Base::Component => match object_at(plan, class, place, number) {
@@ -375,7 +407,8 @@ fn object_in(
 fn object_at(plan: &Plan, top: usize, place: usize, number: usize) -> Option<usize>
     requires { top ≤ classes_in plan.now }
     ensures found { IfSome result (λ m. path_of plan.now top m ≡ path_of plan.now top place ++ number ∷ []) }
-    ensures class { is_some result ≡ is_some (class_there plan.now.program top (path_of plan.now top place ++ number ∷ [])) }
+    ensures class { is_some result
+        ≡ is_some (class_there plan.now.program top (path_of plan.now top place ++ number ∷ [])) }
 {
     let found = plan.inside(top, place, number)?;
     let _class = plan.class_of(top, found)?;
@@ -391,7 +424,8 @@ pub fn method_for(
     method: usize,
 ) -> Result<usize, Stop>
     requires { class < classes_in plan.now }
-    ensures { (frames : ℕ) → as_it_is result ≡ method_of (setting_of plan.now class frames) (spot_seen plan.now class base place) method }
+    ensures { (frames : ℕ) → as_it_is result
+        ≡ method_of (setting_of plan.now class frames) (spot_seen plan.now class base place) method }
 {
     let Some(found) = plan.class_of(top(plan, class, base), place) else {
         return Err(Stop::Untyped);

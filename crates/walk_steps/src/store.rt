@@ -2,12 +2,13 @@
 ghost use Rattle.std.specs.Prelude.{◌≡◌, ◌≤◌, ◌-◌, ℕ, ℤ, List, false};
 ghost use Rattle.sed_value.specs.declared.value.Value.{Value};
 ghost use Rattle.sed_engine.specs.Steps.{turn_of, read_spot, write_spot, read_bytes, write_bytes};
-ghost use Rattle.sed_engine.specs.Values.{Val, Nothing as NoValue, read_as, stored_as, bytes_of, last_byte, are_alike as are_alike_to, is_alike as is_alike_to};
+ghost use Rattle.sed_engine.specs.Values.{Val, Nothing as NoValue, read_as, stored_as, bytes_of, last_byte};
+ghost use Rattle.sed_engine.specs.Values.{are_alike as are_alike_to, is_alike as is_alike_to};
 ghost use Rattle.walk_steps.specs.Targets.{lent};
 ghost use Rattle.sed_cells.specs.Cells.{cell_value, are_bytes};
 ghost use Rattle.sed_cells.specs.Places.{Plan as Planned, classes_in};
 ghost use Rattle.walk_steps.specs.Seen.{seen, ends, as_it_is, end_seen, spot_seen};
-ghost use Rattle.walk_steps.specs.Stored.{Stored, stepped, shared_of, kept_at, bytes_kept_at, contents_after};
+ghost use Rattle.walk_steps.specs.Stored.{Stored, stepped, with_locals, kept_at, bytes_kept_at, contents_after};
 ghost use Rattle.std.specs.Prelude.{IfOk, IsTrue, ◌<◌, length, slice_index_or};
 ghost use Rattle.sed_value.specs.declared.value.Value.TheVariants as kept;
 ghost use Rattle.sed_engine.specs.Stops.{there, and_then, map_ok};
@@ -80,7 +81,12 @@ impl Store {
     #[inline(always)]
     pub fn take_turn(&mut self) -> Result<(), Stop>
         ensures end { as_it_is result ≡ turn_of self.old.turns }
-        ensures left { self.new ≡ record { own = self.old.own; statics = self.old.statics; turns = self.old.turns - 1; moment = self.old.moment } }
+        ensures left { self.new ≡ record {
+          own = self.old.own;
+          statics = self.old.statics;
+          turns = self.old.turns - 1;
+          moment = self.old.moment;
+        } }
     {
         if self.turns == 0 {
             return Err(Stop::Trapped(Trap::TurnsSpent));
@@ -93,7 +99,9 @@ impl Store {
     #[inline(always)]
     pub fn read(&self, plan: &Plan, class: usize, base: Base, place: usize) -> Result<Word, Stop>
         requires { class ≤ classes_in plan.now }
-        ensures { (locals : List Val) → stepped plan.now class (ends plan.now class result) self.now locals ≡ read_spot (spot_seen plan.now class base place) (record { shared = shared_of plan.now class self.now; locals = locals }) }
+        ensures { (locals : List Val) → stepped plan.now class (ends plan.now class result) self.now locals
+            ≡ read_spot (spot_seen plan.now class base place)
+            (with_locals plan.now class self.now locals) }
     {
         match base {
             Base::Component => read_in(&self.own, plan, class, place),
@@ -113,7 +121,9 @@ impl Store {
         word: Word,
     ) -> Result<Word, Stop>
         requires { class ≤ classes_in plan.now }
-        ensures end { (locals : List Val) → stepped plan.now class (ends plan.now class result) self.new locals ≡ write_spot prim (spot_seen plan.now class base place) (seen plan.now class word) (record { shared = shared_of plan.now class self.old; locals = locals }) }
+        ensures end { (locals : List Val) → stepped plan.now class (ends plan.now class result) self.new locals
+            ≡ write_spot prim (spot_seen plan.now class base place) (seen plan.now class word)
+            (with_locals plan.now class self.old locals) }
         ensures turns { self.new.turns ≡ self.old.turns }
     {
         match base {
@@ -125,7 +135,9 @@ impl Store {
     /// The bytes of the Str or Buf at a place.
     pub fn bytes(&self, plan: &Plan, class: usize, base: Base, place: usize) -> Result<&[u8], Stop>
         requires { class ≤ classes_in plan.now }
-        ensures read { (locals : List Val) → stepped plan.now class (lent result) self.now locals ≡ read_bytes (spot_seen plan.now class base place) (record { shared = shared_of plan.now class self.now; locals = locals }) }
+        ensures read { (locals : List Val) → stepped plan.now class (lent result) self.now locals
+            ≡ read_bytes (spot_seen plan.now class base place)
+            (with_locals plan.now class self.now locals) }
         ensures few { IfOk result (λ bytes. length bytes.now ≤ 255) }
     {
         match base {
@@ -145,7 +157,9 @@ impl Store {
         bytes: Bytes255,
     ) -> Result<Word, Stop>
         requires { class ≤ classes_in plan.now }
-        ensures end { (locals : List Val) → stepped plan.now class (ends plan.now class result) self.new locals ≡ write_bytes (spot_seen plan.now class base place) bytes (record { shared = shared_of plan.now class self.old; locals = locals }) }
+        ensures end { (locals : List Val) → stepped plan.now class (ends plan.now class result) self.new locals
+            ≡ write_bytes (spot_seen plan.now class base place) bytes
+            (with_locals plan.now class self.old locals) }
         ensures turns { self.new.turns ≡ self.old.turns }
     {
         match base {
@@ -158,7 +172,8 @@ impl Store {
 // The bytes of a place among these cells.
 fn bytes_in<'a>(cells: &'a Cells, plan: &Plan, top: usize, place: usize) -> Result<&'a [u8], Stop>
     requires { top ≤ classes_in plan.now }
-    ensures read { lent result ≡ and_then (there (value_at (contents_of plan.now top cells.now) (place_of plan.now top place))) bytes_of }
+    ensures read { lent result
+        ≡ and_then (there (value_at (contents_of plan.now top cells.now) (place_of plan.now top place))) bytes_of }
     ensures few { IfOk result (λ bytes. length bytes.now ≤ 255) }
 {
     match plan.cell(top, place) {
@@ -198,8 +213,12 @@ fn put_bytes_in(
     bytes: Bytes255,
 ) -> Result<Word, Stop>
     requires { top ≤ classes_in plan.now }
-    ensures end { (class : ℕ) → ends plan.now class result ≡ map_ok (λ _. NoValue) (bytes_kept_at (contents_of plan.now top cells.old) (place_of plan.now top place) bytes) }
-    ensures left { contents_of plan.now top cells.new ≡ contents_after (contents_of plan.now top cells.old) (place_of plan.now top place) (bytes_kept_at (contents_of plan.now top cells.old) (place_of plan.now top place) bytes) }
+    ensures end { (class : ℕ) → ends plan.now class result
+        ≡ map_ok (λ _. NoValue) (bytes_kept_at (contents_of plan.now top cells.old)
+        (place_of plan.now top place) bytes) }
+    ensures left { contents_of plan.now top cells.new
+        ≡ contents_after (contents_of plan.now top cells.old) (place_of plan.now top place)
+        (bytes_kept_at (contents_of plan.now top cells.old) (place_of plan.now top place) bytes) }
 {
     let Some(number) = plan.cell(top, place) else {
         return Err(Stop::Untyped);
@@ -258,8 +277,12 @@ fn write_in(
     word: Word,
 ) -> Result<Word, Stop>
     requires { top ≤ classes_in plan.now }
-    ensures end { (class : ℕ) → ends plan.now class result ≡ and_then (kept_at (contents_of plan.now top cells.old) (place_of plan.now top place) prim (seen plan.now class word)) read_as }
-    ensures left { (class : ℕ) → contents_of plan.now top cells.new ≡ contents_after (contents_of plan.now top cells.old) (place_of plan.now top place) (kept_at (contents_of plan.now top cells.old) (place_of plan.now top place) prim (seen plan.now class word)) }
+    ensures end { (class : ℕ) → ends plan.now class result
+        ≡ and_then (kept_at (contents_of plan.now top cells.old) (place_of plan.now top place)
+        prim (seen plan.now class word)) read_as }
+    ensures left { (class : ℕ) → contents_of plan.now top cells.new
+        ≡ contents_after (contents_of plan.now top cells.old) (place_of plan.now top place)
+        (kept_at (contents_of plan.now top cells.old) (place_of plan.now top place) prim (seen plan.now class word)) }
 {
     let new = kept(prim, word)?;
     let Some(number) = plan.cell(top, place) else {
@@ -340,7 +363,8 @@ fn are_alike(old: &Cell, new: &Cell) -> bool
 #[inline(always)]
 fn read_in(cells: &Cells, plan: &Plan, top: usize, place: usize) -> Result<Word, Stop>
     requires { top ≤ classes_in plan.now }
-    ensures { (class : ℕ) → ends plan.now class result ≡ and_then (there (value_at (contents_of plan.now top cells.now) (place_of plan.now top place))) read_as }
+    ensures { (class : ℕ) → ends plan.now class result
+        ≡ and_then (there (value_at (contents_of plan.now top cells.now) (place_of plan.now top place))) read_as }
 {
     match plan.cell(top, place) {
         Some(number) => word_at(cells, number),
@@ -352,7 +376,8 @@ fn read_in(cells: &Cells, plan: &Plan, top: usize, place: usize) -> Result<Word,
 #[tactic(auto, using(crate::proofs::Writes::past_get))]
 #[inline(always)]
 fn word_at(cells: &Cells, number: usize) -> Result<Word, Stop>
-    ensures { (plan : Planned) (class : ℕ) → ends plan class result ≡ read_as (slice_index_or cells.now number kept.Nothing) }
+    ensures { (plan : Planned) (class : ℕ) → ends plan class result
+        ≡ read_as (slice_index_or cells.now number kept.Nothing) }
 {
     match cells.get(number) {
         Some(cell) => word_of(cell),

@@ -36,7 +36,8 @@ pub fn fetch(
     locals: &[Word],
 ) -> Result<Word, Stop>
     requires { class ≤ classes_in plan.now }
-    ensures { ended plan.now class (ends plan.now class result) store.now locals.now ≡ fetch_of (target_seen plan.now class target) (state_of plan.now class store.now locals.now) }
+    ensures { ended plan.now class (ends plan.now class result) store.now locals.now
+        ≡ fetch_of (target_seen plan.now class target) (state_of plan.now class store.now locals.now) }
 {
     match target {
         Target::Local(kind, number) => locals::read(locals, kind, usize::from(number)),
@@ -79,7 +80,9 @@ pub fn put(
     locals: &mut [Word],
 ) -> Result<Word, Stop>
     requires { class ≤ classes_in plan.now }
-    ensures end { ended plan.now class (ends plan.now class result) store.new locals.new ≡ put_of (target_seen plan.now class target) (seen plan.now class value) (state_of plan.now class store.old locals.old) }
+    ensures end { ended plan.now class (ends plan.now class result) store.new locals.new
+        ≡ put_of (target_seen plan.now class target) (seen plan.now class value)
+        (state_of plan.now class store.old locals.old) }
     ensures turns { store.new.turns ≡ store.old.turns }
 {
     match target {

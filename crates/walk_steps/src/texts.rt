@@ -1,24 +1,25 @@
-//! Strs and Bufs: their calls and their bytes.
-ghost use Rattle.std.specs.Prelude.{◌≡◌, ◌≤◌, ◌<◌, ◌-◌, ◌++◌, ℕ, drop, List, IfOk, IfSome, length, map, pos, replicate, take, slice_get, slice_index, slice_set};
+//! Strs: their calls and their bytes.
+ghost use Rattle.std.specs.Prelude.{◌≡◌, ◌≤◌, ◌<◌, ◌-◌, ◌++◌, ℕ, drop, List, IfOk, IfSome, length, map, pos, replicate};
+ghost use Rattle.std.specs.Prelude.{take, slice_get, slice_index, slice_set};
 ghost use Rattle.std.specs.Option.{option_copied};
 ghost use Rattle.std.specs.Str.{bytes_eq};
 ghost use Rattle.walk_steps.specs.Targets.{character_put, put_character, literal_copied, text_copied};
 ghost use Rattle.sed_engine.specs.declared.trap.Trap.TheVariants.{OutOfRange};
 ghost use Rattle.sed_engine.specs.Stops.{Traps, and_then, map_ok, there};
 ghost use Rattle.sed_engine.specs.Values as val;
-ghost use Rattle.sed_engine.specs.Places.{field_spot};
-ghost use Rattle.sed_engine.specs.Expressions.{text_bytes, text_call, buf_bytes as bytes_of_buf, buf_size as size_of_buf, buf_byte as byte_of_buf, operand as operand_in, changeable as changeable_of};
-ghost use Rattle.sed_engine.specs.Texts.{index_of as index_in, characters as characters_of, with_character as with_character_at, filled as filled_with};
+ghost use Rattle.sed_engine.specs.Expressions.{text_bytes, text_call, operand as operand_in};
+ghost use Rattle.sed_engine.specs.Expressions.{changeable as changeable_of};
+ghost use Rattle.sed_engine.specs.Texts.{index_of as index_in, characters as characters_of};
+ghost use Rattle.sed_engine.specs.Texts.{with_character as with_character_at, filled as filled_with};
 ghost use Rattle.sed_engine.specs.State.{answers, gives, then_do};
 ghost use Rattle.sed_engine.specs.Steps.{read_bytes, write_bytes};
 ghost use Rattle.sed_typed.specs.declared.operators.Width.TheVariants.{Int as IntWidth};
 ghost use Rattle.sed_cells.specs.Places.{Plan as Planned, classes_in};
 ghost use Rattle.walk_steps.specs.Seen.{seen, ends, as_it_is, spot_seen, spots_seen};
-ghost use Rattle.walk_steps.specs.Stored.{stepped, shared_of};
+ghost use Rattle.walk_steps.specs.Stored.{stepped, with_locals};
 ghost use Rattle.walk_steps.specs.Targets.{lent, text_lent, literal_in, as_text};
 
 use crate::places::{index_of, place_of};
-use crate::reach;
 use crate::store::Store;
 use crate::word::{Base, Stop, Word};
 use sed_cells::Plan;
@@ -37,7 +38,9 @@ pub fn call(
 ) -> Result<Word, Stop>
     requires { class ≤ classes_in plan.now }
     ensures end { (locals : List val.Val) →
-        stepped plan.now class (ends plan.now class result) store.new locals ≡ text_call plan.now.program.texts op (seen plan.now class value) (map (seen plan.now class) operands.now) (record { shared = shared_of plan.now class store.old; locals = locals }) }
+        stepped plan.now class (ends plan.now class result) store.new locals
+        ≡ text_call plan.now.program.texts op (seen plan.now class value) (map (seen plan.now class) operands.now)
+        (with_locals plan.now class store.old locals) }
     ensures turns { store.new.turns ≡ store.old.turns }
 {
     match op {
@@ -51,7 +54,8 @@ pub fn call(
 
 // An operand by its place.
 fn operand(operands: &[Word], at: usize) -> Word
-    ensures { (plan : Planned) (class : ℕ) → seen plan class result ≡ operand_in (map (seen plan class) operands.now) at }
+    ensures { (plan : Planned) (class : ℕ) → seen plan class result
+        ≡ operand_in (map (seen plan class) operands.now) at }
 {
     match operands.get(at) {
         Some(word) => *word,
@@ -73,7 +77,8 @@ fn literal_number(value: Word) -> Option<u16>
 fn text<'a>(plan: &'a Plan, class: usize, value: Word, store: &'a Store) -> Result<&'a [u8], Stop>
     requires { class ≤ classes_in plan.now }
     ensures read { (locals : List val.Val) →
-        stepped plan.now class (text_lent (seen plan.now class value) result) store.now locals ≡ text_bytes plan.now.program.texts (seen plan.now class value) (record { shared = shared_of plan.now class store.now; locals = locals }) }
+        stepped plan.now class (text_lent (seen plan.now class value) result) store.now locals
+        ≡ text_bytes plan.now.program.texts (seen plan.now class value) (with_locals plan.now class store.now locals) }
     ensures few { IfOk result (λ bytes. length bytes.now ≤ 255) }
 {
     match literal_number(value) {
@@ -107,7 +112,9 @@ fn literal(plan: &Plan, number: usize) -> Option<&[u8]>
 fn kept_text<'a>(plan: &Plan, class: usize, value: Word, store: &'a Store) -> Result<&'a [u8], Stop>
     requires { class ≤ classes_in plan.now }
     ensures read { (locals : List val.Val) →
-        stepped plan.now class (lent result) store.now locals ≡ then_do (answers (val.spot_of (seen plan.now class value)) (record { shared = shared_of plan.now class store.now; locals = locals })) (λ spot s1. read_bytes spot s1) }
+        stepped plan.now class (lent result) store.now locals
+        ≡ then_do (answers (val.spot_of (seen plan.now class value))
+        (with_locals plan.now class store.now locals)) (λ spot s1. read_bytes spot s1) }
     ensures few { IfOk result (λ bytes. length bytes.now ≤ 255) }
 {
     match place_of(value) {
@@ -133,7 +140,9 @@ fn characters(bytes: &[u8]) -> &[u8]
 fn count(plan: &Plan, class: usize, value: Word, store: &Store) -> Result<Word, Stop>
     requires { class ≤ classes_in plan.now }
     ensures { (operands : List val.Val) (locals : List val.Val) →
-        stepped plan.now class (ends plan.now class result) store.now locals ≡ text_call plan.now.program.texts TextCall.Length (seen plan.now class value) operands (record { shared = shared_of plan.now class store.now; locals = locals }) }
+        stepped plan.now class (ends plan.now class result) store.now locals
+        ≡ text_call plan.now.program.texts TextCall.Length (seen plan.now class value)
+        operands (with_locals plan.now class store.now locals) }
 {
     match text(plan, class, value, store) {
         Ok(bytes) => Ok(char_count(bytes)),
@@ -158,7 +167,9 @@ fn get(
 ) -> Result<Word, Stop>
     requires { class ≤ classes_in plan.now }
     ensures { (locals : List val.Val) →
-        stepped plan.now class (ends plan.now class result) store.now locals ≡ text_call plan.now.program.texts TextCall.Get (seen plan.now class value) (map (seen plan.now class) operands.now) (record { shared = shared_of plan.now class store.now; locals = locals }) }
+        stepped plan.now class (ends plan.now class result) store.now locals
+        ≡ text_call plan.now.program.texts TextCall.Get (seen plan.now class value)
+        (map (seen plan.now class) operands.now) (with_locals plan.now class store.now locals) }
 {
     match text(plan, class, value, store) {
         Ok(bytes) => byte_of(bytes, text_len(value, bytes), operand(operands, 0)),
@@ -167,7 +178,8 @@ fn get(
 }
 
 fn byte_of(bytes: &[u8], count: usize, index: Word) -> Result<Word, Stop>
-    ensures { (plan : Planned) (class : ℕ) → ends plan class result ≡ map_ok (λ i. val.Int (pos (slice_index bytes.now i))) (index_in count (seen plan class index)) }
+    ensures { (plan : Planned) (class : ℕ) → ends plan class result
+        ≡ map_ok (λ i. val.Int (pos (slice_index bytes.now i))) (index_in count (seen plan class index)) }
 {
     match index_of(count, index) {
         Ok(at) => Ok(Word::Int(i32::from(byte_at(bytes, at)))),
@@ -187,7 +199,7 @@ fn text_len(value: Word, bytes: &[u8]) -> usize
 }
 
 // A byte, 0 past the last one.
-fn byte_at(bytes: &[u8], at: usize) -> u8
+pub(crate) fn byte_at(bytes: &[u8], at: usize) -> u8
     ensures { result ≡ slice_index bytes.now at }
 {
     match bytes.get(at) {
@@ -206,7 +218,9 @@ fn set(
 ) -> Result<Word, Stop>
     requires { class ≤ classes_in plan.now }
     ensures end { (locals : List val.Val) →
-        stepped plan.now class (ends plan.now class result) store.new locals ≡ text_call plan.now.program.texts TextCall.Set (seen plan.now class value) (map (seen plan.now class) operands.now) (record { shared = shared_of plan.now class store.old; locals = locals }) }
+        stepped plan.now class (ends plan.now class result) store.new locals
+        ≡ text_call plan.now.program.texts TextCall.Set (seen plan.now class value)
+        (map (seen plan.now class) operands.now) (with_locals plan.now class store.old locals) }
     ensures turns { store.new.turns ≡ store.old.turns }
 {
     let index = operand(operands, 0);
@@ -228,7 +242,9 @@ fn set_at(
 ) -> Result<Word, Stop>
     requires { class ≤ classes_in plan.now }
     ensures end { (locals : List val.Val) →
-        stepped plan.now class (ends plan.now class result) store.new locals ≡ put_character (spot_seen plan.now class base place) (seen plan.now class index) (seen plan.now class character) (record { shared = shared_of plan.now class store.old; locals = locals }) }
+        stepped plan.now class (ends plan.now class result) store.new locals
+        ≡ put_character (spot_seen plan.now class base place) (seen plan.now class index)
+        (seen plan.now class character) (with_locals plan.now class store.old locals) }
     ensures turns { store.new.turns ≡ store.old.turns }
 {
     let new = with_character_in(plan, class, base, place, index, character, store);
@@ -247,7 +263,9 @@ fn with_character_in(
 ) -> Result<Bytes255, Stop>
     requires { class ≤ classes_in plan.now }
     ensures { (locals : List val.Val) →
-        stepped plan.now class (as_it_is result) store.now locals ≡ then_do (read_bytes (spot_seen plan.now class base place) (record { shared = shared_of plan.now class store.now; locals = locals })) (λ bytes s1. answers (character_put bytes (seen plan.now class index) (seen plan.now class character)) s1) }
+        stepped plan.now class (as_it_is result) store.now locals
+        ≡ then_do (read_bytes (spot_seen plan.now class base place) (with_locals plan.now class store.now locals))
+        (λ bytes s1. answers (character_put bytes (seen plan.now class index) (seen plan.now class character)) s1) }
 {
     match store.bytes(plan, class, base, place) {
         Ok(bytes) => with_character(bytes, index, character),
@@ -266,7 +284,9 @@ fn write_result(
 ) -> Result<Word, Stop>
     requires { class ≤ classes_in plan.now }
     ensures end { (locals : List val.Val) →
-        stepped plan.now class (ends plan.now class result) store.new locals ≡ then_do (answers (as_it_is new) (record { shared = shared_of plan.now class store.old; locals = locals })) (λ bytes s1. write_bytes (spot_seen plan.now class base place) bytes s1) }
+        stepped plan.now class (ends plan.now class result) store.new locals
+        ≡ then_do (answers (as_it_is new) (with_locals plan.now class store.old locals))
+        (λ bytes s1. write_bytes (spot_seen plan.now class base place) bytes s1) }
     ensures turns { store.new.turns ≡ store.old.turns }
 {
     match new {
@@ -288,7 +308,8 @@ fn changeable(value: Word) -> Result<(Base, usize), Stop>
 // The bytes with a character at an index: the index is tested.
 fn with_character(bytes: &[u8], index: Word, character: Word) -> Result<Bytes255, Stop>
     requires { length bytes.now ≤ 255 }
-    ensures { (plan : Planned) (class : ℕ) → as_it_is result ≡ character_put bytes.now (seen plan class index) (seen plan class character) }
+    ensures { (plan : Planned) (class : ℕ)
+        → as_it_is result ≡ character_put bytes.now (seen plan class index) (seen plan class character) }
 {
     match index_of(bytes.len().saturating_sub(1), index) {
         Ok(at) => character_at(bytes, at, character),
@@ -299,7 +320,9 @@ fn with_character(bytes: &[u8], index: Word, character: Word) -> Result<Bytes255
 fn character_at(bytes: &[u8], at: usize, character: Word) -> Result<Bytes255, Stop>
     requires few { length bytes.now ≤ 255 }
     requires within { at < length bytes.now }
-    ensures { (plan : Planned) (class : ℕ) → as_it_is result ≡ map_ok (λ c. with_character_at bytes.now at c) (val.whole IntWidth (seen plan class character)) }
+    ensures { (plan : Planned) (class : ℕ)
+        → as_it_is result ≡ map_ok (λ c. with_character_at bytes.now at c)
+        (val.whole IntWidth (seen plan class character)) }
 {
     match character {
         Word::Int(number) => Ok(changed(bytes, at, number::low_byte(number))),
@@ -330,7 +353,9 @@ fn are_equal(
 ) -> Result<Word, Stop>
     requires { class ≤ classes_in plan.now }
     ensures { (locals : List val.Val) →
-        stepped plan.now class (ends plan.now class result) store.now locals ≡ text_call plan.now.program.texts TextCall.Equals (seen plan.now class value) (map (seen plan.now class) operands.now) (record { shared = shared_of plan.now class store.now; locals = locals }) }
+        stepped plan.now class (ends plan.now class result) store.now locals
+        ≡ text_call plan.now.program.texts TextCall.Equals (seen plan.now class value)
+        (map (seen plan.now class) operands.now) (with_locals plan.now class store.now locals) }
 {
     let other = operand(operands, 0);
     match text(plan, class, value, store) {
@@ -340,7 +365,8 @@ fn are_equal(
 }
 
 fn equal_to(a: &[u8], b: Result<&[u8], Stop>) -> Result<Word, Stop>
-    ensures { (plan : Planned) (class : ℕ) → ends plan class result ≡ map_ok (λ b. val.truth (bytes_eq (characters_of a.now) (characters_of b))) (lent b.entry) }
+    ensures { (plan : Planned) (class : ℕ) → ends plan class result
+        ≡ map_ok (λ b. val.truth (bytes_eq (characters_of a.now) (characters_of b))) (lent b.entry) }
 {
     match b {
         Ok(b) => Ok(Word::of_bool(characters(a) == characters(b))),
@@ -359,7 +385,9 @@ fn copy(
 ) -> Result<Word, Stop>
     requires { class ≤ classes_in plan.now }
     ensures end { (locals : List val.Val) →
-        stepped plan.now class (ends plan.now class result) store.new locals ≡ text_call plan.now.program.texts TextCall.Copy (seen plan.now class value) (map (seen plan.now class) operands.now) (record { shared = shared_of plan.now class store.old; locals = locals }) }
+        stepped plan.now class (ends plan.now class result) store.new locals
+        ≡ text_call plan.now.program.texts TextCall.Copy (seen plan.now class value)
+        (map (seen plan.now class) operands.now) (with_locals plan.now class store.old locals) }
     ensures turns { store.new.turns ≡ store.old.turns }
 {
     let other = operand(operands, 0);
@@ -379,7 +407,9 @@ fn refuse_copy(
 ) -> Result<Word, Stop>
     requires { class ≤ classes_in plan.now }
     ensures { (locals : List val.Val) →
-        stepped plan.now class (ends plan.now class result) store.now locals ≡ literal_copied plan.now.program.texts (seen plan.now class value) (seen plan.now class other) (record { shared = shared_of plan.now class store.now; locals = locals }) }
+        stepped plan.now class (ends plan.now class result) store.now locals
+        ≡ literal_copied plan.now.program.texts (seen plan.now class value)
+        (seen plan.now class other) (with_locals plan.now class store.now locals) }
 {
     match text(plan, class, value, store) {
         Ok(_) => refuse(text(plan, class, other, store)),
@@ -388,7 +418,8 @@ fn refuse_copy(
 }
 
 fn refuse(other: Result<&[u8], Stop>) -> Result<Word, Stop>
-    ensures { (plan : Planned) (class : ℕ) → ends plan class result ≡ and_then (lent other.entry) (λ _. Err (Traps OutOfRange)) }
+    ensures { (plan : Planned) (class : ℕ) → ends plan class result
+        ≡ and_then (lent other.entry) (λ _. Err (Traps OutOfRange)) }
 {
     match other {
         Ok(_) => Err(Stop::Trapped(Trap::OutOfRange)),
@@ -406,7 +437,9 @@ fn copy_into(
 ) -> Result<Word, Stop>
     requires { class ≤ classes_in plan.now }
     ensures end { (locals : List val.Val) →
-        stepped plan.now class (ends plan.now class result) store.new locals ≡ then_do (answers (val.spot_of (seen plan.now class value)) (record { shared = shared_of plan.now class store.old; locals = locals })) (λ spot s1. text_copied plan.now.program.texts spot (seen plan.now class other) s1) }
+        stepped plan.now class (ends plan.now class result) store.new locals
+        ≡ then_do (answers (val.spot_of (seen plan.now class value)) (with_locals plan.now class store.old locals))
+        (λ spot s1. text_copied plan.now.program.texts spot (seen plan.now class other) s1) }
     ensures turns { store.new.turns ≡ store.old.turns }
 {
     match place_of(value) {
@@ -425,7 +458,9 @@ fn copy_at(
 ) -> Result<Word, Stop>
     requires { class ≤ classes_in plan.now }
     ensures end { (locals : List val.Val) →
-        stepped plan.now class (ends plan.now class result) store.new locals ≡ text_copied plan.now.program.texts (spot_seen plan.now class base place) (seen plan.now class other) (record { shared = shared_of plan.now class store.old; locals = locals }) }
+        stepped plan.now class (ends plan.now class result) store.new locals
+        ≡ text_copied plan.now.program.texts (spot_seen plan.now class base place)
+        (seen plan.now class other) (with_locals plan.now class store.old locals) }
     ensures turns { store.new.turns ≡ store.old.turns }
 {
     let new = filled_in(plan, class, base, place, other, store);
@@ -443,7 +478,10 @@ fn filled_in(
 ) -> Result<Bytes255, Stop>
     requires { class ≤ classes_in plan.now }
     ensures { (locals : List val.Val) →
-        stepped plan.now class (as_it_is result) store.now locals ≡ then_do (read_bytes (spot_seen plan.now class base place) (record { shared = shared_of plan.now class store.now; locals = locals })) (λ old s1. then_do (text_bytes plan.now.program.texts (seen plan.now class other) s1) (λ new s2. gives (filled_with (length old) (characters_of new)) s2)) }
+        stepped plan.now class (as_it_is result) store.now locals
+        ≡ then_do (read_bytes (spot_seen plan.now class base place) (with_locals plan.now class store.now locals))
+        (λ old s1. then_do (text_bytes plan.now.program.texts (seen plan.now class other) s1)
+        (λ new s2. gives (filled_with (length old) (characters_of new)) s2)) }
 {
     match store.bytes(plan, class, base, place) {
         Ok(old) => filled_from(old, text(plan, class, other, store)),
@@ -499,55 +537,4 @@ fn copy_front(into: &mut [u8], bytes: &[u8])
     ensures { into.new ≡ bytes.now ++ drop (length bytes.now) into.old }
 {
     into[..bytes.len()].copy_from_slice(bytes);
-}
-
-// The bytes of the Buf in a field of an object: null traps.
-fn buf_bytes<'a>(
-    plan: &Plan,
-    class: usize,
-    object: Word,
-    number: usize,
-    store: &'a Store,
-) -> Result<&'a [u8], Stop>
-    requires { class ≤ classes_in plan.now }
-    ensures read { (locals : List val.Val) →
-        stepped plan.now class (lent result) store.now locals ≡ bytes_of_buf (seen plan.now class object) number (record { shared = shared_of plan.now class store.now; locals = locals }) }
-    ensures few { IfOk result (λ bytes. length bytes.now ≤ 255) }
-{
-    let found = reach::field(plan, class, object, number);
-    reach::bytes(store, plan, class, found)
-}
-
-/// How many bytes the Buf in a field of an object has: null traps.
-pub fn buf_size(
-    plan: &Plan,
-    class: usize,
-    object: Word,
-    number: usize,
-    store: &Store,
-) -> Result<Word, Stop>
-    requires { class ≤ classes_in plan.now }
-    ensures { (locals : List val.Val) →
-        stepped plan.now class (ends plan.now class result) store.now locals ≡ size_of_buf (seen plan.now class object) number (record { shared = shared_of plan.now class store.now; locals = locals }) }
-{
-    let bytes = buf_bytes(plan, class, object, number, store)?;
-    Ok(Word::Int(bytes.len() as i32))
-}
-
-/// A byte of the Buf in a field of an object: null is tested, then the index.
-pub fn buf_byte(
-    plan: &Plan,
-    class: usize,
-    object: Word,
-    number: usize,
-    index: Word,
-    store: &Store,
-) -> Result<Word, Stop>
-    requires { class ≤ classes_in plan.now }
-    ensures { (locals : List val.Val) →
-        stepped plan.now class (ends plan.now class result) store.now locals ≡ byte_of_buf (seen plan.now class object) number (seen plan.now class index) (record { shared = shared_of plan.now class store.now; locals = locals }) }
-{
-    let bytes = buf_bytes(plan, class, object, number, store)?;
-    let at = index_of(bytes.len(), index)?;
-    Ok(Word::Int(i32::from(byte_at(bytes, at))))
 }

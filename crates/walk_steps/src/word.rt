@@ -87,7 +87,8 @@ impl Word {
     /// Whether it meets a condition, as a truth value.
     #[inline(always)]
     pub fn met(self) -> Result<Word, Stop>
-        ensures { (plan : Plan) (class : ℕ) → ends plan class result ≡ map_ok val.truth (is_met (seen plan class self)) }
+        ensures { (plan : Plan) (class : ℕ) → ends plan class result
+            ≡ map_ok val.truth (is_met (seen plan class self)) }
     {
         match self {
             Word::Truth(truth) => Ok(Word::of_bool(truth != 0)),

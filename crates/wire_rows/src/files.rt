@@ -117,8 +117,8 @@ impl Write for Stuck {
     }
 }
 
-/// What the sink over a writer answers to two pieces, and what the writer has then; and what one answers to a piece whose
-/// writer takes nothing, or does not send it on.
+/// What the sink over a writer answers to two pieces, and what the writer has then; and what one answers to a piece
+/// whose writer takes nothing, or does not send it on.
 pub fn writers(case: &mut Case) {
     let first = case.bytes();
     let second = case.bytes();

@@ -64,8 +64,8 @@ pub fn verifying(case: &mut Case) {
     }
 }
 
-/// What comes of each value that a byte of the image may have: of several of which the same comes, one behind the other,
-/// the first and the last one stand.
+/// What comes of each value that a byte of the image may have: of several of which the same comes, one behind the
+/// other, the first and the last one stand.
 pub fn values(case: &mut Case) {
     let place = case.number();
     let mut bytes = case.bytes_in(SYS, 0);

@@ -58,7 +58,8 @@ fn tell_next<R: time::Clock, L: Link>(case: &mut Case, rt: &R, link: &mut L, por
     }
 }
 
-// Sleeps for 20 ms, and until a moment that has passed: whether the clock runs, and the sleeps are long and short enough.
+// Sleeps for 20 ms, and until a moment that has passed: whether the clock runs, and the sleeps are long and short
+// enough.
 fn try_clock<R: time::Clock>(case: &mut Case, rt: &R) {
     let mut clock = RealClock::new(rt);
     let start = clock.now();

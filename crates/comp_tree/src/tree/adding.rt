@@ -1,5 +1,6 @@
 //! Components that come.
-ghost use Rattle.std.specs.Prelude.{◌≡◌, ◌≢◌, ◌↔◌, ◌<◌, ◌≤◌, ◌+◌, ◌++◌, ◌∷◌, ℕ, [], false, IsTrue, IsSome, IfErr, IfOk, IfSome, OnOk, OnErr, MatchResult, length, Some, None, Err};
+ghost use Rattle.std.specs.Prelude.{◌≡◌, ◌≢◌, ◌↔◌, ◌<◌, ◌≤◌, ◌+◌, ◌++◌, ◌∷◌, ℕ, [], false, IsTrue, IsSome, IfErr, IfOk};
+ghost use Rattle.std.specs.Prelude.{IfSome, OnOk, OnErr, MatchResult, length, Some, None, Err};
 ghost use Rattle.std.specs.FinMap as map;
 ghost use Rattle.sed_engine.specs.Code.{is_creatable};
 ghost use Rattle.sed_value.specs.declared.refusal.Refusal.TheVariants.{OutOfMemory};
@@ -53,11 +54,20 @@ impl<E: Engine> Tree<E> {
         requires most_turns { turns ≤ 1000000 }
         ensures id { IfOk result (λ id. id.0 ≡ least_free (components_of E.Engine self.old).by_id) }
         ensures fresh { IfOk result (λ id. map.get (components_of E.Engine self.old).by_id id.0 ≡ None) }
-        ensures done { OnOk result (components_of E.Engine self.new ≡ (after_add (E.meaning self.old.engine) (components_of E.Engine self.old) parent.0 (class_or_none (E.meaning self.old.engine) kit number) name.now config.now turns ticks).left) }
-        ensures allowed { OnOk result (first_refusal (refusals_of_add (E.meaning self.old.engine) (components_of E.Engine self.old) parent.0 kit number name.now config.now) ≡ None) }
-        ensures refused { IfErr result (λ refusal. refusal ≢ OutOfMemory → first_refusal (refusals_of_add (E.meaning self.old.engine) (components_of E.Engine self.old) parent.0 kit number name.now config.now) ≡ Some refusal) }
-        ensures memory { result ≡ Err OutOfMemory → (E.fixed self.old.engine ≡ false) × (first_refusal (refusals_of_add (E.meaning self.old.engine) (components_of E.Engine self.old) parent.0 kit number name.now config.now) ≡ None) }
-        ensures marks { MatchResult result (λ id. KeepsMarks E.Engine (added_at parent.0 id.0) self.old self.new) (λ _. KeepsMarks E.Engine no_marks self.old self.new) }
+        ensures done { OnOk result (components_of E.Engine self.new
+            ≡ (after_add (E.meaning self.old.engine) (components_of E.Engine self.old)
+            parent.0 (class_or_none (E.meaning self.old.engine) kit number) name.now config.now turns ticks).left) }
+        ensures allowed { OnOk result
+            (first_refusal (refusals_of_add (E.meaning self.old.engine) (components_of E.Engine self.old)
+            parent.0 kit number name.now config.now) ≡ None) }
+        ensures refused { IfErr result (λ refusal. refusal ≢ OutOfMemory
+            → first_refusal (refusals_of_add (E.meaning self.old.engine)
+            (components_of E.Engine self.old) parent.0 kit number name.now config.now) ≡ Some refusal) }
+        ensures memory { result ≡ Err OutOfMemory → (E.fixed self.old.engine ≡ false)
+            × (first_refusal (refusals_of_add (E.meaning self.old.engine)
+            (components_of E.Engine self.old) parent.0 kit number name.now config.now) ≡ None) }
+        ensures marks { MatchResult result (λ id. KeepsMarks E.Engine (added_at parent.0 id.0) self.old self.new)
+            (λ _. KeepsMarks E.Engine no_marks self.old self.new) }
         ensures set { IfOk result (λ id. (at : ℕ) → marks_at self.new id.0 at ≡ all_parts) }
         ensures stays { OnErr result (components_of E.Engine self.new ≡ components_of E.Engine self.old) }
         ensures meaning { E.meaning self.new.engine ≡ E.meaning self.old.engine }
@@ -86,8 +96,11 @@ impl<E: Engine> Tree<E> {
         name: &[u8],
         config: &[u8],
     ) -> Result<Newcomer, Refusal>
-        ensures { MatchResult result (λ new. MayAdd (E.meaning self.now.engine) (components_of E.Engine self.now) parent.0 kit number name.now config.now new.kind.0 new.name)
-            (λ refusal. first_refusal (refusals_of_add (E.meaning self.now.engine) (components_of E.Engine self.now) parent.0 kit number name.now config.now) ≡ Some refusal) }
+        ensures { MatchResult result (λ new.
+            MayAdd (E.meaning self.now.engine) (components_of E.Engine self.now)
+            parent.0 kit number name.now config.now new.kind.0 new.name)
+            (λ refusal. first_refusal (refusals_of_add (E.meaning self.now.engine)
+            (components_of E.Engine self.now) parent.0 kit number name.now config.now) ≡ Some refusal) }
     {
         let Some(_above) = self.nodes.get(parent) else {
             return Err(Refusal::NoComponent);
@@ -121,10 +134,16 @@ impl<E: Engine> Tree<E> {
         ensures id { IfOk result (λ id. id.0 ≡ least_free (components_of E.Engine self.old).by_id) }
         ensures fresh { IfOk result (λ id. map.get (components_of E.Engine self.old).by_id id.0 ≡ None) }
         ensures live { IfOk result (λ id. IsTrue (is_live (components_of E.Engine self.new).by_id id.0)) }
-        ensures done { IfOk result (λ id. components_of E.Engine self.new ≡ with_components (components_of E.Engine self.old) (added (E.meaning self.old.engine) (components_of E.Engine self.old).by_id id.0 parent.0 kind.0 name (taken (config_types (E.meaning self.old.engine) kind.0) config.now))) }
-        ensures full { (result ≡ Err AddRefusal.DataFull) ↔ ((components_of E.Engine self.old).limit < data_size_of (E.meaning self.old.engine) (components_of E.Engine self.old).by_id + (E.meaning self.old.engine).data_size kind.0) }
+        ensures done { IfOk result (λ id. components_of E.Engine self.new
+            ≡ with_components (components_of E.Engine self.old)
+            (added (E.meaning self.old.engine) (components_of E.Engine self.old).by_id
+            id.0 parent.0 kind.0 name (taken (config_types (E.meaning self.old.engine) kind.0) config.now))) }
+        ensures full { (result ≡ Err AddRefusal.DataFull) ↔ ((components_of E.Engine self.old).limit
+            < data_size_of (E.meaning self.old.engine) (components_of E.Engine self.old).by_id
+            + (E.meaning self.old.engine).data_size kind.0) }
         ensures memory { result ≡ Err AddRefusal.Memory → E.fixed self.old.engine ≡ false }
-        ensures marks { MatchResult result (λ id. KeepsMarks E.Engine (added_at parent.0 id.0) self.old self.new) (λ _. KeepsMarks E.Engine no_marks self.old self.new) }
+        ensures marks { MatchResult result (λ id. KeepsMarks E.Engine (added_at parent.0 id.0) self.old self.new)
+            (λ _. KeepsMarks E.Engine no_marks self.old self.new) }
         ensures set { IfOk result (λ id. (at : ℕ) → marks_at self.new id.0 at ≡ all_parts) }
         ensures stays { OnErr result (components_of E.Engine self.new ≡ components_of E.Engine self.old) }
         ensures meaning { E.meaning self.new.engine ≡ E.meaning self.old.engine }
@@ -167,7 +186,8 @@ fn new_node(kind: TypeNo, name: Name, parent: Id, place: Place) -> Node
 fn push_child(nodes: &mut Nodes, id: Id, child: Id)
     requires live { IsSome (map.get nodes.old id.0) }
     requires few { IfSome (map.get nodes.old id.0) (λ node. length node.children < most_children) }
-    ensures { IfSome (map.get nodes.old id.0) (λ node. nodes.new ≡ map.insert nodes.old id.0 (with_children (node.children ++ child.0 ∷ []) node)) }
+    ensures { IfSome (map.get nodes.old id.0) (λ node. nodes.new
+        ≡ map.insert nodes.old id.0 (with_children (node.children ++ child.0 ∷ []) node)) }
 {
     if let Some(mut node) = nodes.remove(id) {
         node.children.push(child.0);

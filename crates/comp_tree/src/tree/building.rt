@@ -24,12 +24,15 @@ impl<E: Engine> Tree<E> {
     pub fn build(alloc: Global, engine: E, entries: &[Loaded]) -> Result<Tree<E>, AddRefusal>
         requires no_objects { E.live engine ≡ map.empty }
         requires entries { AreToLoad (E.meaning engine) entries.now }
-        ensures built { IfOk result (λ t. components_of E.Engine t ≡ loaded_components (E.meaning engine) (E.statics engine) (E.limit engine) entries.now) }
+        ensures built { IfOk result (λ t. components_of E.Engine t
+            ≡ loaded_components (E.meaning engine) (E.statics engine) (E.limit engine) entries.now) }
         ensures meaning { IfOk result (λ t. E.meaning t.engine ≡ E.meaning engine) }
         ensures steady { IfOk result (λ t. E.fixed t.engine ≡ E.fixed engine) }
         ensures marks { IfOk result (λ t. (id at : ℕ) → marks_at t id at ≡ all_parts) }
-        ensures full { result ≡ Err AddRefusal.DataFull → E.limit engine < data_size_of (E.meaning engine) (loaded (E.meaning engine) entries.now) }
-        ensures fits { OnOk result (data_size_of (E.meaning engine) (loaded (E.meaning engine) entries.now) ≤ E.limit engine) }
+        ensures full { result ≡ Err AddRefusal.DataFull
+            → E.limit engine < data_size_of (E.meaning engine) (loaded (E.meaning engine) entries.now) }
+        ensures fits { OnOk result (data_size_of (E.meaning engine) (loaded (E.meaning engine) entries.now)
+            ≤ E.limit engine) }
     {
         let mut nodes = match Nodes::new(alloc) {
             Ok(nodes) => nodes,

@@ -12,12 +12,17 @@ use sed_value::{Id, SlotBuf};
 impl<E: Engine> Tree<E> {
     ghost use Rattle.comp_tree.specs.Held.{components_of};
 
-    /// Stores the value of a property in another one, as an assignment does, and says whether what is kept there differs
-    /// from before. Both are properties of live components whose types go together; nothing else changes.
+    /// Stores the value of a property in another one, as an assignment does, and says whether what is kept there
+    /// differs from before. Both are properties of live components whose types go together; nothing else changes.
     pub fn copy(&mut self, from: Id, from_slot: u8, to: Id, to_slot: u8) -> bool
-        requires { IsTrue (go_together_if_there (type_at (E.meaning self.old.engine) (components_of E.Engine self.old).by_id from.0 from_slot) (type_at (E.meaning self.old.engine) (components_of E.Engine self.old).by_id to.0 to_slot)) }
-        ensures copied { components_of E.Engine self.new ≡ copied (E.meaning self.old.engine) (components_of E.Engine self.old) (let l : Link = record { from = from.0; from_slot = from_slot; to = to.0; to_slot = to_slot } in l) }
-        ensures changed { result ≡ has_changed (E.meaning self.old.engine) (components_of E.Engine self.old) (components_of E.Engine self.new) to.0 to_slot }
+        requires { IsTrue (go_together_if_there
+            (type_at (E.meaning self.old.engine) (components_of E.Engine self.old).by_id from.0 from_slot)
+            (type_at (E.meaning self.old.engine) (components_of E.Engine self.old).by_id to.0 to_slot)) }
+        ensures copied { components_of E.Engine self.new
+            ≡ copied (E.meaning self.old.engine) (components_of E.Engine self.old) (let l : Link =
+            record { from = from.0; from_slot = from_slot; to = to.0; to_slot = to_slot } in l) }
+        ensures changed { result ≡ has_changed (E.meaning self.old.engine)
+            (components_of E.Engine self.old) (components_of E.Engine self.new) to.0 to_slot }
         ensures marks { KeepsMarks E.Engine (values_at to.0) self.old self.new }
         ensures meaning { E.meaning self.new.engine ≡ E.meaning self.old.engine }
         ensures steady { E.fixed self.new.engine ≡ E.fixed self.old.engine }

@@ -7,7 +7,8 @@ ghost use Rattle.comp_tree.specs.Edit.{is_save};
 ghost use Rattle.comp_tree.specs.Edits.{after_invoke, after_rename, after_reorder, after_write, first_of};
 ghost use Rattle.comp_tree.specs.Links.{has_changed, store as stored};
 ghost use Rattle.comp_tree.specs.Marks.{KeepsMarks, marks_at, tree_at, values_at};
-ghost use Rattle.comp_tree.specs.Refusals.{first_refusal, invoke_types, refusals_of_invoke, refusals_of_read, refusals_of_rename, refusals_of_reorder, refusals_of_write, write_types};
+ghost use Rattle.comp_tree.specs.Refusals.{first_refusal, invoke_types, refusals_of_invoke, refusals_of_read};
+ghost use Rattle.comp_tree.specs.Refusals.{refusals_of_rename, refusals_of_reorder, refusals_of_write, write_types};
 ghost use Rattle.comp_tree.specs.Values.{taken};
 ghost use Rattle.sed_engine.specs.declared.call.Root.TheVariants.{Action as ActionRoot};
 
@@ -26,10 +27,13 @@ impl<E: Engine> Tree<E> {
     /// Gives a component another name. The first refusal of its row comes exactly where one holds,
     /// and then all is as it was.
     pub fn rename(&mut self, id: Id, name: &[u8]) -> Result<(), Refusal>
-        ensures done { OnOk result (components_of E.Engine self.new ≡ after_rename (components_of E.Engine self.old) id.0 name.now) }
+        ensures done { OnOk result (components_of E.Engine self.new
+            ≡ after_rename (components_of E.Engine self.old) id.0 name.now) }
         ensures marks { KeepsMarks E.Engine (tree_at id.0) self.old self.new }
-        ensures refused { MatchResult result (λ _. first_refusal (refusals_of_rename (components_of E.Engine self.old).by_id id.0 name.now) ≡ None)
-            (λ refusal. first_refusal (refusals_of_rename (components_of E.Engine self.old).by_id id.0 name.now) ≡ Some refusal) }
+        ensures refused { MatchResult result (λ _.
+            first_refusal (refusals_of_rename (components_of E.Engine self.old).by_id id.0 name.now) ≡ None)
+            (λ refusal. first_refusal (refusals_of_rename (components_of E.Engine self.old).by_id id.0 name.now)
+            ≡ Some refusal) }
         ensures stays { OnErr result (self.new ≡ self.old) }
         ensures meaning { E.meaning self.new.engine ≡ E.meaning self.old.engine }
         ensures steady { E.fixed self.new.engine ≡ E.fixed self.old.engine }
@@ -45,10 +49,13 @@ impl<E: Engine> Tree<E> {
     /// Puts a component's children in another order, their ids in two bytes each. The first refusal
     /// of its row comes exactly where one holds, and then all is as it was.
     pub fn reorder(&mut self, id: Id, children: &[u8]) -> Result<(), Refusal>
-        ensures done { OnOk result (components_of E.Engine self.new ≡ after_reorder (components_of E.Engine self.old) id.0 children.now) }
+        ensures done { OnOk result (components_of E.Engine self.new
+            ≡ after_reorder (components_of E.Engine self.old) id.0 children.now) }
         ensures marks { KeepsMarks E.Engine (tree_at id.0) self.old self.new }
-        ensures refused { MatchResult result (λ _. first_refusal (refusals_of_reorder (components_of E.Engine self.old).by_id id.0 children.now) ≡ None)
-            (λ refusal. first_refusal (refusals_of_reorder (components_of E.Engine self.old).by_id id.0 children.now) ≡ Some refusal) }
+        ensures refused { MatchResult result (λ _.
+            first_refusal (refusals_of_reorder (components_of E.Engine self.old).by_id id.0 children.now) ≡ None)
+            (λ refusal. first_refusal (refusals_of_reorder (components_of E.Engine self.old).by_id id.0 children.now)
+            ≡ Some refusal) }
         ensures stays { OnErr result (self.new ≡ self.old) }
         ensures meaning { E.meaning self.new.engine ≡ E.meaning self.old.engine }
         ensures steady { E.fixed self.new.engine ≡ E.fixed self.old.engine }
@@ -74,10 +81,15 @@ impl<E: Engine> Tree<E> {
     ) -> Result<(), Refusal>
         requires some_turns { 1 ≤ turns }
         requires most_turns { turns ≤ 1000000 }
-        ensures done { OnOk result (components_of E.Engine self.new ≡ after_write (E.meaning self.old.engine) (components_of E.Engine self.old) id.0 slot value.now turns ticks) }
+        ensures done { OnOk result (components_of E.Engine self.new
+            ≡ after_write (E.meaning self.old.engine) (components_of E.Engine self.old)
+            id.0 slot value.now turns ticks) }
         ensures marks { KeepsMarks E.Engine (values_at id.0) self.old self.new }
-        ensures refused { MatchResult result (λ _. first_refusal (refusals_of_write (E.meaning self.old.engine) (components_of E.Engine self.old).by_id id.0 slot value.now) ≡ None)
-            (λ refusal. first_refusal (refusals_of_write (E.meaning self.old.engine) (components_of E.Engine self.old).by_id id.0 slot value.now) ≡ Some refusal) }
+        ensures refused { MatchResult result (λ _.
+            first_refusal (refusals_of_write (E.meaning self.old.engine)
+            (components_of E.Engine self.old).by_id id.0 slot value.now) ≡ None)
+            (λ refusal. first_refusal (refusals_of_write (E.meaning self.old.engine)
+            (components_of E.Engine self.old).by_id id.0 slot value.now) ≡ Some refusal) }
         ensures stays { OnErr result (self.new ≡ self.old) }
         ensures meaning { E.meaning self.new.engine ≡ E.meaning self.old.engine }
         ensures steady { E.fixed self.new.engine ≡ E.fixed self.old.engine }
@@ -108,11 +120,18 @@ impl<E: Engine> Tree<E> {
         requires no_save { IsTrue (not (is_save id.0 slot)) }
         requires some_turns { 1 ≤ turns }
         requires most_turns { turns ≤ 1000000 }
-        ensures done { OnOk result (components_of E.Engine self.new ≡ (after_invoke (E.meaning self.old.engine) (components_of E.Engine self.old) id.0 (record { 0 = slot }) arg.now turns ticks).left) }
-        ensures end { IfOk result (λ end. end ≡ (after_invoke (E.meaning self.old.engine) (components_of E.Engine self.old) id.0 (record { 0 = slot }) arg.now turns ticks).end) }
+        ensures done { OnOk result (components_of E.Engine self.new
+            ≡ (after_invoke (E.meaning self.old.engine) (components_of E.Engine self.old)
+            id.0 (record { 0 = slot }) arg.now turns ticks).left) }
+        ensures end { IfOk result (λ end.
+            end ≡ (after_invoke (E.meaning self.old.engine) (components_of E.Engine self.old)
+            id.0 (record { 0 = slot }) arg.now turns ticks).end) }
         ensures marks { KeepsMarks E.Engine (values_at id.0) self.old self.new }
-        ensures refused { MatchResult result (λ _. first_refusal (refusals_of_invoke (E.meaning self.old.engine) (components_of E.Engine self.old).by_id id.0 slot arg.now) ≡ None)
-            (λ refusal. first_refusal (refusals_of_invoke (E.meaning self.old.engine) (components_of E.Engine self.old).by_id id.0 slot arg.now) ≡ Some refusal) }
+        ensures refused { MatchResult result (λ _.
+            first_refusal (refusals_of_invoke (E.meaning self.old.engine)
+            (components_of E.Engine self.old).by_id id.0 slot arg.now) ≡ None)
+            (λ refusal. first_refusal (refusals_of_invoke (E.meaning self.old.engine)
+            (components_of E.Engine self.old).by_id id.0 slot arg.now) ≡ Some refusal) }
         ensures stays { OnErr result (self.new ≡ self.old) }
         ensures meaning { E.meaning self.new.engine ≡ E.meaning self.old.engine }
         ensures steady { E.fixed self.new.engine ≡ E.fixed self.old.engine }
@@ -125,11 +144,14 @@ impl<E: Engine> Tree<E> {
         Ok(self.call(id, Root::Action(SlotNo(slot)), &holder, turns, ticks))
     }
 
-    /// Whether an action may be invoked with this argument: the first refusal of its row comes exactly where one holds. Of
-    /// the App's `save` it may be asked too.
+    /// Whether an action may be invoked with this argument: the first refusal of its row comes exactly where one holds.
+    /// Of the App's `save` it may be asked too.
     pub fn check_invoke(&self, id: Id, slot: u8, arg: &[u8]) -> Result<(), Refusal>
-        ensures { MatchResult result (λ _. first_refusal (refusals_of_invoke (E.meaning self.now.engine) (components_of E.Engine self.now).by_id id.0 slot arg.now) ≡ None)
-            (λ refusal. first_refusal (refusals_of_invoke (E.meaning self.now.engine) (components_of E.Engine self.now).by_id id.0 slot arg.now) ≡ Some refusal) }
+        ensures { MatchResult result (λ _.
+            first_refusal (refusals_of_invoke (E.meaning self.now.engine)
+            (components_of E.Engine self.now).by_id id.0 slot arg.now) ≡ None)
+            (λ refusal. first_refusal (refusals_of_invoke (E.meaning self.now.engine)
+            (components_of E.Engine self.now).by_id id.0 slot arg.now) ≡ Some refusal) }
     {
         match self.argument_for(id, slot, arg) {
             Ok(_value) => Ok(()),
@@ -139,10 +161,17 @@ impl<E: Engine> Tree<E> {
 
     // The value that a write gives, or why it may not.
     fn value_to_write(&self, id: Id, slot: u8, bytes: &[u8]) -> Result<Value, Refusal>
-        ensures taken { MatchResult result (λ value. first_of (taken (write_types (E.meaning self.now.engine) (components_of E.Engine self.now).by_id id.0 slot) bytes.now) ≡ value) (λ _. Unit) }
-        ensures may { MatchResult result (λ value. IsSomeAnd (map.get (components_of E.Engine self.now).by_id id.0) (λ c. IsTrue (may_store (E.meaning self.now.engine) c.class slot value))) (λ _. Unit) }
-        ensures refused { MatchResult result (λ _. first_refusal (refusals_of_write (E.meaning self.now.engine) (components_of E.Engine self.now).by_id id.0 slot bytes.now) ≡ None)
-            (λ refusal. first_refusal (refusals_of_write (E.meaning self.now.engine) (components_of E.Engine self.now).by_id id.0 slot bytes.now) ≡ Some refusal) }
+        ensures taken { MatchResult result (λ value.
+            first_of (taken (write_types (E.meaning self.now.engine) (components_of E.Engine self.now).by_id id.0 slot)
+            bytes.now) ≡ value) (λ _. Unit) }
+        ensures may { MatchResult result (λ value.
+            IsSomeAnd (map.get (components_of E.Engine self.now).by_id id.0)
+            (λ c. IsTrue (may_store (E.meaning self.now.engine) c.class slot value))) (λ _. Unit) }
+        ensures refused { MatchResult result (λ _.
+            first_refusal (refusals_of_write (E.meaning self.now.engine)
+            (components_of E.Engine self.now).by_id id.0 slot bytes.now) ≡ None)
+            (λ refusal. first_refusal (refusals_of_write (E.meaning self.now.engine)
+            (components_of E.Engine self.now).by_id id.0 slot bytes.now) ≡ Some refusal) }
     {
         let kind = match self.type_of_property(id, slot) {
             Ok(kind) => kind,
@@ -153,10 +182,15 @@ impl<E: Engine> Tree<E> {
 
     // The type of a component's property.
     fn type_of_property(&self, id: Id, slot: u8) -> Result<SlotType, Refusal>
-        ensures found { MatchResult result (λ kind. IsSomeAnd (map.get (components_of E.Engine self.now).by_id id.0) (λ c. slot_type (E.meaning self.now.engine) c.class slot ≡ Some kind)) (λ _. Unit) }
+        ensures found { MatchResult result (λ kind.
+            IsSomeAnd (map.get (components_of E.Engine self.now).by_id id.0)
+            (λ c. slot_type (E.meaning self.now.engine) c.class slot ≡ Some kind)) (λ _. Unit) }
         ensures held { MatchResult result (λ kind. IsTrue (can_be_held kind)) (λ _. Unit) }
-        ensures refused { MatchResult result (λ _. first_refusal (refusals_of_read (E.meaning self.now.engine) (components_of E.Engine self.now).by_id id.0 slot) ≡ None)
-            (λ refusal. first_refusal (refusals_of_read (E.meaning self.now.engine) (components_of E.Engine self.now).by_id id.0 slot) ≡ Some refusal) }
+        ensures refused { MatchResult result (λ _.
+            first_refusal (refusals_of_read (E.meaning self.now.engine) (components_of E.Engine self.now).by_id
+            id.0 slot) ≡ None)
+            (λ refusal. first_refusal (refusals_of_read (E.meaning self.now.engine)
+            (components_of E.Engine self.now).by_id id.0 slot) ≡ Some refusal) }
     {
         let Some(node) = self.nodes.get(id) else {
             return Err(Refusal::NoComponent);
@@ -170,10 +204,18 @@ impl<E: Engine> Tree<E> {
 
     // The argument that an invoke gives, or why it may not.
     fn argument_for(&self, id: Id, slot: u8, bytes: &[u8]) -> Result<Value, Refusal>
-        ensures taken { MatchResult result (λ value. first_of (taken (invoke_types (E.meaning self.now.engine) (components_of E.Engine self.now).by_id id.0 slot) bytes.now) ≡ value) (λ _. Unit) }
-        ensures may { MatchResult result (λ value. IsSomeAnd (map.get (components_of E.Engine self.now).by_id id.0) (λ c. IsTrue (may_call (E.meaning self.now.engine) c.class (ActionRoot (record { 0 = slot })) value))) (λ _. Unit) }
-        ensures refused { MatchResult result (λ _. first_refusal (refusals_of_invoke (E.meaning self.now.engine) (components_of E.Engine self.now).by_id id.0 slot bytes.now) ≡ None)
-            (λ refusal. first_refusal (refusals_of_invoke (E.meaning self.now.engine) (components_of E.Engine self.now).by_id id.0 slot bytes.now) ≡ Some refusal) }
+        ensures taken { MatchResult result (λ value.
+            first_of (taken (invoke_types (E.meaning self.now.engine) (components_of E.Engine self.now).by_id id.0 slot)
+            bytes.now) ≡ value) (λ _. Unit) }
+        ensures may { MatchResult result (λ value.
+            IsSomeAnd (map.get (components_of E.Engine self.now).by_id id.0)
+            (λ c. IsTrue (may_call (E.meaning self.now.engine) c.class (ActionRoot (record { 0 = slot })) value)))
+            (λ _. Unit) }
+        ensures refused { MatchResult result (λ _.
+            first_refusal (refusals_of_invoke (E.meaning self.now.engine)
+            (components_of E.Engine self.now).by_id id.0 slot bytes.now) ≡ None)
+            (λ refusal. first_refusal (refusals_of_invoke (E.meaning self.now.engine)
+            (components_of E.Engine self.now).by_id id.0 slot bytes.now) ≡ Some refusal) }
     {
         let Some(node) = self.nodes.get(id) else {
             return Err(Refusal::NoComponent);
@@ -196,9 +238,12 @@ impl<E: Engine> Tree<E> {
     // Stores a value in a property of a component, as an assignment does, and says whether what is
     // kept differs from before; the component's values are marked.
     pub(super) fn assign(&mut self, id: Id, slot: u8, value: &SlotBuf) -> bool
-        requires { IsSomeAnd (map.get (components_of E.Engine self.old).by_id id.0) (λ c. IsTrue (may_store (E.meaning self.old.engine) c.class slot value.now)) }
-        ensures stored { components_of E.Engine self.new ≡ stored (E.meaning self.old.engine) (components_of E.Engine self.old) id.0 slot value.now }
-        ensures changed { result ≡ has_changed (E.meaning self.old.engine) (components_of E.Engine self.old) (stored (E.meaning self.old.engine) (components_of E.Engine self.old) id.0 slot value.now) id.0 slot }
+        requires { IsSomeAnd (map.get (components_of E.Engine self.old).by_id id.0)
+            (λ c. IsTrue (may_store (E.meaning self.old.engine) c.class slot value.now)) }
+        ensures stored { components_of E.Engine self.new
+            ≡ stored (E.meaning self.old.engine) (components_of E.Engine self.old) id.0 slot value.now }
+        ensures changed { result ≡ has_changed (E.meaning self.old.engine) (components_of E.Engine self.old)
+            (stored (E.meaning self.old.engine) (components_of E.Engine self.old) id.0 slot value.now) id.0 slot }
         ensures marks { KeepsMarks E.Engine (values_at id.0) self.old self.new }
         ensures meaning { E.meaning self.new.engine ≡ E.meaning self.old.engine }
         ensures steady { E.fixed self.new.engine ≡ E.fixed self.old.engine }
@@ -210,9 +255,12 @@ impl<E: Engine> Tree<E> {
 
     // The same, of which the marks say nothing yet.
     fn store(&mut self, id: Id, slot: u8, value: &SlotBuf) -> bool
-        requires { IsSomeAnd (map.get (components_of E.Engine self.old).by_id id.0) (λ c. IsTrue (may_store (E.meaning self.old.engine) c.class slot value.now)) }
-        ensures stored { components_of E.Engine self.new ≡ stored (E.meaning self.old.engine) (components_of E.Engine self.old) id.0 slot value.now }
-        ensures changed { result ≡ has_changed (E.meaning self.old.engine) (components_of E.Engine self.old) (stored (E.meaning self.old.engine) (components_of E.Engine self.old) id.0 slot value.now) id.0 slot }
+        requires { IsSomeAnd (map.get (components_of E.Engine self.old).by_id id.0)
+            (λ c. IsTrue (may_store (E.meaning self.old.engine) c.class slot value.now)) }
+        ensures stored { components_of E.Engine self.new
+            ≡ stored (E.meaning self.old.engine) (components_of E.Engine self.old) id.0 slot value.now }
+        ensures changed { result ≡ has_changed (E.meaning self.old.engine) (components_of E.Engine self.old)
+            (stored (E.meaning self.old.engine) (components_of E.Engine self.old) id.0 slot value.now) id.0 slot }
         ensures marks { (other at : ℕ) → marks_at self.new other at ≡ marks_at self.old other at }
         ensures meaning { E.meaning self.new.engine ≡ E.meaning self.old.engine }
         ensures steady { E.fixed self.new.engine ≡ E.fixed self.old.engine }

@@ -30,7 +30,9 @@ impl<E: Engine> Tree<E> {
     pub fn settle(&mut self, id: Id, place: u8, mask: u8)
         requires live { IsSome (map.get (components_of E.Engine self.old).by_id id.0) }
         requires place { place < 16 }
-        ensures marks { (other at : ℕ) → marks_at self.new other at ≡ (if (other == id.0) && (at == place) then without_parts (parts_in mask) (marks_at self.old other at) else marks_at self.old other at) }
+        ensures marks { (other at : ℕ) → marks_at self.new other at
+            ≡ (if (other == id.0) && (at == place) then without_parts (parts_in mask) (marks_at self.old other at)
+            else marks_at self.old other at) }
         ensures stays { components_of E.Engine self.new ≡ components_of E.Engine self.old }
         ensures meaning { E.meaning self.new.engine ≡ E.meaning self.old.engine }
         ensures steady { E.fixed self.new.engine ≡ E.fixed self.old.engine }
@@ -44,7 +46,8 @@ impl<E: Engine> Tree<E> {
 
     // Marks these parts of a component for every place.
     pub(super) fn mark(&mut self, id: Id, parts: Parts)
-        ensures marks { (other at : ℕ) → marks_at self.new other at ≡ with_parts (only id.0 parts other) (marks_at self.old other at) }
+        ensures marks { (other at : ℕ) → marks_at self.new other at
+            ≡ with_parts (only id.0 parts other) (marks_at self.old other at) }
         ensures stays { components_of E.Engine self.new ≡ components_of E.Engine self.old }
         ensures meaning { E.meaning self.new.engine ≡ E.meaning self.old.engine }
         ensures steady { E.fixed self.new.engine ≡ E.fixed self.old.engine }

@@ -25,10 +25,14 @@ impl<E: Engine> Tree<E> {
     pub fn delete(&mut self, id: Id, turns: u32, ticks: i64) -> Result<(), Refusal>
         requires some_turns { 1 ≤ turns }
         requires most_turns { turns ≤ 1000000 }
-        ensures done { OnOk result (components_of E.Engine self.new ≡ after_delete (E.meaning self.old.engine) (components_of E.Engine self.old) id.0 turns ticks) }
-        ensures refused { MatchResult result (λ _. first_refusal (refusals_of_delete (components_of E.Engine self.old).by_id id.0) ≡ None)
-            (λ refusal. first_refusal (refusals_of_delete (components_of E.Engine self.old).by_id id.0) ≡ Some refusal) }
-        ensures marks { KeepsMarks E.Engine (tree_above (components_of E.Engine self.old).by_id id.0) self.old self.new }
+        ensures done { OnOk result (components_of E.Engine self.new
+            ≡ after_delete (E.meaning self.old.engine) (components_of E.Engine self.old) id.0 turns ticks) }
+        ensures refused { MatchResult result (λ _.
+            first_refusal (refusals_of_delete (components_of E.Engine self.old).by_id id.0) ≡ None)
+            (λ refusal. first_refusal (refusals_of_delete (components_of E.Engine self.old).by_id id.0)
+            ≡ Some refusal) }
+        ensures marks { KeepsMarks E.Engine (tree_above (components_of E.Engine self.old).by_id id.0)
+            self.old self.new }
         ensures stays { OnErr result (self.new ≡ self.old) }
         ensures meaning { E.meaning self.new.engine ≡ E.meaning self.old.engine }
         ensures steady { E.fixed self.new.engine ≡ E.fixed self.old.engine }
@@ -50,7 +54,9 @@ impl<E: Engine> Tree<E> {
         requires live { All (λ id. IsTrue (is_live (components_of E.Engine self.old).by_id id)) ids.now }
         requires some_turns { 1 ≤ turns }
         requires most_turns { turns ≤ 1000000 }
-        ensures left { components_of E.Engine self.new ≡ (call_each (E.meaning self.old.engine) Callback.Stop turns ticks (components_of E.Engine self.old) ids.now).left }
+        ensures left { components_of E.Engine self.new
+            ≡ (call_each (E.meaning self.old.engine) Callback.Stop turns
+            ticks (components_of E.Engine self.old) ids.now).left }
         ensures marks { KeepsMarks E.Engine (values_of_all ids.now) self.old self.new }
         ensures meaning { E.meaning self.new.engine ≡ E.meaning self.old.engine }
         ensures steady { E.fixed self.new.engine ≡ E.fixed self.old.engine }
@@ -65,8 +71,10 @@ impl<E: Engine> Tree<E> {
         requires live { IsTrue (is_live (components_of E.Engine self.old).by_id id.0) }
         requires below { id.0 ≢ 0 }
         requires all { ids.now ≡ subtree_of (components_of E.Engine self.old).by_id id.0 }
-        ensures marks { KeepsMarks E.Engine (tree_above (components_of E.Engine self.old).by_id id.0) self.old self.new }
-        ensures gone { components_of E.Engine self.new ≡ with_components (components_of E.Engine self.old) (removed (components_of E.Engine self.old).by_id id.0) }
+        ensures marks { KeepsMarks E.Engine (tree_above (components_of E.Engine self.old).by_id id.0)
+            self.old self.new }
+        ensures gone { components_of E.Engine self.new
+            ≡ with_components (components_of E.Engine self.old) (removed (components_of E.Engine self.old).by_id id.0) }
         ensures meaning { E.meaning self.new.engine ≡ E.meaning self.old.engine }
         ensures steady { E.fixed self.new.engine ≡ E.fixed self.old.engine }
     {

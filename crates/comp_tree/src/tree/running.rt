@@ -23,8 +23,10 @@ impl<E: Engine> Tree<E> {
         requires no_fault { fault_of (components_of E.Engine self.old).by_id id.0 ≡ 0 }
         requires some_turns { 1 ≤ turns }
         requires most_turns { turns ≤ 1000000 }
-        ensures left { components_of E.Engine self.new ≡ (execute_at (E.meaning self.old.engine) (components_of E.Engine self.old) id.0 turns ticks).left }
-        ensures end { result ≡ (execute_at (E.meaning self.old.engine) (components_of E.Engine self.old) id.0 turns ticks).end }
+        ensures left { components_of E.Engine self.new
+            ≡ (execute_at (E.meaning self.old.engine) (components_of E.Engine self.old) id.0 turns ticks).left }
+        ensures end { result ≡ (execute_at (E.meaning self.old.engine)
+            (components_of E.Engine self.old) id.0 turns ticks).end }
         ensures marks { KeepsMarks E.Engine (values_at id.0) self.old self.new }
         ensures meaning { E.meaning self.new.engine ≡ E.meaning self.old.engine }
         ensures steady { E.fixed self.new.engine ≡ E.fixed self.old.engine }
@@ -38,8 +40,10 @@ impl<E: Engine> Tree<E> {
         requires live { IsSome (map.get (components_of E.Engine self.old).by_id id.0) }
         requires some_turns { 1 ≤ turns }
         requires most_turns { turns ≤ 1000000 }
-        ensures left { components_of E.Engine self.new ≡ (Call (E.meaning self.old.engine) (components_of E.Engine self.old) id.0 c slot turns ticks).left }
-        ensures end { result ≡ (Call (E.meaning self.old.engine) (components_of E.Engine self.old) id.0 c slot turns ticks).end }
+        ensures left { components_of E.Engine self.new
+            ≡ (Call (E.meaning self.old.engine) (components_of E.Engine self.old) id.0 c slot turns ticks).left }
+        ensures end { result ≡ (Call (E.meaning self.old.engine) (components_of E.Engine self.old)
+            id.0 c slot turns ticks).end }
         ensures marks { KeepsMarks E.Engine (values_at id.0) self.old self.new }
         ensures meaning { E.meaning self.new.engine ≡ E.meaning self.old.engine }
         ensures steady { E.fixed self.new.engine ≡ E.fixed self.old.engine }
@@ -50,9 +54,11 @@ impl<E: Engine> Tree<E> {
 
     /// Sets a component's fault to 0. The one refusal comes exactly where the id is not live.
     pub fn clear(&mut self, id: Id) -> Result<(), Refusal>
-        ensures done { OnOk result (components_of E.Engine self.new ≡ after_clear (components_of E.Engine self.old) id.0) }
+        ensures done { OnOk result (components_of E.Engine self.new
+            ≡ after_clear (components_of E.Engine self.old) id.0) }
         ensures marks { KeepsMarks E.Engine no_marks self.old self.new }
-        ensures refused { MatchResult result (λ _. first_refusal (refusals_of_clear (components_of E.Engine self.old).by_id id.0) ≡ None)
+        ensures refused { MatchResult result (λ _.
+            first_refusal (refusals_of_clear (components_of E.Engine self.old).by_id id.0) ≡ None)
             (λ refusal. first_refusal (refusals_of_clear (components_of E.Engine self.old).by_id id.0) ≡ Some refusal) }
         ensures stays { OnErr result (self.new ≡ self.old) }
         ensures meaning { E.meaning self.new.engine ≡ E.meaning self.old.engine }
@@ -74,11 +80,15 @@ impl<E: Engine> Tree<E> {
         turns: u32,
         ticks: i64,
     ) -> CallEnd
-        requires may { IsSomeAnd (map.get (components_of E.Engine self.old).by_id id.0) (λ c. IsTrue (may_call (E.meaning self.old.engine) c.class which arg.now)) }
+        requires may { IsSomeAnd (map.get (components_of E.Engine self.old).by_id id.0)
+            (λ c. IsTrue (may_call (E.meaning self.old.engine) c.class which arg.now)) }
         requires some_turns { 1 ≤ turns }
         requires most_turns { turns ≤ 1000000 }
-        ensures left { components_of E.Engine self.new ≡ (run_at (E.meaning self.old.engine) (components_of E.Engine self.old) id.0 which arg.now turns ticks).left }
-        ensures end { result ≡ (run_at (E.meaning self.old.engine) (components_of E.Engine self.old) id.0 which arg.now turns ticks).end }
+        ensures left { components_of E.Engine self.new
+            ≡ (run_at (E.meaning self.old.engine) (components_of E.Engine self.old)
+            id.0 which arg.now turns ticks).left }
+        ensures end { result ≡ (run_at (E.meaning self.old.engine) (components_of E.Engine self.old)
+            id.0 which arg.now turns ticks).end }
         ensures marks { KeepsMarks E.Engine (values_at id.0) self.old self.new }
         ensures meaning { E.meaning self.new.engine ≡ E.meaning self.old.engine }
         ensures steady { E.fixed self.new.engine ≡ E.fixed self.old.engine }
@@ -90,11 +100,15 @@ impl<E: Engine> Tree<E> {
 
     // A root call on a component, where its fault is 0, of which the marks say nothing yet.
     fn run(&mut self, id: Id, which: Root, arg: &SlotBuf, turns: u32, ticks: i64) -> CallEnd
-        requires may { IsSomeAnd (map.get (components_of E.Engine self.old).by_id id.0) (λ c. IsTrue (may_call (E.meaning self.old.engine) c.class which arg.now)) }
+        requires may { IsSomeAnd (map.get (components_of E.Engine self.old).by_id id.0)
+            (λ c. IsTrue (may_call (E.meaning self.old.engine) c.class which arg.now)) }
         requires some_turns { 1 ≤ turns }
         requires most_turns { turns ≤ 1000000 }
-        ensures left { components_of E.Engine self.new ≡ (run_at (E.meaning self.old.engine) (components_of E.Engine self.old) id.0 which arg.now turns ticks).left }
-        ensures end { result ≡ (run_at (E.meaning self.old.engine) (components_of E.Engine self.old) id.0 which arg.now turns ticks).end }
+        ensures left { components_of E.Engine self.new
+            ≡ (run_at (E.meaning self.old.engine) (components_of E.Engine self.old)
+            id.0 which arg.now turns ticks).left }
+        ensures end { result ≡ (run_at (E.meaning self.old.engine) (components_of E.Engine self.old)
+            id.0 which arg.now turns ticks).end }
         ensures marks { (other at : ℕ) → marks_at self.new other at ≡ marks_at self.old other at }
         ensures meaning { E.meaning self.new.engine ≡ E.meaning self.old.engine }
         ensures steady { E.fixed self.new.engine ≡ E.fixed self.old.engine }

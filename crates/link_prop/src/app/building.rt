@@ -17,10 +17,10 @@ use std::alloc::Global;
 impl<E: Engine> App<E> {
     ghost use Rattle.comp_tree.specs.Held.{components_of};
 
-    /// A tree with these links, whose targets ascend. Each is between properties of components of the tree whose types go
-    /// together, and no component has more than 60. Room for the 8,192 links that there may be, and for the marks, is taken
-    /// here; `Memory` comes where it is refused. The links at each component are marked, for every place; the other marks are
-    /// those of the tree.
+    /// A tree with these links, whose targets ascend. Each is between properties of components of the tree whose types
+    /// go together, and no component has more than 60. Room for the 8,192 links that there may be, and for the marks,
+    /// is taken here; `Memory` comes where it is refused. The links at each component are marked, for every place; the
+    /// other marks are those of the tree.
     pub fn build(alloc: Global, tree: Tree<E>, links: &[LinkRec]) -> Result<App<E>, Memory>
         requires order { AreInOrder links.now }
         requires few { length links.now ≤ most_links }

@@ -19,13 +19,16 @@ use sed_value::Id;
 impl<E: Engine> App<E> {
     ghost use Rattle.comp_tree.specs.Held.{components_of};
 
-    /// Copies the links into a component, by ascending target slot, each as an assignment does, and calls `changed` after each
-    /// copy that changes what is stored, with so many turns, 1 to 1,000,000, at a moment in nanoseconds. It answers how many
-    /// of these calls trapped.
+    /// Copies the links into a component, by ascending target slot, each as an assignment does, and calls `changed`
+    /// after each copy that changes what is stored, with so many turns, 1 to 1,000,000, at a moment in nanoseconds. It
+    /// answers how many of these calls trapped.
     pub fn copy_into(&mut self, id: Id, turns: u32, ticks: i64) -> u32
         requires some_turns { 1 ≤ turns }
         requires most_turns { turns ≤ 1000000 }
-        ensures copied { (before : ℕ) → copied_into (E.meaning self.old.tree.engine) self.old.links turns ticks (record { left = components_of E.Engine self.old.tree; traps = before }) id.0 ≡ (let s : Counted = record { left = components_of E.Engine self.new.tree; traps = before + result } in s) }
+        ensures copied { (before : ℕ)
+            → copied_into (E.meaning self.old.tree.engine) self.old.links turns ticks
+            (record { left = components_of E.Engine self.old.tree; traps = before }) id.0
+            ≡ (let s : Counted = record { left = components_of E.Engine self.new.tree; traps = before + result } in s) }
         ensures few { result ≤ most_links }
         ensures marks { KeepsAppMarks E.Engine (values_at id.0) no_links self.old self.new }
         ensures links { self.new.links ≡ self.old.links }
@@ -50,7 +53,10 @@ fn copy_all<E: Engine>(tree: &mut Tree<E>, links: &[LinkRec], id: Id, turns: u32
     requires few { length links.now ≤ most_links }
     requires some_turns { 1 ≤ turns }
     requires most_turns { turns ≤ 1000000 }
-    ensures copied { (before : ℕ) → fold (copy_along (E.meaning tree.old.engine) turns ticks) (record { left = components_of E.Engine tree.old; traps = before }) links.now ≡ (let s : Counted = record { left = components_of E.Engine tree.new; traps = before + result } in s) }
+    ensures copied { (before : ℕ)
+        → fold (copy_along (E.meaning tree.old.engine) turns ticks)
+        (record { left = components_of E.Engine tree.old; traps = before }) links.now
+        ≡ (let s : Counted = record { left = components_of E.Engine tree.new; traps = before + result } in s) }
     ensures few { result ≤ length links.now }
     ensures marks { KeepsMarks E.Engine (values_at id.0) tree.old tree.new }
     ensures meaning { E.meaning tree.new.engine ≡ E.meaning tree.old.engine }
@@ -77,7 +83,10 @@ fn copy_one<E: Engine>(tree: &mut Tree<E>, link: LinkRec, turns: u32, ticks: i64
     requires typed { IsLink (E.meaning tree.old.engine) (components_of E.Engine tree.old).by_id link }
     requires some_turns { 1 ≤ turns }
     requires most_turns { turns ≤ 1000000 }
-    ensures copied { (traps : ℕ) → copy_along (E.meaning tree.old.engine) turns ticks (record { left = components_of E.Engine tree.old; traps = traps }) link ≡ (let s : Counted = record { left = components_of E.Engine tree.new; traps = traps + one_if result } in s) }
+    ensures copied { (traps : ℕ)
+        → copy_along (E.meaning tree.old.engine) turns ticks
+        (record { left = components_of E.Engine tree.old; traps = traps }) link
+        ≡ (let s : Counted = record { left = components_of E.Engine tree.new; traps = traps + one_if result } in s) }
     ensures marks { KeepsMarks E.Engine (values_at link.to) tree.old tree.new }
     ensures meaning { E.meaning tree.new.engine ≡ E.meaning tree.old.engine }
     ensures steady { E.fixed tree.new.engine ≡ E.fixed tree.old.engine }

@@ -19,18 +19,24 @@ use sed_value::{Id, Refusal};
 impl<E: Engine> App<E> {
     ghost use Rattle.comp_tree.specs.Held.{components_of};
 
-    /// Deletes a component and those below it, and each link at one of them. First the `stop` of each is called, depth first,
-    /// with so many turns, 1 to 1,000,000, at a moment in nanoseconds; a trap of it is no refusal. The first refusal of its
-    /// row comes exactly where one holds, and then all is as it was. It never wants memory.
+    /// Deletes a component and those below it, and each link at one of them. First the `stop` of each is called, depth
+    /// first, with so many turns, 1 to 1,000,000, at a moment in nanoseconds; a trap of it is no refusal. The first
+    /// refusal of its row comes exactly where one holds, and then all is as it was. It never wants memory.
     pub fn delete(&mut self, id: Id, turns: u32, ticks: i64) -> Result<(), Refusal>
         requires some_turns { 1 ≤ turns }
         requires most_turns { turns ≤ 1000000 }
-        ensures done { OnOk result (components_of E.Engine self.new.tree ≡ after_delete (E.meaning self.old.tree.engine) (components_of E.Engine self.old.tree) id.0 turns ticks) }
-        ensures links { OnOk result (self.new.links ≡ without_links_at (subtree_of (components_of E.Engine self.old.tree).by_id id.0) self.old.links) }
-        ensures refused { MatchResult result (λ _. first_refusal (refusals_of_delete (components_of E.Engine self.old.tree).by_id id.0) ≡ None)
-            (λ refusal. first_refusal (refusals_of_delete (components_of E.Engine self.old.tree).by_id id.0) ≡ Some refusal) }
+        ensures done { OnOk result (components_of E.Engine self.new.tree
+            ≡ after_delete (E.meaning self.old.tree.engine) (components_of E.Engine self.old.tree) id.0 turns ticks) }
+        ensures links { OnOk result (self.new.links
+            ≡ without_links_at (subtree_of (components_of E.Engine self.old.tree).by_id id.0) self.old.links) }
+        ensures refused { MatchResult result (λ _.
+            first_refusal (refusals_of_delete (components_of E.Engine self.old.tree).by_id id.0) ≡ None)
+            (λ refusal. first_refusal (refusals_of_delete (components_of E.Engine self.old.tree).by_id id.0)
+            ≡ Some refusal) }
         ensures stays { OnErr result (self.new ≡ self.old) }
-        ensures marks { KeepsAppMarks E.Engine (tree_above (components_of E.Engine self.old.tree).by_id id.0) (links_with (subtree_of (components_of E.Engine self.old.tree).by_id id.0) self.old.links) self.old self.new }
+        ensures marks { KeepsAppMarks E.Engine (tree_above (components_of E.Engine self.old.tree).by_id id.0)
+            (links_with (subtree_of (components_of E.Engine self.old.tree).by_id id.0) self.old.links)
+            self.old self.new }
         ensures meaning { E.meaning self.new.tree.engine ≡ E.meaning self.old.tree.engine }
         ensures steady { E.fixed self.new.tree.engine ≡ E.fixed self.old.tree.engine }
     {

@@ -21,12 +21,15 @@ use sed_value::{Id, Refusal};
 impl<E: Engine> App<E> {
     ghost use Rattle.comp_tree.specs.Held.{components_of};
 
-    /// Puts a link between two properties. The first refusal of its row comes exactly where one holds, and then all is as it
-    /// was. It never wants memory.
+    /// Puts a link between two properties. The first refusal of its row comes exactly where one holds, and then all is
+    /// as it was. It never wants memory.
     pub fn link(&mut self, l: LinkRec) -> Result<(), Refusal>
         ensures linked { OnOk result (self.new.links ≡ with_link l self.old.links) }
-        ensures refused { MatchResult result (λ _. first_refusal (refusals_of_link (E.meaning self.old.tree.engine) (components_of E.Engine self.old.tree).by_id self.old.links l) ≡ None)
-            (λ refusal. first_refusal (refusals_of_link (E.meaning self.old.tree.engine) (components_of E.Engine self.old.tree).by_id self.old.links l) ≡ Some refusal) }
+        ensures refused { MatchResult result (λ _.
+            first_refusal (refusals_of_link (E.meaning self.old.tree.engine)
+            (components_of E.Engine self.old.tree).by_id self.old.links l) ≡ None)
+            (λ refusal. first_refusal (refusals_of_link (E.meaning self.old.tree.engine)
+            (components_of E.Engine self.old.tree).by_id self.old.links l) ≡ Some refusal) }
         ensures stays { OnErr result (self.new ≡ self.old) }
         ensures marks { KeepsAppMarks E.Engine no_marks (links_at_ends l) self.old self.new }
         ensures tree { self.new.tree ≡ self.old.tree }
@@ -63,7 +66,8 @@ impl<E: Engine> App<E> {
 
 // The first refusal of a new link.
 fn refusal_of_link<E: Engine>(tree: &Tree<E>, links: &Links, l: LinkRec) -> Option<Refusal>
-    ensures { result ≡ first_refusal (refusals_of_link (E.meaning tree.now.engine) (components_of E.Engine tree.now).by_id links.now l) }
+    ensures { result ≡ first_refusal
+        (refusals_of_link (E.meaning tree.now.engine) (components_of E.Engine tree.now).by_id links.now l) }
 {
     if has_no_component(tree, l) {
         return Some(Refusal::NoComponent);

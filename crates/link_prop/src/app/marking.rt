@@ -1,5 +1,6 @@
 //! Marks: which parts of a component may have changed since they were settled.
-ghost use Rattle.std.specs.Prelude.{◌≡◌, ◌==◌, ◌&&◌, ◌||◌, ◌<◌, ◌+◌, ◌/◌, ◌%◌, ℕ, List, false, IsSome, Some, if◌then◌else◌, length, slice_get};
+ghost use Rattle.std.specs.Prelude.{◌≡◌, ◌==◌, ◌&&◌, ◌||◌, ◌<◌, ◌+◌, ◌/◌, ◌%◌, ℕ, List, false, IsSome, Some};
+ghost use Rattle.std.specs.Prelude.{if◌then◌else◌, length, slice_get};
 ghost use Rattle.std.specs.FinMap as map;
 ghost use Rattle.link_table.specs.Marks.{AreMarked, is_at_mark, is_marked as is_leaving};
 ghost use Rattle.link_marks.specs.Marked.{most_ids};
@@ -18,9 +19,9 @@ use sed_value::Id;
 impl<E: Engine> App<E> {
     ghost use Rattle.comp_tree.specs.Held.{components_of};
 
-    /// Which parts of a component may have changed since they were settled for a session place, 0 to 15: a bit each for `t`,
-    /// `c`, `r` and `l`, 1, 2, 4 and 8. A part whose bit is clear has the bytes that it had when it was last settled for that
-    /// place.
+    /// Which parts of a component may have changed since they were settled for a session place, 0 to 15: a bit each for
+    /// `t`, `c`, `r` and `l`, 1, 2, 4 and 8. A part whose bit is clear has the bytes that it had when it was last
+    /// settled for that place.
     pub fn touched(&self, id: Id, place: u8) -> u8
         requires live { IsSome (map.get (components_of E.Engine self.now.tree).by_id id.0) }
         requires place { place < 16 }
@@ -35,7 +36,9 @@ impl<E: Engine> App<E> {
     pub fn settle(&mut self, id: Id, place: u8, mask: u8)
         requires live { IsSome (map.get (components_of E.Engine self.old.tree).by_id id.0) }
         requires place { place < 16 }
-        ensures marks { (other at : ℕ) (part : AppPart) → is_marked self.new other at part ≡ (if ((other == id.0) && (at == place)) && is_in_mask mask part then false else is_marked self.old other at part) }
+        ensures marks { (other at : ℕ) (part : AppPart)
+            → is_marked self.new other at part ≡ (if ((other == id.0) && (at == place)) && is_in_mask mask part
+            then false else is_marked self.old other at part) }
         ensures stays { application_of E.Engine self.new ≡ application_of E.Engine self.old }
         ensures meaning { E.meaning self.new.tree.engine ≡ E.meaning self.old.tree.engine }
         ensures steady { E.fixed self.new.tree.engine ≡ E.fixed self.old.tree.engine }
@@ -73,7 +76,8 @@ fn bound_of<E: Engine>(tree: &Tree<E>, id: Id)
 fn settle_links(marks: &mut LinkMarks, id: Id, place: u8, mask: u8)
     requires id { id.0 < most_ids }
     requires place { place < 16 }
-    ensures { (other at : ℕ) → has_mark marks.new other at ≡ (if ((other == id.0) && (at == place)) && (mask / 8 % 2 == 1) then false else has_mark marks.old other at) }
+    ensures { (other at : ℕ) → has_mark marks.new other at
+        ≡ (if ((other == id.0) && (at == place)) && (mask / 8 % 2 == 1) then false else has_mark marks.old other at) }
 {
     if has_links(mask) {
         marks.settle(id, place);
@@ -90,7 +94,8 @@ pub(super) fn mark_ends(marks: &mut LinkMarks, l: LinkRec)
 
 // Marks the links at each component that has a link with one that is leaving.
 pub(super) fn mark_linked(marks: &mut LinkMarks, links: &Links, leaving: &[bool])
-    ensures { (gone : List ℕ) → AreMarked leaving.now gone → (id place : ℕ) → has_mark marks.new id place ≡ (links_with gone links.now id || has_mark marks.old id place) }
+    ensures { (gone : List ℕ) → AreMarked leaving.now gone → (id place : ℕ)
+        → has_mark marks.new id place ≡ (links_with gone links.now id || has_mark marks.old id place) }
 {
     for at in 0..links.len() {
         mark_where_one_leaves(marks, link_at(links, at), leaving);
@@ -110,7 +115,8 @@ fn link_at(links: &Links, at: usize) -> LinkRec
 
 // Marks the links at the two ends of a link of which one is leaving.
 fn mark_where_one_leaves(marks: &mut LinkMarks, l: LinkRec, leaving: &[bool])
-    ensures { (id place : ℕ) → has_mark marks.new id place ≡ ((is_at_mark leaving.now l && links_at_ends l id) || has_mark marks.old id place) }
+    ensures { (id place : ℕ) → has_mark marks.new id place
+        ≡ ((is_at_mark leaving.now l && links_at_ends l id) || has_mark marks.old id place) }
 {
     if is_leaving(leaving, l.from) || is_leaving(leaving, l.to) {
         mark_ends(marks, l);

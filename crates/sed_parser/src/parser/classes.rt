@@ -1,16 +1,15 @@
 // Members and classes.
-ghost use Rattle.std.specs.Prelude.{◌≡◌, Bool, true, false, not, List, ◌∷◌, length, codes};
+ghost use Rattle.std.specs.Prelude.{◌≡◌, Bool, List, length, codes};
 ghost use Rattle.sed_lexer.specs.Token.{Token};
 ghost use Rattle.sed_parser.specs.Classes as grammar;
 ghost use Rattle.sed_parser.specs.Leaves as part;
 ghost use Rattle.sed_parser.specs.Reading.{many_at, Reads};
 ghost use Rattle.sed_parser.specs.Next as next;
 ghost use Rattle.sed_parser.specs.Statements as statements;
-ghost use Rattle.sed_parser.specs.Halts.{Gives, Makes};
+ghost use Rattle.sed_parser.specs.Halts.{Gives};
 
-use crate::boxed::{Boxed, push};
-use crate::halt::Halt;
-use crate::parser::{Parser, made_classes as made};
+use crate::parser::Parser;
+use sed_trees::{Boxed, Halt, classes as made, push, with_first};
 use sed_units::{
     Class, Facet, Init, Member, MemberForm, Modifier, ModifierWord, Param, Stmt, TypeName,
 };
@@ -136,15 +135,6 @@ fn all<T: Item>(alloc: Global, parser: &mut Parser) -> Result<Items<T>, Halt>
         return Ok(Items::new(items));
     }
     Err(Halt::Fault)
-}
-
-// The first item, in front of the others.
-fn with_first<T: Drop>(first: Boxed<T>, others: Items<T>) -> Result<Items<T>, Halt>
-    ensures { Makes result (first ∷ others) }
-{
-    let mut items = others.into_vec();
-    items.insert(0, first.into_inner())?;
-    Ok(Items::new(items))
 }
 
 impl<'a> Parser<'a> {

@@ -2,10 +2,10 @@
 ghost use Rattle.std.specs.Prelude.{◌≡◌, ◌≤◌, ◌<◌, ◌-◌};
 ghost use Rattle.sed_parser.specs.Expressions as grammar;
 ghost use Rattle.sed_parser.specs.Halts.{Gives};
+ghost use Rattle.sed_trees.specs.Makes.{Makes};
 
-use crate::boxed::{Boxed, push};
-use crate::halt::Halt;
-use crate::parser::{Parser, made_expressions as made};
+use crate::parser::Parser;
+use sed_trees::{Boxed, Halt, expressions as made, push};
 use sed_units::{AssignOp, Expr, Link, PrefixOp, UpdateOp};
 use sed_value::{Items, Prim};
 use std::alloc::Global;
@@ -16,6 +16,21 @@ const WHOLE: usize = 13;
 const CONDITIONAL: usize = 12;
 
 const PREFIX: usize = 1;
+
+// An operand with the steps behind it, if there are any.
+fn chain(
+    alloc: Global,
+    at: usize,
+    first: Boxed<Expr>,
+    links: Items<Link>,
+) -> Result<Boxed<Expr>, Halt>
+    ensures { Makes result (grammar.chain at first links) }
+{
+    if links.is_empty() {
+        return Ok(first);
+    }
+    made::chain(alloc, at, first, links)
+}
 
 impl<'a> Parser<'a> {
     /// An expression one construct deeper, where there is room.
@@ -138,7 +153,7 @@ impl<'a> Parser<'a> {
         let at = self.start();
         let first = self.expression(alloc, room, level - 1, inside)?;
         let links = self.operand_links(alloc, room, level, inside)?;
-        made::chain(alloc, at, first, links)
+        chain(alloc, at, first, links)
     }
 
     #[cycle(parsing)]
@@ -199,10 +214,10 @@ impl<'a> Parser<'a> {
         let links = self.access_links(alloc, room, inside)?;
         if self.goes(inside) && self.peek::<UpdateOp>().is_some() {
             let op = self.take::<UpdateOp>()?;
-            let e = made::chain(alloc, at, first, links)?;
+            let e = chain(alloc, at, first, links)?;
             return made::update(alloc, at, op, e);
         }
-        made::chain(alloc, at, first, links)
+        chain(alloc, at, first, links)
     }
 
     #[cycle(parsing)]

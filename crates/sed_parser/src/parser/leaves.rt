@@ -3,9 +3,8 @@ ghost use Rattle.std.specs.Prelude.{◌≡◌};
 ghost use Rattle.sed_parser.specs.Leaves as grammar;
 ghost use Rattle.sed_parser.specs.Halts.{Gives};
 
-use crate::boxed::Boxed;
-use crate::halt::Halt;
-use crate::parser::{Parser, made_classes as made};
+use crate::parser::Parser;
+use sed_trees::{Boxed, Halt, classes as made};
 use sed_units::{
     Base, Facet, Init, InitValue, Literal, LiteralKind, Modifier, ModifierWord, Param, Size,
     TypeName, TypeRef,

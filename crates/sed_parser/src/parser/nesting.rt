@@ -3,9 +3,8 @@ ghost use Rattle.std.specs.Prelude.{◌≡◌};
 ghost use Rattle.sed_parser.specs.Statements as grammar;
 ghost use Rattle.sed_parser.specs.Halts.{Gives};
 
-use crate::boxed::{Boxed, push};
-use crate::halt::Halt;
-use crate::parser::{Parser, made_statements as made};
+use crate::parser::Parser;
+use sed_trees::{Boxed, Halt, push, statements as made};
 use sed_units::{Case, Stmt};
 use sed_value::Items;
 use std::alloc::Global;

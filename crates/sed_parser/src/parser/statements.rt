@@ -5,9 +5,8 @@ ghost use Rattle.sed_parser.specs.Expressions as expressions;
 ghost use Rattle.sed_parser.specs.Reading.{as_far};
 ghost use Rattle.sed_parser.specs.Halts.{Gives};
 
-use crate::boxed::Boxed;
-use crate::halt::Halt;
-use crate::parser::{Parser, made_statements as made};
+use crate::parser::Parser;
+use sed_trees::{Boxed, Halt, statements as made};
 use sed_units::{Expr, ForFirst, ForHead, Ident, Local, Stmt};
 use std::alloc::Global;
 

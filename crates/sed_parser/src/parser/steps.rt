@@ -3,9 +3,8 @@ ghost use Rattle.std.specs.Prelude.{◌≡◌};
 ghost use Rattle.sed_parser.specs.Expressions as grammar;
 ghost use Rattle.sed_parser.specs.Halts.{Gives};
 
-use crate::boxed::Boxed;
-use crate::halt::Halt;
-use crate::parser::{Parser, made_expressions as made};
+use crate::parser::Parser;
+use sed_trees::{Boxed, Halt, expressions as made};
 use sed_units::{Expr, Ident, LiteralKind};
 use std::alloc::Global;
 

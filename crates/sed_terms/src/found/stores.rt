@@ -1,4 +1,5 @@
-// Elements, Bufs and stores of typed expressions in the making. A static through an instance stays behind that instance.
+// Elements, Bufs and stores of typed expressions in the making. A static through an instance stays behind that
+// instance.
 ghost use Rattle.std.specs.Prelude.{◌≡◌, IfOk, true};
 ghost use Rattle.sed_typed.specs.declared.operators.Gives.TheVariants as gives;
 ghost use Rattle.sed_terms.specs.declared.sort.Sort.TheVariants as sorted;

@@ -8,6 +8,7 @@ use Rattle.scode_code.specs.CodeRules.{entry_between, fault_from}
 use Rattle.scode_code.specs.Kinds.{Shape}
 use Rattle.scode_verify.specs.Words.{kinds_of, left_at}
 use Rattle.scode_verify.proofs.Rounds.{all_gone, broken_there, goes_on, no_more, strayed_there}
+use Rattle.scode_verify.proofs.Watching.{new_watched}
 use Rattle.scode_verify.proofs.walk.along.Goals as goal
 
 pub loop-init : goal.loop-init
@@ -19,8 +20,10 @@ loop-init c =
     record {
       rest =
           ap (λ (n : ℕ). fault_from n image m 0 (kinds_of c.in_ok-kinds.kinds)) all
-          ∙ ap (λ (s : Option Shape). fault_from (suc (length m.code)) image m 0 s) c.in_ok-kinds.ensures;
+          ∙ ap (λ (s : Option Shape). fault_from (suc (length m.code)) image m 0 s) c.in_ok-kinds.ensures.kinds;
       passed = λ from to behind. refl;
+      watched = new_watched image m c.in_ok-kinds.kinds.locals.items c.in_ok-kinds.kinds.stack.items
+          c.in_ok-kinds.kinds.changes c.in_ok-kinds.ensures.new;
     }
 
 pub returns-in_default : goal.returns-in_default
@@ -76,9 +79,9 @@ loop-preserved c =
     ap (λ (b : ℕ). entry_between m.entries c.loop.place b) (sym c.in-Some.ensures.behind)
     ∙ ap (λ (es : List ImageEntry). entry_between es c.loop.place c.in-Some.behind) (sym c.as_slice-entries.ensures)
     ∙ sym c.stray.ensures ∙ c.in_default-stray.is in
+    let fine = c.in_ok-rule.was ∙ ap (λ (o : Option ℕ). let r : Result (Option ℕ) Memory = Ok o in r) c.in_default-2.is in
     let left : kinds_of c.at_instruction.new.kinds ≡ left_at image m c.loop.place (kinds_of c.loop.kinds) c.in-Some.op =
-    c.at_instruction.ensures.kinds
-    (c.in_ok-rule.was ∙ ap (λ (o : Option ℕ). let r : Result (Option ℕ) Memory = Ok o in r) c.in_default-2.is) in
+    c.at_instruction.ensures.kinds fine in
     record {
       rest =
           ap (λ (s : Option Shape). fault_from (n - (c.loop.counter + 1)) image m c.in-Some.behind s) left
@@ -87,6 +90,7 @@ loop-preserved c =
           ∙ sym (goes_on image m n c.loop.counter c.loop.place (kinds_of c.loop.kinds) c.in-Some.op (omega arith) within some
           (sym c.in_ok-rule.ensures.rule ∙ c.in_default-2.is) none)
           ∙ c.loop.invariant.rest;
+      watched = c.at_instruction.ensures.watched fine;
       passed = λ from to behind. c.advance-passed.ensures.passed from to (omega (arith, behind, c.in-Some.ensures.behind));
     }
 

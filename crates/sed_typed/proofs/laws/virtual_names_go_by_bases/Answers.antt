@@ -1,4 +1,4 @@
-use Rattle.sed_typed.proofs.Callbacks.{goes_on}
+use Rattle.sed_typed.proofs.SystemMethods.{goes_on}
 use Rattle.sed_typed.proofs.laws.virtual_names_go_by_bases.Goals as goal
 
 pub returns : goal.returns

@@ -1,4 +1,4 @@
-use Rattle.sed_typed.proofs.Callbacks.{keep_places}
+use Rattle.sed_typed.proofs.SystemMethods.{keep_places}
 use Rattle.sed_typed.proofs.laws.virtual_names_keep_their_places.Goals as goal
 
 pub returns : goal.returns

@@ -95,6 +95,12 @@ invariant_of-self c =
     (with_items c.self.inside.bytes c.add_block-start.new.bytes).items
     (with_items c.self.inside.directory c.add_block-start.new.directory).items c.add_block-start.result c.size_of-size.result (size c) (put c)
 
+pub returns-clause-place : goal.returns-clause-place
+returns-clause-place c =
+    let lt = few c in
+    let all = c.self.invariant.every.all in
+    subst (λ (q : ℕ). q < 4096) (sym (place c)) (c.self.invariant.every.within c.self.inside.count 0 (omega arith))
+
 pub returns-clause-fresh : goal.returns-clause-fresh
 returns-clause-fresh c = fresh_told c.self.inside c.self.invariant c.args.self.now c.self.view_is (few c) c.args.t.0 (of_class c) c.from.result (place c)
 

@@ -25,8 +25,8 @@ number_at-requires-clause-there c =
     let long = ap length c.deref.ensures.value in
     omega arith
 
-pub returns-in-Live : goal.returns-in-Live
-returns-in-Live c =
+pub returns-in-Live-clause-number : goal.returns-in-Live-clause-number
+returns-in-Live-clause-number c =
     let has : HasBytes c.args.self.now (Live c.in-Live.p) c.args.at c.args.width = subst (λ (b : Block). HasBytes c.args.self.now b c.args.at c.args.width) c.in-Live.is c.requires.there in
     let there = has_place c.self.inside c.self.invariant c.args.self.now c.self.view_is c.in-Live.p c.args.at c.args.width has in
     let entry = ap (λ (e : Entry). e.offset) (entry_read c.self.inside c.self.invariant c.args.self.now c.self.view_is c.in-Live.p.0 there c.index.result.now c.index.ensures) in
@@ -35,4 +35,4 @@ returns-in-Live c =
     (λ i. bytes_at (c.deref.ensures.value i) (start i) (c.from-in-Live.ensures i)) in
     subst (λ (b : Block). IfSome (bytes_of c.args.self.now b) (λ bytes. c.number_at.result ≡ number_of (bytes_at bytes c.args.at c.args.width))) (sym c.in-Live.is)
     (bytes_told c.self.inside c.self.invariant c.args.self.now c.self.view_is c.in-Live.p c.args.at c.args.width has (λ bytes. c.number_at.result ≡ number_of bytes)
-    (c.number_at.ensures ∙ ap number_of same))
+    (c.number_at.ensures.number ∙ ap number_of same))

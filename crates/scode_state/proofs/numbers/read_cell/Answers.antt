@@ -1,0 +1,35 @@
+use Rattle.std.proofs.Common.{◌≡◌, ℕ, List, subst}
+use Rattle.std.specs.Prelude.{IfSome}
+use Rattle.sed_value.specs.SlotType.{width_of}
+use Rattle.sed_wire.specs.Number.{number_of}
+use Rattle.sed_engine.specs.Stops.{there}
+use Rattle.sed_engine.specs.Values.{read_as}
+use Rattle.scode_code.specs.Contents.{primitive_at}
+use Rattle.scode_mem.specs.Blocks.{bytes_at, bytes_of}
+use Rattle.scode_state.specs.Cells.{plain_of}
+use Rattle.scode_state.proofs.Putting.{cell_read}
+use Rattle.scode_state.proofs.Stored.{if_some}
+use Rattle.scode_state.proofs.numbers.read_cell.Goals as goal
+
+module _ (c : goal.After-cell_of) where
+  is_number : IfSome (bytes_of c.args.pool.now c.args.b)
+      (λ bytes. c.read.result ≡ number_of (bytes_at bytes c.args.at (width_of c.args.p)))
+  is_number =
+      subst (λ (w : ℕ). IfSome (bytes_of c.args.pool.now c.args.b)
+      (λ bytes. c.read.result ≡ number_of (bytes_at bytes c.args.at w))) c.width.ensures c.read.ensures.number
+
+  is_cell : IfSome (bytes_of c.args.pool.now c.args.b)
+      (λ bytes. there (plain_of c.cell_of.result) ≡ read_as (primitive_at c.args.p bytes c.args.at))
+  is_cell =
+      if_some (bytes_of c.args.pool.now c.args.b)
+      (λ bytes. c.read.result ≡ number_of (bytes_at bytes c.args.at (width_of c.args.p)))
+      (λ bytes. there (plain_of c.cell_of.result) ≡ read_as (primitive_at c.args.p bytes c.args.at))
+      (λ bytes e. c.cell_of.ensures (bytes_at bytes c.args.at (width_of c.args.p)) e) is_number
+
+pub returns-clause-bytes : goal.returns-clause-bytes
+returns-clause-bytes c = is_cell c
+
+pub returns-clause-path : goal.returns-clause-path
+returns-clause-path c = λ image class base path at.
+    cell_read image class base path c.args.pool.now c.args.b c.args.at c.args.p at (there (plain_of c.cell_of.result))
+    (is_cell c)

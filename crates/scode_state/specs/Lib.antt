@@ -1,0 +1,4 @@
+pub mod Values
+pub mod Stands
+pub mod Cells
+pub mod References

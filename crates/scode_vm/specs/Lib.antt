@@ -1,0 +1,4 @@
+pub mod Seen
+pub mod Doings
+pub mod Tops
+pub mod Groups

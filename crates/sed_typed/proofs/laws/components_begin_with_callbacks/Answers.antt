@@ -1,8 +1,0 @@
-use Rattle.sed_typed.proofs.Callbacks.{begin, begins_at}
-use Rattle.sed_typed.proofs.laws.components_begin_with_callbacks.Goals as goal
-
-pub returns-clause-begins : goal.returns-clause-begins
-returns-clause-begins c = begin
-
-pub returns-clause-component : goal.returns-clause-component
-returns-clause-component c = begins_at
