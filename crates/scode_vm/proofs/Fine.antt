@@ -1,10 +1,12 @@
 -- The instruction at the place of a fine machine may be done, and it leads to where the machine's next step does.
-use Rattle.std.proofs.Common.{◌≡◌, ℕ, suc, ◌+◌, ◌≤◌, List, [], ◌∷◌, length, Option, Some, Result, Ok, Err, refl, sym, ap, subst, ◌∙◌, arith}
-use Rattle.std.specs.Prelude.{slice_get}
+use Rattle.std.proofs.Common.{◌≡◌, ℕ, suc, ◌+◌, ◌<◌, ◌≤◌, nat_lt, Bool, true, if◌then◌else◌, List, [], ◌∷◌, length, map, Option, Some, Result, Ok, Err, refl, sym, ap, subst, ◌∙◌, arith}
+use Rattle.std.specs.Prelude.{slice_get, IfSome}
 use Rattle.std.specs.Option.{option_map_or}
+use Rattle.std.proofs.lemmas.Bool.{lt-ltb}
 use Rattle.std.proofs.lemmas.List.{length-map}
 use Rattle.std.proofs.lemmas.List.Elements.{All-cons, All-nil}
 use Rattle.sed_engine.specs.declared.call.Place.{Place}
+use Rattle.sed_engine.specs.declared.trap.Trap.TheVariants.{TooDeep}
 use Rattle.sed_engine.specs.State.{Shared, State, End}
 use Rattle.sed_engine.specs.Stops.{Stop, Traps, Untyped}
 use Rattle.sed_engine.specs.Values.{Val, Nothing, Truth, Int, Long, Null, At, Literal}
@@ -17,15 +19,18 @@ use Rattle.scode_code.specs.Faults.{IsVerified}
 use Rattle.scode_code.specs.Fields.{Setting}
 use Rattle.scode_code.specs.Kinds.{Shape}
 use Rattle.scode_code.specs.Machine as language
-use Rattle.scode_code.specs.Machine.{Machine, At as AtWork, Move, Onward, Goto, Enter, Leave, moves}
+use Rattle.scode_code.specs.Machine.{Machine, At as AtWork, Over, Move, Onward, Goto, Enter, Leave, frame_at, moves, pushed, returned}
 use Rattle.scode_code.specs.Steps.{act, effect, instruction_at, step}
 use Rattle.scode_code.specs.Verified.{KindsIn, Stands}
 use Rattle.scode_sound.specs.Cells.{Concrete, Fit, HasKind}
 use Rattle.scode_sound.specs.Fine.{Fine, FineAt}
 use Rattle.scode_cells.specs.declared.cell.Cell.{Cell}
-use Rattle.scode_cells.specs.Frames.{Frames, IsRunning, running}
-use Rattle.scode_vm.specs.Seen.{machine_seen, val_of, vals}
+use Rattle.scode_cells.specs.Frames as cells
+use Rattle.scode_cells.specs.Frames.{Frames, IsRunning, below, first_frame, most_frames, running}
+use Rattle.scode_vm.specs.Calling.{HasRoomFor}
+use Rattle.scode_vm.specs.Seen.{frame_seen, machine_seen, val_of, vals}
 use Rattle.scode_vm.specs.Doings.{AreValues, EndsTyped, behind, HasCells, HasRoom, IsTypedOn, IsValue, MayDo, ending, point_from}
+use Rattle.scode_vm.proofs.Entering.{frames_long}
 
 -- ---- cells that fit kinds
 
@@ -105,6 +110,75 @@ module _ (maximum : KeepTheirMaximum) (w : Setting) (given : ℕ) (verified : Is
   room_left f below next most locals m known few (Ok (Leave v)) s h = tt
   room_left f below next most locals m known few (Err stop) s h = tt
 
+  -- ---- the room for a new frame, and in the frame below
+
+  pushed_long : (v : Val) (stack : List Val) → length (pushed v stack) ≡ length (pushed v []) + length stack
+  pushed_long Nothing stack = omega arith
+  pushed_long (Truth t) stack = omega arith
+  pushed_long (Int n) stack = omega arith
+  pushed_long (Long n) stack = omega arith
+  pushed_long Null stack = omega arith
+  pushed_long (At spot) stack = omega arith
+  pushed_long (Literal n) stack = omega arith
+
+  -- a frame that goes on with a value
+  abbrev given_to : Place → cells.Frame → List cells.Frame → Val → Shared → Machine
+  given_to place f fs v shared = record {
+    top = record {
+      method = f.method;
+      place = f.place;
+      locals = vals w place f.locals;
+      stack = pushed v (vals w place f.stack);
+    };
+    below = map (frame_seen w place) fs;
+    shared = shared;
+  }
+
+  has_room_below : (most : ℕ) (fs : List cells.Frame) (v : Val) (shared : Shared) (place : Place)
+      → HasCells w.image most → 0 < length fs
+      → Fine w given (KindsIn w.image) (returned v (map (frame_seen w place) fs) shared)
+      → length (first_frame fs).locals + (length (pushed v []) + length (first_frame fs).stack) ≤ most
+  has_room_below most [] v shared place many some h = absurd (omega arith)
+  has_room_below most (f ∷ fs) v shared place many some h =
+      let kept : length (pushed v (vals w place f.stack)) ≤ h.at.m.stack =
+      stack_kept (given_to place f fs v shared) h.at.m h.at.known h in
+      let locals : length (vals w place f.locals) ≡ length h.at.m.locals =
+      locals_long (given_to place f fs v shared) h.at.m h.at.known h in
+      let few = many f.method h.at.m h.at.known in
+      let same_locals : length (vals w place f.locals) ≡ length f.locals = length-map f.locals (val_of w place) in
+      let same_stack : length (vals w place f.stack) ≡ length f.stack = length-map f.stack (val_of w place) in
+      let more : length (pushed v (vals w place f.stack)) ≡ length (pushed v []) + length (vals w place f.stack) =
+      pushed_long v (vals w place f.stack) in
+      omega (arith, kept, locals, few, same_locals, same_stack, more)
+
+  room_for : (place : Place) (s : Frames) (next : ℕ) → HasCells w.image s.most → IsRunning s
+      → (r : Result Move Stop) (st : State)
+      → Fine w given (KindsIn w.image)
+      (moves (frame_seen w place (running s)) (map (frame_seen w place) (below s)) next r st)
+      → HasRoomFor w.image s r
+  room_for place s next many runs (Ok (Enter number locals stack)) st h = λ few.
+      let frames : List language.Frame =
+      frame_at (frame_seen w place (running s)) next st.locals stack ∷ map (frame_seen w place) (below s) in
+      let long : length frames ≡ length s.frames =
+      ap suc (length-map (below s) (frame_seen w place)) ∙ frames_long s.frames runs in
+      let test : nat_lt (length frames) most_frames ≡ true = lt-ltb (length frames) most_frames (omega (arith, long, few)) in
+      let x : Machine = record {
+        top = record { method = number; place = 0; locals = locals; stack = [] };
+        below = frames;
+        shared = st.shared;
+      } in
+      let fine : FineAt w given (KindsIn w.image) x =
+      subst (λ (b : Bool). Fine w given (KindsIn w.image)
+      (if b then AtWork x else Over (record { result = Err (Traps TooDeep); shared = st.shared }))) test h in
+      let cells = many number fine.at.m fine.at.known in
+      subst (λ (o : Option ImageMethod). IfSome o (λ m. (length locals ≡ length m.locals) × (length m.locals ≤ s.most)))
+      (sym fine.at.known) (locals_long x fine.at.m fine.at.known fine, omega (arith, cells))
+  room_for place s next many runs (Ok (Leave v)) st h = λ more.
+      has_room_below s.most (below s) v st.shared place many more h
+  room_for place s next many runs (Ok (Onward stack)) st h = tt
+  room_for place s next many runs (Ok (Goto to stack)) st h = tt
+  room_for place s next many runs (Err stop) st h = tt
+
 -- ---- the instruction at the place
 
 -- it stands there
@@ -147,21 +221,30 @@ module _ (w : Setting) (place : Place) (s : Frames) (shared : Shared) (i : Op)
     runs_on : IsRunning (behind s i)
     runs_on = omega arith
 
-    pub may_do : KeepTheirMaximum → HasCells w.image s.most → MayDo (λ w. effect w i) (behind s i)
-    may_do maximum many =
+    pub room_left_here : KeepTheirMaximum → HasCells w.image s.most
+        → HasRoom s.most (length (running s).locals) ends_so.result
+    room_left_here maximum many =
         let few = many (running s).method fine.at.m fine.at.known in
         let long : length (vals w place (running s).locals) ≡ length fine.at.m.locals =
         locals_long maximum w given verified now fine.at.m fine.at.known fine in
         let as_many : length (vals w place (running s).locals) ≡ length (running s).locals =
         length-map (running s).locals (val_of w place) in
         let room : length (running s).locals + fine.at.m.stack ≤ s.most = omega (arith, few, long, as_many) in
-        record {
-          runs = runs_on;
-          w = w;
-          place = place;
-          shared = shared;
-          typed = typed_on maximum;
-          room = room_left maximum w given verified (machine_seen w place (behind s i) shared).top
-              (machine_seen w place (behind s i) shared).below ((running s).place + size_of i) s.most
-              (length (running s).locals) fine.at.m fine.at.known room ends_so.result ends_so.state next;
-        }
+        room_left maximum w given verified (machine_seen w place (behind s i) shared).top
+        (machine_seen w place (behind s i) shared).below ((running s).place + size_of i) s.most
+        (length (running s).locals) fine.at.m fine.at.known room ends_so.result ends_so.state next
+
+    pub may_do : KeepTheirMaximum → HasCells w.image s.most → MayDo (λ w. effect w i) (behind s i)
+    may_do maximum many = record {
+      runs = runs_on;
+      w = w;
+      place = place;
+      shared = shared;
+      typed = typed_on maximum;
+      room = room_left_here maximum many;
+    }
+
+    pub room_for_here : KeepTheirMaximum → HasCells w.image s.most → HasRoomFor w.image (behind s i) ends_so.result
+    room_for_here maximum many =
+        room_for maximum w given verified place (behind s i) ((running s).place + size_of i) many runs_on
+        ends_so.result ends_so.state next

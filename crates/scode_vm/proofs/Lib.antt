@@ -1,4 +1,9 @@
 pub mod Ends
 pub mod Stores
 pub mod References
+pub mod Entering
+pub mod DirectCalls
+pub mod Receivers
+pub mod VirtualCalls
+pub mod Returns
 pub mod Fine

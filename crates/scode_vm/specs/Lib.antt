@@ -2,3 +2,4 @@ pub mod Seen
 pub mod Doings
 pub mod Tops
 pub mod Groups
+pub mod Calling

@@ -2,12 +2,16 @@
 //!
 //! An instruction may be done where the definition's own effect ends by a value or a trap in some root call. Then, in
 //! each root call in which it does, it leads to where that effect leads, which by the laws is the next step of the
-//! machine. So nothing here is ever stuck. No call takes memory. So far there are the instructions on constants,
-//! locals, numbers, truth values and references, jumps, and turns. The rest of the machine stands on these.
+//! machine. So nothing here is ever stuck. No call takes memory. There are the instructions on constants, locals,
+//! numbers, truth values and references, jumps, turns, calls and returns: all that look at no block. The rest of the
+//! machine stands on these.
 #![tactic(auto)]
 
+mod calls;
 mod comparisons;
 mod conversions;
+mod course;
+mod group;
 mod ints;
 mod jumps;
 mod laws;
@@ -16,6 +20,7 @@ mod longs;
 mod tops;
 mod turns;
 
+pub use calls::{call, call_instruction, return_nothing, return_value, virtual_call};
 pub use comparisons::{
     compare_ints, compare_longs, comparison_instruction, other_bools, other_references, same_bools,
     same_references,
@@ -23,6 +28,8 @@ pub use comparisons::{
 pub use conversions::{
     conversion_instruction, int_to_byte, int_to_long, int_to_short, long_to_int, not,
 };
+pub use course::Course;
+pub use group::{Group, group_of};
 pub use ints::{flip_int, int_arithmetic, int_instruction, negate_int};
 pub use jumps::{jump, jump_if_false, jump_if_true, jump_instruction};
 pub use laws::{fine_frames_may_go_on, instructions_are_steps};
@@ -33,4 +40,4 @@ pub use locals::{
 pub use longs::{
     flip_long, long_arithmetic, long_instruction, negate_long, shift_long_left, shift_long_right,
 };
-pub use turns::{take_turn, ticks, turn};
+pub use turns::{take_turn, ticks, turn, turn_instruction};

@@ -4,8 +4,10 @@ ghost use Rattle.sed_engine.specs.Steps.{turn_of};
 ghost use Rattle.scode_ops.specs.declared.op.Op.TheVariants as op;
 ghost use Rattle.scode_code.specs.Steps.{effect};
 ghost use Rattle.scode_vm.specs.Doings.{DoesWith, MayDo, as_stop};
+ghost use Rattle.scode_vm.specs.Groups.{Turns, group_of};
 
 use scode_cells::{Cell, Cells};
+use scode_ops::Op;
 use sed_engine::Trap;
 
 /// Takes a turn of those that are left. Where there is none it traps.
@@ -39,4 +41,20 @@ pub fn ticks(moment: i64, cells: &mut Cells)
     ensures { (turns : ℕ) → DoesWith (λ w. effect w op.Ticks) cells.old turns moment (Ok tt) cells.new turns }
 {
     cells.push(Cell::Long(moment));
+}
+
+/// Takes a turn, or puts the moment on the stack.
+pub fn turn_instruction(op: Op, moment: i64, cells: &mut Cells, left: &mut u32) -> Result<(), Trap>
+    requires group { group_of op ≡ Turns }
+    requires may { MayDo (λ w. effect w op) cells.old }
+    ensures { DoesWith (λ w. effect w op) cells.old left.old moment result cells.new left.new }
+{
+    match op {
+        Op::Turn => turn(cells, left),
+        Op::Ticks => {
+            ticks(moment, cells);
+            Ok(())
+        }
+        _ => unreachable!(),
+    }
 }

@@ -1,0 +1,13 @@
+pub mod Typed
+pub mod Going
+pub mod Ops
+pub mod Finding
+pub mod Sizes
+pub mod Reading
+pub mod Storing
+pub mod OnFields
+pub mod DoneFields
+pub mod OnArrays
+pub mod DoneArrays
+pub mod OnParts
+pub mod DoneParts
