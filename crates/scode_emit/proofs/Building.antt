@@ -1,4 +1,4 @@
--- A small program and its image, for examples: the types of `sys`, and one class below `Component` with a field of each form.
+-- A small program, for examples: the types of `sys`, and one class below `Component` with a field of each form.
 use Rattle.std.proofs.Common.{pos, false, true, List, [], ◌∷◌, ◌++◌, map, replicate, slice_index, Some, None, Vec, Global, lit<, codes}
 use Rattle.sed_value.specs.declared.value.Value.TheVariants as kept
 use Rattle.sed_value.specs.declared.slot_type.Primitive.TheVariants as prim
@@ -30,11 +30,8 @@ use Rattle.sed_typed.specs.declared.tree.Place.TheVariants as place
 use Rattle.scode_ops.specs.declared.op.Op.{Op}
 use Rattle.sed_engine.proofs.Building.{Pointer, vec_of, one, three, chain, chain_of_two, by, this, own, int, y, set_y, block, block_of_three, field, class_info, execute, method_of, sys_classes}
 use Rattle.sed_engine.proofs.Ramp.{nothing}
-use Rattle.scode_image.specs.declared.image.Image.{Image}
-use Rattle.scode_code.proofs.Building as image
 use Rattle.scode_emit.specs.Site.{Layout}
-use Rattle.scode_emit.specs.Method.{code_of, entries_of, image_method}
-use Rattle.scode_image.specs.declared.image.ImageEntry.{ImageEntry}
+use Rattle.scode_emit.specs.Method.{code_of}
 
 -- class 5: meta 0, int y 1, byte b 2, int[3] a 3, long g 4, Str(8) s 5, Buf(4) f 6, bool q 7
 abbrev pub fields : List Field
@@ -77,26 +74,9 @@ layout = record {
   table_place = λ class method. slice_index (0 ∷ 0 ∷ 1 ∷ []) method;
 }
 
--- the code of `execute`, and its entries
+-- the code of `execute`
 abbrev pub code : Pointer → Stmt → List Op
 code p body = code_of (program p body) layout (execute 5 body)
-
-abbrev pub entries : Pointer → Stmt → List ImageEntry
-entries p body = entries_of (program p body) layout (execute 5 body)
-
--- the image: its tables by hand, its methods by the compiler
-abbrev pub image_of : Pointer → Stmt → Image
-image_of p body = record {
-  kits = record { name = codes "sys"; checksum = pos 0 } ∷ record { name = codes "k"; checksum = pos 0 } ∷ [];
-  classes = image.sys ++ image.class 1 0 (codes "A") 2 2
-      (image.field 0 4 0 ∷ image.field 4 4 0 ∷ image.field 8 2 0 ∷ image.field 9 12 3 ∷ image.field 21 5 0 ∷ image.field 29 6 8
-      ∷ image.field 37 7 4 ∷ image.field 43 1 0 ∷ [])
-      (image.meta ∷ []) (1 ∷ 2 ∷ []) (replicate 44 0) ∷ [];
-  static_fields = image.field 0 4 0 ∷ image.field 4 5 0 ∷ [];
-  static_bytes = replicate 12 0;
-  texts = codes "abc" ∷ [];
-  methods = map (image_method (program p body) layout) (program p body).methods;
-}
 
 -- ---- bodies
 

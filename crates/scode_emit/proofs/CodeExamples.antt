@@ -17,16 +17,12 @@ use Rattle.sed_typed.specs.declared.tree.Link.TheVariants as link
 use Rattle.sed_typed.specs.declared.tree.Place.TheVariants as place
 use Rattle.sed_engine.proofs.Building.{Pointer, none, one, two, chain, by, int, this, own_place, set, set_y, y, y_is}
 use Rattle.scode_ops.specs.declared.op.Op.TheVariants as op
-use Rattle.scode_code.specs.Kinds as kinds
-use Rattle.scode_emit.proofs.Building.{code, entries, layout, program, m, g, q, a_at, s_of, update, is, m_of}
-use Rattle.scode_emit.specs.Method.{code_of, entries_of, local_kinds}
+use Rattle.scode_emit.proofs.Building.{code, layout, program, m, g, q, a_at, s_of, update, is, m_of}
+use Rattle.scode_emit.specs.Method.{code_of}
 
 -- y = 7
 assigns : (p : Pointer) → code p (set_y p (int 7)) ≡ op.Load 0 ∷ op.Int (pos 7) ∷ op.PutInt 4 ∷ op.Return ∷ []
 assigns p = refl
-
-assigns_entries : (p : Pointer) → entries p (set_y p (int 7)) ≡ []
-assigns_entries p = refl
 
 -- y = (b = 300): the byte waits as it is read back
 narrows : (p : Pointer) → code p (set_y p (expr.Set' (own_place p prim.Byte 2) p (int 300))) ≡
@@ -71,13 +67,6 @@ both : (p : Pointer) → code p (set p prim.Bool 7 (chain p (q p) (link.And (is 
     ∷ op.Load 0 ∷ op.GetInt 4 ∷ op.Int (pos 3) ∷ op.IntLt ∷ op.Not ∷ op.Not ∷ op.Jump 28
     ∷ op.Bool 0 ∷ op.PutBool 43 ∷ op.Return ∷ []
 both p = refl
-
--- the component is below, and behind the operands the bool above it; the lowest stands first
-both_entries : (p : Pointer) → entries p (set p prim.Bool 7 (chain p (q p) (link.And (is p (y p) comparison.Less (int 3))))) ≡
-    (let locals = kinds.object 5 ∷ kinds.bool ∷ kinds.int ∷ kinds.long ∷ kinds.int ∷ [] in
-    record { place = 26; locals = locals; stack = kinds.object 5 ∷ [] }
-    ∷ record { place = 28; locals = locals; stack = kinds.object 5 ∷ kinds.bool ∷ [] } ∷ [])
-both_entries p = refl
 
 -- q = q || q
 either : (p : Pointer) → code p (set p prim.Bool 7 (chain p (q p) (link.Or (q p)))) ≡
@@ -143,6 +132,3 @@ reads_buf p = refl
 returns : (p : Pointer) → code_of (program p stmt.Empty) layout (m p) ≡
     op.Load 1 ∷ op.Load 0 ∷ op.GetInt 4 ∷ op.IntAdd ∷ op.ReturnValue ∷ op.Int (pos 0) ∷ op.ReturnValue ∷ []
 returns p = refl
-
-returns_entries : (p : Pointer) → entries_of (program p stmt.Empty) layout (m p) ≡ record { place = 9; locals = local_kinds (m p); stack = [] } ∷ []
-returns_entries p = refl

@@ -1,8 +1,9 @@
 pub mod Building
 mod CodeExamples
 mod StatementExamples
-mod RootExamples
+pub mod FormExamples
 pub mod Counts
 pub mod Sized
+pub mod Few
 pub mod Stand
 pub mod RowLemmas

@@ -156,26 +156,26 @@ drop_sized w at (expr.Update' u target p e) =
     )
 drop_sized w at e = kept_sized w at e
 
-begin_sized : (w : Site) (at : ℕ) (k : Kind) (e : Option Expr) → count (begin_code w at k e) ≡ begin_size w k e
+pub begin_sized : (w : Site) (at : ℕ) (k : Kind) (e : Option Expr) → count (begin_code w at k e) ≡ begin_size w k e
 begin_sized w at k None = omega (arith, zero_sized k)
 begin_sized w at k (Some e) = expr_sized w at e
 
-test_sized : (w : Site) (at : ℕ) (e : Option Expr) → count (test_code w at e) ≡ test_size w e
+pub test_sized : (w : Site) (at : ℕ) (e : Option Expr) → count (test_code w at e) ≡ test_size w e
 test_sized w at None = refl
 test_sized w at (Some e) = expr_sized w at e
 
-last_sized : (w : Site) (at : ℕ) (e : Option Expr) → count (last_code w at e) ≡ last_size w e
+pub last_sized : (w : Site) (at : ℕ) (e : Option Expr) → count (last_code w at e) ≡ last_size w e
 last_sized w at None = refl
 last_sized w at (Some e) = drop_sized w at e
 
-over_sized : (n to : ℕ) → count (over_code n to) ≡ over_size n
+pub over_sized : (n to : ℕ) → count (over_code n to) ≡ over_size n
 over_sized n to = cases (n == 0)
   where
     cases : (b : Bool) → count (if b then [] else op.Jump to ∷ []) ≡ (if b then 0 else 3)
     cases true = refl
     cases false = refl
 
-tests_sized : (local end : ℕ) (labels : List Label) (places : List ℕ) → count (tests_code local end labels places) ≡ tests_size labels
+pub tests_sized : (local end : ℕ) (labels : List Label) (places : List ℕ) → count (tests_code local end labels places) ≡ tests_size labels
 tests_sized local end [] places = refl
 tests_sized local end (Case c ∷ labels) places = omega (arith, tests_sized local end labels (drop 1 places))
 tests_sized local end (Default ∷ labels) places = tests_sized local end labels (drop 1 places)

@@ -1,17 +1,11 @@
--- The code of statements, worked out by hand, with the places of the entries; below a statement the stack is empty.
-use Rattle.std.proofs.Common.{◌≡◌, ℕ, pos, List, [], ◌∷◌, map, None, refl}
+-- The code of statements, worked out by hand.
+use Rattle.std.proofs.Common.{◌≡◌, pos, [], ◌∷◌, None, refl}
 use Rattle.sed_typed.specs.declared.kind.Kind.TheVariants as kind
 use Rattle.sed_typed.specs.declared.operators.Comparison.TheVariants as comparison
-use Rattle.sed_typed.specs.declared.statement.Stmt.{Stmt}
 use Rattle.sed_typed.specs.declared.statement.Stmt.TheVariants as stmt
 use Rattle.sed_engine.proofs.Building.{Pointer, int, set_y, y, block_of_three}
 use Rattle.scode_ops.specs.declared.op.Op.TheVariants as op
-use Rattle.scode_image.specs.declared.image.ImageKind.{ImageKind}
-use Rattle.scode_emit.proofs.Building.{code, entries, q, is, looping, switching, counting}
-
--- the entries of `execute`, each with what is on the stack
-abbrev places : Pointer → Stmt → List (ℕ × List ImageKind)
-places p body = map (λ e. (e.place, e.stack)) (entries p body)
+use Rattle.scode_emit.proofs.Building.{code, q, is, looping, switching, counting}
 
 -- while (y < 3) { y = y + 1; if (y == 1) continue; break }
 loops : (p : Pointer) → code p (looping p) ≡
@@ -22,9 +16,6 @@ loops : (p : Pointer) → code p (looping p) ≡
     ∷ op.Load 0 ∷ op.GetInt 4 ∷ op.Int (pos 3) ∷ op.IntLt ∷ op.JumpTrue 3
     ∷ op.Return ∷ []
 loops p = refl
-
-loops_entries : (p : Pointer) → places p (looping p) ≡ (3, []) ∷ (37, []) ∷ (40, []) ∷ (54, []) ∷ []
-loops_entries p = refl
 
 -- switch (y) { case 1: y = 10; default: y = 20; break; case 3: y = 30 }
 switches : (p : Pointer) → code p (switching p (y p)) ≡
@@ -38,9 +29,6 @@ switches : (p : Pointer) → code p (switching p (y p)) ≡
     ∷ op.Return ∷ []
 switches p = refl
 
-switches_entries : (p : Pointer) → places p (switching p (y p)) ≡ (32, []) ∷ (42, []) ∷ (55, []) ∷ (65, []) ∷ []
-switches_entries p = refl
-
 -- for (int i = 0; ; i++) if (i == 4) break
 counts : (p : Pointer) → code p (counting p) ≡
     op.Int (pos 0) ∷ op.Store 1 ∷ op.Jump 35 ∷ op.Turn
@@ -50,16 +38,10 @@ counts : (p : Pointer) → code p (counting p) ≡
     ∷ op.Return ∷ []
 counts p = refl
 
-counts_entries : (p : Pointer) → places p (counting p) ≡ (10, []) ∷ (25, []) ∷ (35, []) ∷ (40, []) ∷ []
-counts_entries p = refl
-
 -- do { } while (y != 0)
 waits : (p : Pointer) → code p (stmt.DoWhile' p stmt.Empty (is p (y p) comparison.NotEqual (int 0))) ≡
     op.Turn ∷ op.Load 0 ∷ op.GetInt 4 ∷ op.Int (pos 0) ∷ op.IntNe ∷ op.JumpTrue 0 ∷ op.Return ∷ []
 waits p = refl
-
-waits_entries : (p : Pointer) → places p (stmt.DoWhile' p stmt.Empty (is p (y p) comparison.NotEqual (int 0))) ≡ (0, []) ∷ (1, []) ∷ (15, []) ∷ []
-waits_entries p = refl
 
 -- if (q) y = 1; else y = 2
 branches : (p : Pointer) → code p (stmt.If' (q p) p (set_y p (int 1)) p (set_y p (int 2))) ≡
@@ -69,13 +51,7 @@ branches : (p : Pointer) → code p (stmt.If' (q p) p (set_y p (int 1)) p (set_y
     ∷ op.Return ∷ []
 branches p = refl
 
-branches_entries : (p : Pointer) → places p (stmt.If' (q p) p (set_y p (int 1)) p (set_y p (int 2))) ≡ (21, []) ∷ (31, []) ∷ []
-branches_entries p = refl
-
--- Str t; return; y = 1: a local begins anew wherever its declaration is executed, and what is never reached has an entry
+-- Str t; return; y = 1: a local begins anew wherever its declaration is executed
 dead : (p : Pointer) → code p (block_of_three p (stmt.Local kind.Text 1 None) (stmt.Return None) (set_y p (int 1))) ≡
     op.Null ∷ op.Store 1 ∷ op.Return ∷ op.Load 0 ∷ op.Int (pos 1) ∷ op.PutInt 4 ∷ op.Return ∷ []
 dead p = refl
-
-dead_entries : (p : Pointer) → places p (block_of_three p (stmt.Local kind.Text 1 None) (stmt.Return None) (set_y p (int 1))) ≡ (4, []) ∷ []
-dead_entries p = refl

@@ -5,6 +5,5 @@ pub mod Code
 pub mod Rows
 pub mod Lists
 pub mod Starts
-pub mod Entries
-pub mod Stack
 pub mod Method
+pub mod Nodes

@@ -143,7 +143,8 @@ pub(crate) fn zero_size(kind: Kind) -> usize
     }
 }
 
-pub(crate) fn pop_size(kind: Kind) -> usize
+/// How many bytes it takes to take a value of a kind off the stack; of void there is none.
+pub fn pop_size(kind: Kind) -> usize
     ensures { result ≡ meant.pop_size kind }
 {
     match kind {

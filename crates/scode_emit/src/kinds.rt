@@ -55,8 +55,8 @@ fn text_kind(call: TextCall) -> Kind
     }
 }
 
-// The kind of a value that is read from a place.
-pub(crate) fn place_kind(target: &Place) -> Kind
+/// The kind of a value that is read from a place.
+pub fn place_kind(target: &Place) -> Kind
     ensures { result ≡ kinds.place_kind target.now }
 {
     match target {
@@ -68,10 +68,10 @@ pub(crate) fn place_kind(target: &Place) -> Kind
     }
 }
 
-// The kind of an expression.
+/// The kind of an expression.
 #[cycle(kinds)]
 #[tactic(auto, using(crate::proofs::RowLemmas::kind_after_hidden))]
-pub(crate) fn kind_of(e: &Expr) -> Kind
+pub fn kind_of(e: &Expr) -> Kind
     ensures { result ≡ kinds.kind_of e.now }
 {
     match e {
@@ -108,9 +108,9 @@ fn kind_behind(start: Kind, links: &[Link]) -> Kind
     kind
 }
 
-// The kind of what a link gives.
+/// The kind of what a link gives.
 #[cycle(kinds)]
-pub(crate) fn link_kind(link: &Link) -> Kind
+pub fn link_kind(link: &Link) -> Kind
     ensures { result ≡ kinds.link_kind link.now }
 {
     match link {

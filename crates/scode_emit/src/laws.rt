@@ -1,5 +1,5 @@
 //! Laws of code. Each is the contract of a function that does nothing but name the laws that it stands on.
-ghost use Rattle.std.specs.Prelude.{◌≡◌, ℕ, ◌++◌, List, ◌∷◌, Option, Some, All, length};
+ghost use Rattle.std.specs.Prelude.{◌≡◌, ◌≤◌, ℕ, ◌++◌, List, ◌∷◌, Option, Some, All, length};
 ghost use Rattle.sed_typed.specs.declared.program.Method.{Method as AnyMethod};
 ghost use Rattle.sed_typed.specs.declared.program.Program.{Program as AnyProgram};
 ghost use Rattle.sed_typed.specs.declared.statement.Stmt.{Stmt as AnyStmt};
@@ -13,6 +13,7 @@ ghost use Rattle.scode_emit.specs.Sizes.{expr_size, stmt_size};
 ghost use Rattle.scode_emit.specs.Code.{expr_code, stmt_code, bytes_of};
 ghost use Rattle.scode_emit.specs.Starts.{starts_of};
 ghost use Rattle.scode_emit.specs.Method.{code_of, size_of};
+ghost use Rattle.scode_emit.specs.Nodes.{body_nodes};
 
 use scode_ops::instructions_are_found;
 
@@ -23,6 +24,12 @@ pub fn code_has_its_size()
         → length (bytes_of (stmt_code w at out on s)) ≡ stmt_size w s }
     ensures methods { (program : AnyProgram) (layout : AnyLayout) (m : AnyMethod)
         → length (bytes_of (code_of program layout m)) ≡ size_of program layout m }
+{}
+
+/// The code of a method that has at most 1,000 statements, expressions and case labels together is not too long.
+pub fn small_methods_are_not_too_long()
+    ensures { (program : AnyProgram) (layout : AnyLayout) (m : AnyMethod)
+        → body_nodes m.body ≤ 1000 → size_of program layout m ≤ 65535 }
 {}
 
 /// In the bytes of instructions each that has an encoding stands behind those before it; and where all have one, the

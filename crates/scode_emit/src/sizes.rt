@@ -1,4 +1,4 @@
-//! How many bytes the code of a tree has, or a number past the longest method.
+//! How many bytes the code of a tree has, or 65,536 where there are more: no method is so long.
 ghost use Rattle.std.specs.Prelude.{◌≡◌, ◌+◌, min};
 ghost use Rattle.std.specs.Option.{option_map_or};
 ghost use Rattle.sed_typed.specs.Kinds.{kind_of as kind_in};
@@ -34,8 +34,9 @@ fn around_size(site: &Site<'_>, update: Update, target: &Place) -> usize
 
 // ---- expressions
 
+/// How many bytes the code of an expression has, or 65,536 if there are more.
 #[cycle(sizes)]
-pub(crate) fn expr_size(site: &Site<'_>, e: &Expr) -> usize
+pub fn expr_size(site: &Site<'_>, e: &Expr) -> usize
     ensures { result ≡ min (sizes.expr_size (seen site.now) e.now) 65536 }
 {
     match e {
@@ -70,9 +71,9 @@ pub(crate) fn expr_size(site: &Site<'_>, e: &Expr) -> usize
     }
 }
 
-// What stands on the stack before a value is stored at a place.
+/// The same of what puts on the stack what has to be there before a value is stored at a place.
 #[cycle(sizes)]
-pub(crate) fn place_size(site: &Site<'_>, target: &Place) -> usize
+pub fn place_size(site: &Site<'_>, target: &Place) -> usize
     ensures { result ≡ min (sizes.place_size (seen site.now) target.now) 65536 }
 {
     match target {
@@ -112,9 +113,9 @@ fn links_size(site: &Site<'_>, start: Kind, links: &[Link]) -> usize
     sum
 }
 
-// A link with the kind of what is on its left.
+/// The same of a link, with the kind of what is on its left.
 #[cycle(sizes)]
-pub(crate) fn link_size(site: &Site<'_>, kind: Kind, link: &Link) -> usize
+pub fn link_size(site: &Site<'_>, kind: Kind, link: &Link) -> usize
     ensures { result ≡ min (sizes.link_size (seen site.now) kind link.now) 65536 }
 {
     match link {
@@ -189,7 +190,8 @@ pub(crate) fn begin_size(site: &Site<'_>, kind: Kind, value: &Option<Expr>) -> u
     }
 }
 
-pub(crate) fn test_size(site: &Site<'_>, test: &Option<Expr>) -> usize
+/// The same of the condition of a `for`, which is true where none is written.
+pub fn test_size(site: &Site<'_>, test: &Option<Expr>) -> usize
     ensures { result ≡ min (sizes.test_size (seen site.now) test.now) 65536 }
 {
     match test {
@@ -198,7 +200,8 @@ pub(crate) fn test_size(site: &Site<'_>, test: &Option<Expr>) -> usize
     }
 }
 
-pub(crate) fn last_size(site: &Site<'_>, last: &Option<Expr>) -> usize
+/// The same of the last part of a `for`, whose value is not used.
+pub fn last_size(site: &Site<'_>, last: &Option<Expr>) -> usize
     ensures { result ≡ min (sizes.last_size (seen site.now) last.now) 65536 }
 {
     match last {
@@ -207,15 +210,15 @@ pub(crate) fn last_size(site: &Site<'_>, last: &Option<Expr>) -> usize
     }
 }
 
-// A jump over so many bytes.
-pub(crate) fn over_size(size: usize) -> usize
+/// How many bytes a jump over so many bytes has: none, if there are none to jump over.
+pub fn over_size(size: usize) -> usize
     ensures { result ≡ sizes.over_size size }
 {
     if size == 0 { 0 } else { 3 }
 }
 
-// The tests of a `switch`.
-pub(crate) fn tests_size(labels: &[Label]) -> usize
+/// How many bytes the tests of a `switch` have, or 65,536 if there are more.
+pub fn tests_size(labels: &[Label]) -> usize
     ensures { result ≡ min (sizes.tests_size labels.now) 65536 }
 {
     let mut sum = 0;
@@ -228,9 +231,10 @@ pub(crate) fn tests_size(labels: &[Label]) -> usize
     sum
 }
 
+/// How many bytes the code of a statement has, or 65,536 if there are more.
 #[cycle(stmt_sizes)]
 #[tactic(auto, using(crate::proofs::RowLemmas::over_capped))]
-pub(crate) fn stmt_size(site: &Site<'_>, s: &Stmt) -> usize
+pub fn stmt_size(site: &Site<'_>, s: &Stmt) -> usize
     ensures { result ≡ min (sizes.stmt_size (seen site.now) s.now) 65536 }
 {
     match s {
@@ -279,4 +283,25 @@ pub(crate) fn block_size(site: &Site<'_>, all: &[Stmt]) -> usize
         sum = capped(sum + stmt_size(site, s));
     }
     sum
+}
+
+// ---- methods
+
+fn end_size(kind: Kind) -> usize
+    ensures { result ≡ sizes.end_size kind }
+{
+    match kind {
+        Kind::Void => 1,
+        _ => zero_size(kind) + 1,
+    }
+}
+
+/// How many bytes the code of a method has, or 65,536 if there are more.
+pub fn body_size(site: &Site<'_>, kind: Kind, body: &Option<Stmt>) -> usize
+    ensures { result ≡ min (sizes.body_size (seen site.now) kind body.now) 65536 }
+{
+    match body {
+        Some(body) => capped(stmt_size(site, body) + end_size(kind)),
+        None => 0,
+    }
 }

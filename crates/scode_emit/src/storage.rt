@@ -23,7 +23,8 @@ pub enum Storage {
     InElement(Prim, u16, u16),
 }
 
-pub(crate) fn storage_of(site: &Site<'_>, target: &Place) -> Storage
+/// What a place of the source is once what it needs is on the stack.
+pub fn storage_of(site: &Site<'_>, target: &Place) -> Storage
     ensures { result ≡ meant.storage (seen site.now) target.now }
 {
     match target {
@@ -63,7 +64,8 @@ pub(crate) fn keep_size(storage: Storage) -> usize
     }
 }
 
-pub(crate) fn fetch_size(storage: Storage) -> usize
+/// How many bytes it takes to read the value that stands there, above what is needed to store another.
+pub fn fetch_size(storage: Storage) -> usize
     ensures { result ≡ meant.fetch_size storage }
 {
     match storage {
@@ -93,7 +95,8 @@ fn put_old_size(storage: Storage) -> usize
     }
 }
 
-pub(crate) fn before_size(gives: Gives, storage: Storage) -> usize
+/// How many bytes stand before the operand of a compound assignment that gives this value.
+pub fn before_size(gives: Gives, storage: Storage) -> usize
     ensures { result ≡ meant.before_size gives storage }
 {
     match gives {

@@ -1,7 +1,7 @@
 //! Laws of the tables of virtual methods, for provers.
 ghost use Rattle.std.specs.Prelude.{◌≡◌, ℕ, false, All, IsSomeAnd, IsTrue, List, Some, is_some, map, slice_get};
 ghost use Rattle.std.specs.Option.{option_map_or};
-ghost use Rattle.sed_typed.specs.Classes.{base_of, find, nearest};
+ghost use Rattle.sed_typed.specs.Classes.{base_of, find, method_name, nearest};
 ghost use Rattle.sed_typed.specs.SysTypes.{component_type};
 ghost use Rattle.sed_typed.specs.Typed.{Typed};
 ghost use Rattle.sed_typed.specs.TypedSchema.{is_below, is_below_sys};
@@ -9,10 +9,13 @@ ghost use Rattle.sed_typed.specs.Virtual.{virtual_names};
 ghost use Rattle.sed_typed.specs.declared.program.Program.{Program as AnyProgram};
 ghost use Rattle.sed_layout.specs.MethodTables.{HasSystemMethods, KeepsPlaces, MayStand, place_of, table_of};
 
-/// A table leaves no virtual method of its class out: at each place stands the nearest method of the name there.
+/// A table leaves no virtual method of its class out: at each place stands the nearest method of the name there, which
+/// has this name.
 pub fn tables_have_each_virtual_method()
-    ensures { (program : AnyProgram) → Typed program → (class : ℕ)
+    ensures nearest { (program : AnyProgram) → Typed program → (class : ℕ)
         → map Some (table_of program class) ≡ map (find program class) (virtual_names program class) }
+    ensures names { (program : AnyProgram) → Typed program → (class : ℕ)
+        → map (method_name program) (table_of program class) ≡ virtual_names program class }
 {}
 
 /// The place of a name in the table of a class holds the nearest method of that name at or above the class.

@@ -6,7 +6,7 @@ ghost use Rattle.sed_typed.specs.Typed.{Typed};
 
 use sed_typed::{ClassInfo, FieldForm, Program};
 
-/// The base of a class.
+/// The base of a class: none where it has none, or there is no class of this number.
 pub fn base_of(classes: &[ClassInfo], class: usize) -> Option<usize>
     ensures { result ≡ base_in classes.now class }
 {

@@ -27,7 +27,8 @@ use Rattle.sed_engine.proofs.Building.{Pointer, none, one, two, int, set, set_y,
 use Rattle.scode_code.specs.Faults.{first_broken}
 use Rattle.scode_code.specs.Steps.{steps}
 use Rattle.scode_code.proofs.Building as image
-use Rattle.scode_emit.proofs.Building.{program, image_of, m_of, a_at, s_of, update, looping, switching, counting}
+use Rattle.scode_emit.proofs.Building.{program, m_of, a_at, s_of, update, looping, switching, counting}
+use Rattle.scode_entries.proofs.Building.{image_of}
 
 -- how `execute` ends with so many turns, and y then: by the program, and by its image
 abbrev of_program : Pointer → Stmt → ℕ → CallEnd × List (Option Value)

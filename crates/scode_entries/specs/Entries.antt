@@ -20,16 +20,13 @@ use Rattle.sed_typed.specs.declared.tree.Link.TheVariants as link
 use Rattle.sed_typed.specs.Kinds.{kind_of, link_kind, place_kind}
 use Rattle.scode_image.specs.declared.image.ImageKind.{ImageKind}
 use Rattle.scode_code.specs.Kinds.{void, bool, int, long, str, object, statics}
+use Rattle.scode_entries.specs.declared.marks.Mark.{Mark}
 use Rattle.scode_emit.specs.Site.{Site}
 use Rattle.scode_emit.specs.Instructions.{pop_size, storage, fetch_size, before_size}
 use Rattle.scode_emit.specs.Sizes.{expr_size, place_size, link_size, test_size, last_size, over_size, tests_size}
 use Rattle.scode_emit.specs.Sizes.{stmt_size}
 
--- an entry: its place, and the kinds on the stack, the top first
-pub record Mark : Type 0 where
-  pub place : ℕ
-  pub stack : List ImageKind
-
+-- a mark is an entry: its place, and the kinds on the stack, the top first
 abbrev pub mark : ℕ → List ImageKind → Mark
 mark at stack = record { place = at; stack = stack }
 
@@ -48,18 +45,30 @@ abbrev pub above : Kind → List ImageKind → List ImageKind
 above kind.Void below = below
 above k below = cell_of k ∷ below
 
--- what stands on the stack before a value is stored at a place
-abbrev pub with_place : Place → List ImageKind → List ImageKind
-with_place (place.Local k i) below = below
-with_place (place.Static p i) below = statics ∷ below
-with_place (place.Field' p q e i) below = above (kind_of e) below
-with_place (place.Element' p n q e f r i) below = above (kind_of i) (above (kind_of e) below)
-with_place (place.StaticElement' p n i q e) below = above (kind_of e) (statics ∷ below)
+-- What stands on the stack before a value is stored at a place: the object or the static block that it lies in, and the
+-- index above it.
+abbrev pub with_holder : Place → List ImageKind → List ImageKind
+with_holder (place.Local k i) below = below
+with_holder (place.Static p i) below = statics ∷ below
+with_holder (place.Field' p q e i) below = above (kind_of e) below
+with_holder (place.Element' p n q e f r i) below = above (kind_of e) below
+with_holder (place.StaticElement' p n i q e) below = statics ∷ below
 
--- and with the value before above it: that of a local stands there twice where it is given
+abbrev pub with_index : Place → List ImageKind → List ImageKind
+with_index (place.Element' p n q e f r i) below = above (kind_of i) below
+with_index (place.StaticElement' p n i q e) below = above (kind_of e) below
+with_index target below = below
+
+abbrev pub with_place : Place → List ImageKind → List ImageKind
+with_place target below = with_index target (with_holder target below)
+
+-- And with the value before above it. That of a local stands there twice where it is wanted afterwards.
+abbrev pub with_wanted : Gives → Place → List ImageKind → List ImageKind
+with_wanted Old (place.Local k i) below = above k below
+with_wanted g target below = below
+
 abbrev pub with_old : Gives → Place → List ImageKind → List ImageKind
-with_old Old (place.Local k i) below = above k (above k below)
-with_old g target below = above (place_kind target) (with_place target below)
+with_old g target below = above (place_kind target) (with_wanted g target (with_place target below))
 
 -- ---- expressions
 

@@ -1,0 +1,10 @@
+pub mod Small
+pub mod Cases
+pub mod Entries
+pub mod Below
+pub mod MarkLists
+pub mod Stack
+pub mod StackLists
+pub mod LocalLists
+pub mod EntryLists
+pub mod Method

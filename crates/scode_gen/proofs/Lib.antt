@@ -1,0 +1,5 @@
+pub mod ClassRows
+pub mod Placed
+pub mod MadeClass
+pub mod Examples
+pub mod ShortMethods
