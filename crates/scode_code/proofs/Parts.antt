@@ -17,7 +17,7 @@ abbrev object : ℕ → FieldForm
 object class = form.Object (record { 0 = class })
 
 -- a field of the form, offset and n asked for is the one asked for
-same_field : (to f : ImageField) → is_field to.form to.offset to.n f ≡ true → f ≡ to
+pub same_field : (to f : ImageField) → is_field to.form to.offset to.n f ≡ true → f ≡ to
 same_field to f is =
     let p = and_parts ((f.form == to.form) && (f.offset == to.offset)) (f.n == to.n) is in
     let q = and_parts (f.form == to.form) (f.offset == to.offset) p.0 in

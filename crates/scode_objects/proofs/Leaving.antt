@@ -69,7 +69,7 @@ module _ (image : Image) (old new : Held) (p : Place) (e : RootEnd) where
       → Fits (meaning_of image).fields (meaning_of image).static_fields (meaning_of image).initial_statics e.statics
       → IsLoaded image new
   loaded_of_block was k at is object statics =
-      loaded_changed image old new p k at is.keeps.classes is.keeps.others e.contents is.contents was is.keeps.blocks
+      loaded_changed image old new p k at is.keeps.classes is.keeps.others e.contents is.contents was is.keeps.fit
       is.keeps.firsts object
       (subst (λ (m : Contents). Fits (meaning_of image).fields (meaning_of image).static_fields
       (meaning_of image).initial_statics m) (sym is.statics) statics)

@@ -1,7 +1,6 @@
 -- The objects that the blocks of a pool are, and what is true of them between root calls.
-use Rattle.std.specs.Prelude.{ℕ, ◌≡◌, ◌≢◌, map, IfSome}
+use Rattle.std.specs.Prelude.{ℕ, ◌≡◌, map, IfSome}
 use Rattle.std.specs.FinMap as finite
-use Rattle.std.specs.Option.{option_map}
 use Rattle.sed_value.specs.Mapped.{map_values}
 use Rattle.sed_typed.specs.Contents.{Contents}
 use Rattle.sed_engine.specs.declared.call.Place.{Place}
@@ -14,10 +13,9 @@ use Rattle.scode_image.specs.declared.image.Image.{Image}
 use Rattle.scode_code.specs.Contents.{held, statics_held}
 use Rattle.scode_code.specs.Faults.{IsVerified}
 use Rattle.scode_code.specs.Image.{meaning_of}
-use Rattle.scode_mem.specs.declared.block.Block.{Block}
 use Rattle.scode_mem.specs.declared.block.Block.TheVariants as block
-use Rattle.scode_mem.specs.Blocks.{Held, Kept, bytes_of}
-use Rattle.scode_state.specs.Stands.{BlocksFit, contents_in}
+use Rattle.scode_mem.specs.Blocks.{Held, Kept}
+use Rattle.scode_state.specs.Stands.{BlocksFit, KeepsBlocks, contents_in}
 
 -- ---- objects
 
@@ -47,19 +45,9 @@ pub record IsLoaded (image : Image) (h : Held) : Type 0 where
 
 -- ---- root calls
 
--- All blocks fit on, and but for the block at a place and the static one they are as they were; each place has an
--- object of the class that it had.
-pub record KeepsOthers (image : Image) (place : Place) (old new : Held) : Type 0 where
-  pub blocks : BlocksFit image new
-  pub others : (b : Block) → b ≢ block.Live place → b ≢ block.Statics → bytes_of new b ≡ bytes_of old b
-  pub classes : (q : ℕ) → option_map (λ k. k.class) (finite.get new.live q)
-      ≡ option_map (λ k. k.class) (finite.get old.live q)
-  pub firsts : new.firsts ≡ old.firsts
-  pub limit : new.limit ≡ old.limit
-
 -- A root call on an object of a class at a place left these blocks: its own and the static one hold what the call
 -- leaves, and the others are as they were.
 pub record IsLeftBy (image : Image) (class : ℕ) (place : Place) (e : RootEnd) (old new : Held) : Type 0 where
-  pub keeps : KeepsOthers image place old new
+  pub keeps : KeepsBlocks image place old new
   pub contents : contents_in image class Component new (block.Live place) ≡ e.contents
   pub statics : contents_in image class Statics new block.Statics ≡ e.statics

@@ -2,8 +2,8 @@
 //!
 //! A live block is an object of its class: its bytes hold the contents, by path, that the fields of the class say. Each
 //! call here does to the bytes what an engine does to objects, and says so of the objects alone; what it is given goes
-//! on to be what an engine may keep. None but `new_objects` and `schema_of` takes memory. The machine, which keeps an
-//! image and a pool, stands on this crate: root calls it makes itself, and what they leave is a law here.
+//! on to be what an engine may keep. None but `new_objects` and `schema_of` takes memory. A machine, which keeps an
+//! image and a pool, is to stand on this crate and make root calls itself; what they leave is a law here.
 #![tactic(auto)]
 
 mod forms;

@@ -22,7 +22,6 @@ mod Narrow
 mod Objects
 mod OldUpdates
 mod Operations
-mod RootFrames
 mod Roots
 mod Solids
 mod Statements

@@ -19,7 +19,7 @@ use Rattle.sed_engine.proofs.Frames.{FrameHas}
 use Rattle.sed_engine.proofs.Ranges.{Sound}
 use Rattle.sed_engine.proofs.Ready.{Fitting}
 use Rattle.sed_engine.proofs.TypedBodies.{calls_sound}
-use Rattle.sed_engine.proofs.TypedRoots.{IsComponent, RunsWith}
+use Rattle.sed_engine.proofs.TypedRoots.{IsComponent, RunsWith, component_of, RunsRoot, Starts, root_is, argument_is, frame_is}
 use Rattle.sed_typed.specs.Typed.{IsMethod}
 use Rattle.scode_image.specs.declared.image.Image.{Image}
 use Rattle.scode_image.specs.declared.image.ImageMethod.{ImageMethod}
@@ -38,7 +38,6 @@ use Rattle.scode_sim.proofs.Callees.{others_room}
 use Rattle.scode_sim.proofs.Context.{Known, machine}
 use Rattle.scode_sim.proofs.Follows.{Ends}
 use Rattle.scode_sim.proofs.Frames.{Agree, AgreeOn, IsCell}
-use Rattle.scode_sim.proofs.RootFrames.{component_of, RunsRoot, Starts, root_is, argument_is, frame_is}
 
 -- the component, and the argument where there is one
 pub record Given (v : Val) (many : ℕ) : Type 0 where

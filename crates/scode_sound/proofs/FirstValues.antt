@@ -24,7 +24,7 @@ use Rattle.scode_whole.proofs.SlotFields.{form_prim, form_str, form_buf}
 use Rattle.scode_whole.proofs.Truths.{no_value, passes, same_value}
 use Rattle.scode_sound.specs.Cells.{Concrete, form_from, shapes_of}
 use Rattle.scode_sound.proofs.Rules.{Tables, form_object, form_array, statics_rule}
-use Rattle.scode_sound.proofs.Nesting.{Nested, all_nested}
+use Rattle.scode_whole.proofs.Nesting.{Nested, all_nested}
 use Rattle.scode_sound.proofs.Booleans.{second}
 
 one_has : (a path : Path) (v : Value) → a ≡ path → has ((a, v) ∷ []) path ≡ true
@@ -167,7 +167,7 @@ pub initial_has : (w : Setting) → Tables w.image → Concrete w.image w.class 
     → form_from w Component path ≡ Some g → has (initial w.image w.class) path ≡ true
 initial_has w is own path g leaf e =
     objects_have w.image (length w.image.classes) w.class
-    (all_nested w.image is w.class (slice_get_within w.image.classes w.class own.info own.stands)) [] path
+    (all_nested w.image is.whole w.class (slice_get_within w.image.classes w.class own.info own.stands)) [] path
     (class_bytes w.image w.class) g leaf e
 
 pub statics_have : (w : Setting) → Tables w.image → (path : Path) (g : FieldForm) → IsLeaf g
@@ -185,7 +185,7 @@ statics_have w is (j ∷ rest) g leaf e =
         → slice_get w.image.static_fields i ≡ Some f → (f.form == 8) ≡ true
         → Nested w.image (length w.image.classes) f.n
     static_nested w is i f at object =
-        all_nested w.image is f.n
+        all_nested w.image is.whole f.n
         (ltb-true f.n (length w.image.classes)
         (second (f.form == 8) (rule.has_class w.image f.n) object
         (passes (λ (g : ImageField). not (g.form == 8) || rule.has_class w.image g.n) w.image.static_fields i f

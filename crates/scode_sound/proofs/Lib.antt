@@ -4,7 +4,6 @@ pub mod Rules
 pub mod Cells
 pub mod Spots
 pub mod Members
-pub mod Nesting
 pub mod FirstValues
 pub mod Keeping
 pub mod Plain

@@ -24,7 +24,7 @@ use Rattle.scode_state.specs.Values.{BufsFit}
 use Rattle.scode_whole.proofs.Bases.{fields_at}
 use Rattle.scode_state.proofs.Rows.{Row, class_rule, form_by, static_row}
 use Rattle.scode_state.proofs.Apart.{element_of, field_part_of}
-use Rattle.scode_state.proofs.Nesting.{Nested, all_nested}
+use Rattle.scode_whole.proofs.Nesting.{Nested, all_nested}
 use Rattle.scode_state.proofs.Paths.{Inner, inner_of, no_fields}
 
 -- what the rule says of a part at an offset, where what it says of objects is known
@@ -136,7 +136,7 @@ first_class image agree class (i ∷ path) o n e = by_class (slice_get image.cla
     by_class (Some c) at =
         subst (λ (b : List ℕ). number_of (bytes_at b o 2) ≤ n)
         (sym (ap (λ (x : Option ImageClass). option_map_or (λ (d : ImageClass). d.contents) x []) at))
-        (fields_fit image c.contents agree (length c.contents) c.fields (class_rule image agree class c at).row
+        (fields_fit image c.contents agree (length c.contents) c.fields (class_rule image agree class c at)
         (class_agrees image agree class c at).fields.fit i path o n
         (sym (ap (λ (all : List ImageField). option_and_then (part_from image path)
         (option_map (field_part 0) (slice_get all i))) (fields_at image class c at)) ∙ e))

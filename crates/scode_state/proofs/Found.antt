@@ -22,7 +22,7 @@ use Rattle.scode_whole.proofs.Truths.{no_truth, no_value, same_value, through}
 use Rattle.scode_state.proofs.Rows.{form_by, static_row}
 use Rattle.scode_state.proofs.Apart.{element_of, field_part_of, path_lies}
 use Rattle.scode_state.proofs.Blocks.{block_path}
-use Rattle.scode_state.proofs.Nesting.{Nested, all_nested, equal}
+use Rattle.scode_whole.proofs.Nesting.{Nested, all_nested, equal}
 use Rattle.scode_state.proofs.Paths.{no_fields}
 
 -- ---- forms

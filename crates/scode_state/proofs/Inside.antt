@@ -17,6 +17,7 @@ use Rattle.scode_image.specs.declared.image.ImageField.{ImageField}
 use Rattle.scode_code.specs.Fields.{Setting, buf_number, class_of, fields_at, fields_from}
 use Rattle.scode_code.specs.Parts.{Part, field_part, part_from, part_in, part_of}
 use Rattle.scode_code.specs.Tables.{class_fields, field_number, form_of, is_field}
+use Rattle.scode_code.proofs.Parts.{same_field}
 use Rattle.scode_whole.proofs.Truths.{no_truth, no_value, same_value, through}
 use Rattle.scode_state.proofs.Apart.{element_of, field_part_of}
 
@@ -161,17 +162,6 @@ pub field_found : (w : Setting) (spot : Spot) (at i : ℕ) (t : TypeNo) (test : 
     → part_of w.image w.class spot.base spot.path ≡ Some (at, form.Object t)
     → position test (fields_at w spot) ≡ Some i → FieldStands w spot at i test
 field_found w spot at i t test e found = field_in w spot.base spot.path at i t test e found
-
-same_field : (to f : ImageField) → is_field to.form to.offset to.n f ≡ true → f ≡ to
-same_field to f is =
-    let p = and_parts ((f.form == to.form) && (f.offset == to.offset)) (f.n == to.n) is in
-    let q = and_parts (f.form == to.form) (f.offset == to.offset) p.0 in
-    ap (λ (n : ℕ). let x : ImageField = record { offset = n; form = f.form; n = f.n } in x)
-    (eqb-true f.offset to.offset q.1)
-    ∙ ap (λ (n : ℕ). let x : ImageField = record { offset = to.offset; form = n; n = f.n } in x)
-    (eqb-true f.form to.form q.0)
-    ∙ ap (λ (n : ℕ). let x : ImageField = record { offset = to.offset; form = to.form; n = n } in x)
-    (eqb-true f.n to.n p.1)
 
 pub field_stands : (w : Setting) (spot : Spot) (at i : ℕ) (t : TypeNo) (to : ImageField)
     → part_of w.image w.class spot.base spot.path ≡ Some (at, form.Object t)

@@ -17,7 +17,7 @@ use Rattle.scode_whole.proofs.Rule.{Agrees}
 use Rattle.scode_whole.proofs.Truths.{no_value, same_value, through}
 use Rattle.scode_state.specs.References.{base_of, block_of, leads_to, reference_to}
 use Rattle.scode_state.proofs.Found.{spot_found}
-use Rattle.scode_state.proofs.Nesting.{equal}
+use Rattle.scode_whole.proofs.Nesting.{equal}
 
 -- ---- blocks and bases
 

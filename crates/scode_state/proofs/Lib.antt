@@ -2,7 +2,6 @@ pub mod Rows
 pub mod Apart
 pub mod Leaves
 pub mod Changes
-pub mod Nesting
 pub mod Paths
 pub mod Present
 pub mod Written

@@ -22,7 +22,7 @@ use Rattle.scode_whole.proofs.Truths.{no_truth, no_value, same_value, through}
 use Rattle.scode_state.specs.Values.{part_width}
 use Rattle.scode_state.proofs.Rows.{AreApart, class_row, form_by, primitive_wide}
 use Rattle.scode_state.proofs.Apart.{Stand, apart, compare, element_of, field_part_of, holds, same, stands_in}
-use Rattle.scode_state.proofs.Nesting.{Holds, Nested, all_nested}
+use Rattle.scode_whole.proofs.Nesting.{Holds, Nested, all_nested}
 
 -- ---- objects in objects
 

@@ -25,7 +25,7 @@ use Rattle.scode_state.specs.Values.{held_in, value_from}
 use Rattle.scode_state.proofs.Rows.{Row, static_row}
 use Rattle.scode_state.proofs.Apart.{element_of, field_part_of}
 use Rattle.scode_state.proofs.Leaves.{Each, Inside, IsAt, IsLeaf, Leaf, held_read, leaf_value, leaves_among, leaves_in, leaves_lead, leaves_of, object_leaves, part_value, read}
-use Rattle.scode_state.proofs.Nesting.{Holds, Nested, all_nested}
+use Rattle.scode_whole.proofs.Nesting.{Holds, Nested, all_nested}
 use Rattle.scode_state.proofs.Paths.{Inner, inner_of, no_fields}
 
 -- ---- a leaf stands at a path

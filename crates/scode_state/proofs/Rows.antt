@@ -199,20 +199,15 @@ row_of image size fields bytes h =
 pub static_row : (image : Image) → Agrees image → Row image (length image.static_bytes) image.static_fields
 static_row image is = row_of image (length image.static_bytes) image.static_fields image.static_bytes is.statics
 
--- what the rule says of a class of an image
-pub record ClassRow (image : Image) (class : ℕ) (c : ImageClass) : Type 0 where
-  pub row : Row image (length c.contents) c.fields
-  pub holders : rule.holds_no_holder image class c ≡ true
-
 pub class_rule : (image : Image) → Agrees image → (class : ℕ) (c : ImageClass) → slice_get image.classes class ≡ Some c
-    → ClassRow image class c
+    → Row image (length c.contents) c.fields
 class_rule image is class c e =
     let p = nine (rule.class_numbers_are_there image c) (rule.base_stands_before class c) (rule.is_marked image class c)
     (rule.with_base image (rule.grows_from_base c) c) (rule.with_base image (rule.table_keeps_signatures image c) c)
     (rule.fields_agree image (length c.contents) c.fields c.contents) (rule.holds_no_holder image class c)
     (rule.slots_have_parts image c) (rule.table_methods_fit image class c)
     (at_number (rule.class_agrees image) class image.classes c is.classes e) in
-    record { row = row_of image (length c.contents) c.fields c.contents p.5; holders = p.6 }
+    row_of image (length c.contents) c.fields c.contents p.5
 
 empty_row : (image : Image) (size : ℕ) → Row image size []
 empty_row image size = record {
@@ -236,4 +231,4 @@ class_row image is class = by_class (slice_get image.classes class) refl
         subst (λ (all : List ImageField). Row image (data_size image class) all) (sym (fields_at image class c e))
         (subst (λ (n : ℕ). Row image n c.fields)
         (sym (ap (λ (o : Option ImageClass). length (option_map_or (λ (d : ImageClass). d.contents) o [])) e))
-        (class_rule image is class c e).row)
+        (class_rule image is class c e))

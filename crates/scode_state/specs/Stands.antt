@@ -6,6 +6,7 @@ use Rattle.sed_value.specs.declared.value.Value.{Value}
 use Rattle.sed_typed.specs.declared.program.FieldForm.{FieldForm}
 use Rattle.sed_typed.specs.Contents.{Contents, Path, with_value}
 use Rattle.sed_wire.specs.Number.{number_of}
+use Rattle.sed_engine.specs.declared.call.Place.{Place}
 use Rattle.sed_engine.specs.Values.{Base, Component, Statics}
 use Rattle.scode_image.specs.declared.image.Image.{Image}
 use Rattle.scode_code.specs.Parts.{part_of}
@@ -36,6 +37,16 @@ BlocksFit image h = (class : ℕ) (base : Base) (b : Block) → IsBlock h class 
 -- what a block holds by path; a place that is not live holds nothing
 abbrev pub contents_in : Image → ℕ → Base → Held → Block → Contents
 contents_in image class base h b = option_map_or (held_in image class base) (bytes_of h b) []
+
+-- Of the blocks that there were, the component's own and the static one may hold something else now. All others are as
+-- they were, none came or went, and all fit on.
+pub record KeepsBlocks (image : Image) (place : Place) (old new : Held) : Type 0 where
+  pub fit : BlocksFit image new
+  pub others : (b : Block) → b ≢ block.Live place → b ≢ block.Statics → bytes_of new b ≡ bytes_of old b
+  pub classes : (q : ℕ) → option_map (λ k. k.class) (finite.get new.live q)
+      ≡ option_map (λ k. k.class) (finite.get old.live q)
+  pub firsts : new.firsts ≡ old.firsts
+  pub limit : new.limit ≡ old.limit
 
 -- in a block a part of this offset and form stands at a path
 pub record StandsAt (image : Image) (class : ℕ) (base : Base) (path : Path) (h : Held) (b : Block) (offset : ℕ)

@@ -19,4 +19,4 @@ pub use laws::{
     parts_lie_within, parts_stand_inside, references_are_found, references_are_places,
 };
 pub use numbers::{read_cell, read_value, write_cell, write_value};
-pub use strs::{characters, fill_str, read_str, set_character};
+pub use strs::{fill_str, read_str, set_character};

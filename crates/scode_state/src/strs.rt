@@ -1,12 +1,11 @@
 //! Reads and stores of Strs.
-ghost use Rattle.std.specs.Prelude.{◌≡◌, ◌+◌, ◌-◌, ◌<◌, ◌≤◌, ◌^◌, ℕ, IfSome, Some, List, [], ◌∷◌, ◌++◌, length};
-ghost use Rattle.std.specs.Prelude.{take, drop, replicate};
+ghost use Rattle.std.specs.Prelude.{◌≡◌, ◌+◌, ◌-◌, ◌<◌, ◌≤◌, ◌^◌, ℕ, IfSome, Some, List, [], ◌∷◌};
 ghost use Rattle.std.specs.Int.{w8};
 ghost use Rattle.sed_value.specs.Wrap.{low_bits};
 ghost use Rattle.sed_value.specs.declared.value.Value.TheVariants as kept;
 ghost use Rattle.sed_typed.specs.declared.program.FieldForm.TheVariants as form;
 ghost use Rattle.sed_typed.specs.Contents.{Path, value_at};
-ghost use Rattle.sed_engine.specs.Texts.{characters as characters_of, filled as filled_with, with_character};
+ghost use Rattle.sed_engine.specs.Texts.{filled as filled_with, with_character};
 ghost use Rattle.sed_engine.specs.Values.{Base};
 ghost use Rattle.scode_image.specs.declared.image.Image.{Image as AnyImage};
 ghost use Rattle.scode_mem.specs.Blocks.{HasBytes, bytes_at, bytes_of, with_bytes};
@@ -14,6 +13,7 @@ ghost use Rattle.scode_state.specs.Stands.{IsStored, StandsAt, contents_in};
 
 use crate::runs::{read_run, write_run};
 use scode_mem::{Block, Pool};
+use sed_engine::filled;
 use sed_typed::{Bytes255, LONGEST_TEXT};
 use sed_value::low_byte;
 
@@ -32,18 +32,6 @@ pub fn read_str(pool: &Pool, b: Block, at: u16, size: u8) -> Bytes255
     Bytes255::new(bytes)
 }
 
-/// The characters of a Str: its bytes before the first 0.
-pub fn characters(bytes: &[u8]) -> &[u8]
-    ensures { result.now ≡ characters_of bytes.now }
-{
-    for (at, byte) in bytes.iter().enumerate() {
-        if *byte == 0 {
-            return &bytes[..at];
-        }
-    }
-    bytes
-}
-
 /// Puts characters into a Str of so many bytes, at most one less than these, and then zeros. Nothing else changes. So
 /// they may be those of the Str itself.
 pub fn fill_str(pool: &mut Pool, b: Block, at: u16, size: u8, text: &[u8])
@@ -56,46 +44,6 @@ pub fn fill_str(pool: &mut Pool, b: Block, at: u16, size: u8, text: &[u8])
         IsStored image class base path pool.old pool.new b (kept.Buf (filled_with size text.now)) }
 {
     write_run(pool, b, at, filled(usize::from(size), text).as_bytes());
-}
-
-// As many characters as a Str of a size holds with a 0, and then zeros.
-fn filled(size: usize, text: &[u8]) -> Bytes255
-    requires { size ≤ 255 }
-    ensures { result ≡ filled_with size text.now }
-{
-    with_zeros(size, first(text, size.saturating_sub(1)))
-}
-
-// The first bytes, so many at most.
-fn first(bytes: &[u8], most: usize) -> &[u8]
-    ensures same { result.now ≡ take most bytes.now }
-    ensures most { length result.now ≤ most }
-{
-    if most < bytes.len() {
-        &bytes[..most]
-    } else {
-        bytes
-    }
-}
-
-// The bytes and zeros behind them, so many together.
-fn with_zeros(size: usize, bytes: &[u8]) -> Bytes255
-    requires most { size ≤ 255 }
-    requires fits { length bytes.now ≤ size }
-    ensures { result ≡ bytes.now ++ replicate (size - length bytes.now) 0 }
-{
-    let mut all = [0; LONGEST_TEXT];
-    let new = &mut all[..size];
-    copy_front(new, bytes);
-    Bytes255::new(new)
-}
-
-// Puts bytes in the place of the first.
-fn copy_front(into: &mut [u8], bytes: &[u8])
-    requires { length bytes.now ≤ length into.old }
-    ensures { into.new ≡ bytes.now ++ drop (length bytes.now) into.old }
-{
-    into[..bytes.len()].copy_from_slice(bytes);
 }
 
 /// Puts the low 8 bits of a number into a Str of so many bytes, at an index. Nothing else changes.

@@ -28,7 +28,7 @@ some_below : (s : Frames) → IsRunning s → length s.frames ≢ 1 → 0 < leng
 some_below s runs n = (let long = frames_long s.frames runs in omega (arith, long, n))
 
 -- a value is one cell more
-one_more : (v : Val) (stack : List Val) → IsValue v → with_pushed v stack ≡ v ∷ stack
+pub one_more : (v : Val) (stack : List Val) → IsValue v → with_pushed v stack ≡ v ∷ stack
 one_more Nothing stack h = absurd h
 one_more (Truth t) stack h = refl
 one_more (Int n) stack h = refl

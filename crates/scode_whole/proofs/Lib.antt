@@ -5,6 +5,7 @@ pub mod Kits
 pub mod Rows
 pub mod SysTypes
 pub mod Bases
+pub mod Nesting
 pub mod SlotFields
 pub mod Limits
 pub mod FirstBytes

@@ -70,6 +70,7 @@ pub record ClassAgrees (image : Image) (class : ℕ) (c : ImageClass) : Type 0 w
   pub marked : rule.is_marked image class c ≡ true
   pub grows : rule.with_base image (rule.grows_from_base c) c ≡ true
   pub fields : FieldsAgree image (length c.contents) c.fields c.contents
+  pub holders : rule.holds_no_holder image class c ≡ true
   pub slots : rule.slots_have_parts image c ≡ true
   pub flags : nat_le c.flags 3 ≡ true
   pub field_forms : list_all (λ (f : ImageField). is_field_form f.form) c.fields ≡ true
@@ -98,6 +99,7 @@ class_agrees image is class c there =
       marked = p.2;
       grows = p.3;
       fields = fields_agree image (length c.contents) c.fields c.contents p.5;
+      holders = p.6;
       slots = p.7;
       flags = k.0;
       field_forms = k.1;

@@ -59,7 +59,7 @@ component_in program typed =
     let c = sys_class program.schema.classes component_type _ typed.kits.sys_types.component in
     record { class = c.class; is = c.is; info = c.info; there = c.there; kit = c.kit; number_is = c.number_is; has = tt }
 
-component_of : (program : Program) → Typed program → (class : ℕ) → is_creatable (code_of program) class ≡ true → IsComponent program class
+pub component_of : (program : Program) → Typed program → (class : ℕ) → is_creatable (code_of program) class ≡ true → IsComponent program class
 component_of program typed class h = go (slice_get program.schema.classes class) refl (typed.classes class) h
   where
     go : (o : Option ClassInfo) → slice_get program.schema.classes class ≡ o → IfSome o (IsClass program class) → option_map_or (λ c. c.is_component && not c.is_abstract) o false ≡ true → IsComponent program class
@@ -101,7 +101,7 @@ runs_with program typed class known a name n x found is instance takes =
     }
 
 -- a root call runs no method, or one that takes its argument
-abbrev RunsRoot : Program → ℕ → ActionArg → Option ℕ → Type 0
+abbrev pub RunsRoot : Program → ℕ → ActionArg → Option ℕ → Type 0
 RunsRoot program class a None = Unit {0}
 RunsRoot program class a (Some n) = RunsWith program class a n
 
@@ -126,7 +126,7 @@ callback_at program typed class c a name h =
     go (Some n) e h = root_at program typed class c.concrete c.component.class c.below a name (subst (λ (o : Option ℕ). IsSomeAnd o (IsRoot program a)) (sym e) h)
 
 -- a root call has an argument of a kind, and what it runs takes it
-abbrev Starts : (program : Program) (class : ℕ) → Value → Result (Option ℕ) Stop → Type 0
+abbrev pub Starts : (program : Program) (class : ℕ) → Value → Result (Option ℕ) Stop → Type 0
 Starts program class v m = (a : ActionArg) × (is_argument a v ≡ true) × Sound (RunsRoot program class a) m
 
 action_at : (program : Program) → Typed program → (class slot : ℕ) → IsComponent program class → (v : Value) → action_takes (slot_form (code_of program) class slot) v ≡ true →
@@ -150,7 +150,7 @@ action_at program typed class slot c v h = of_info (slice_get program.schema.cla
 other : {P : Type 0} → false ≡ true → P
 other e = no e
 
-root_is : (program : Program) → Typed program → (class : ℕ) → IsComponent program class → (which : Root) (v : Value) → may_call (code_of program) class which v ≡ true → Starts program class v (root_method program class which)
+pub root_is : (program : Program) → Typed program → (class : ℕ) → IsComponent program class → (which : Root) (v : Value) → may_call (code_of program) class which v ≡ true → Starts program class v (root_method program class which)
 root_is program typed class c Execute v h = (
   argument.Void,
   h,
@@ -167,7 +167,7 @@ root_is program typed class c (Callback callback.Changed) v h =
 
 -- ---- the argument
 
-argument_is : (program : Program) (class : ℕ) (a : ActionArg) (v : Value) → is_argument a v ≡ true → Sound (λ u. FrameHas program class (argument_kinds a) (u ∷ replicate 63 Nothing)) (argument_of v)
+pub argument_is : (program : Program) (class : ℕ) (a : ActionArg) (v : Value) → is_argument a v ≡ true → Sound (λ u. FrameHas program class (argument_kinds a) (u ∷ replicate 63 Nothing)) (argument_of v)
 argument_is program class argument.Void kept.Nothing h = (refl, no_locals program class 63)
 argument_is program class argument.Void v h = no h
 argument_is program class argument.Bool (kept.Bool t) h = (h, no_locals program class 63)
@@ -185,7 +185,7 @@ any_value P (Err (Traps t)) h = tt
 any_value P (Err Untyped) h = h
 
 -- the frame of a root call is one of its method
-frame_is : (program : Program) (class : ℕ) (a : ActionArg) (n : ℕ) (r : RunsWith program class a n) (v : Val) → FrameHas program class (argument_kinds a) (v ∷ replicate 63 Nothing) →
+pub frame_is : (program : Program) (class : ℕ) (a : ActionArg) (n : ℕ) (r : RunsWith program class a n) (v : Val) → FrameHas program class (argument_kinds a) (v ∷ replicate 63 Nothing) →
     FrameHas program class (receiver_of r.method ++ r.method.params) (root_frame v)
 frame_is program class a n r v k =
     let first : FrameHas program class ((kind.Object r.method.class ∷ []) ++ argument_kinds a) (root_frame v) = (record { at = class; is = refl; below = r.above }, k) in

@@ -10,6 +10,7 @@
 pub mod call;
 pub mod engine;
 pub mod laws;
+pub mod strs;
 pub mod trap;
 
 pub use call::{AddRefusal, CallEnd, Callback, Place, Root};
@@ -19,4 +20,5 @@ pub use laws::{
     paths_stay, turns_do_not_grow, typed_programs_are_whole, typed_programs_never_go_wrong,
     what_is_kept_fits, what_is_left_fits, what_may_be_asked,
 };
+pub use strs::{characters, filled};
 pub use trap::Trap;

@@ -1,6 +1,6 @@
 //! Strs: their calls and their bytes.
-ghost use Rattle.std.specs.Prelude.{◌≡◌, ◌≤◌, ◌<◌, ◌-◌, ◌++◌, ℕ, drop, List, IfOk, IfSome, length, map, pos, replicate};
-ghost use Rattle.std.specs.Prelude.{take, slice_get, slice_index, slice_set};
+ghost use Rattle.std.specs.Prelude.{◌≡◌, ◌≤◌, ◌<◌, ◌-◌, ℕ, List, IfOk, IfSome, length, map, pos};
+ghost use Rattle.std.specs.Prelude.{slice_get, slice_index, slice_set};
 ghost use Rattle.std.specs.Option.{option_copied};
 ghost use Rattle.std.specs.Str.{bytes_eq};
 ghost use Rattle.walk_steps.specs.Targets.{character_put, put_character, literal_copied, text_copied};
@@ -23,7 +23,7 @@ use crate::places::{index_of, place_of};
 use crate::store::Store;
 use crate::word::{Base, Stop, Word};
 use sed_cells::Plan;
-use sed_engine::Trap;
+use sed_engine::{Trap, characters, filled};
 use sed_typed::{Bytes255, LONGEST_TEXT, TextCall};
 use sed_value as number;
 
@@ -121,19 +121,6 @@ fn kept_text<'a>(plan: &Plan, class: usize, value: Word, store: &'a Store) -> Re
         Ok((base, place)) => store.bytes(plan, class, base, place),
         Err(stop) => Err(stop),
     }
-}
-
-// The bytes before the first 0.
-fn characters(bytes: &[u8]) -> &[u8]
-    ensures same { result.now ≡ characters_of bytes.now }
-    ensures fewer { length result.now ≤ length bytes.now }
-{
-    for (at, byte) in bytes.iter().enumerate() {
-        if *byte == 0 {
-            return &bytes[..at];
-        }
-    }
-    bytes
 }
 
 // How many characters a Str has.
@@ -497,44 +484,4 @@ fn filled_from(old: &[u8], other: Result<&[u8], Stop>) -> Result<Bytes255, Stop>
         Ok(other) => Ok(filled(old.len(), characters(other))),
         Err(stop) => Err(stop),
     }
-}
-
-// As many characters as a Str of a size holds with a 0, and then zeros.
-fn filled(size: usize, text: &[u8]) -> Bytes255
-    requires { size ≤ 255 }
-    ensures { result ≡ filled_with size text.now }
-{
-    with_zeros(size, first(text, size.saturating_sub(1)))
-}
-
-// The first bytes, so many at most.
-fn first(bytes: &[u8], most: usize) -> &[u8]
-    ensures same { result.now ≡ take most bytes.now }
-    ensures most { length result.now ≤ most }
-{
-    if most < bytes.len() {
-        &bytes[..most]
-    } else {
-        bytes
-    }
-}
-
-// The bytes and zeros behind them, so many together.
-fn with_zeros(size: usize, bytes: &[u8]) -> Bytes255
-    requires most { size ≤ 255 }
-    requires fits { length bytes.now ≤ size }
-    ensures { result ≡ bytes.now ++ replicate (size - length bytes.now) 0 }
-{
-    let mut all = [0; LONGEST_TEXT];
-    let new = &mut all[..size];
-    copy_front(new, bytes);
-    Bytes255::new(new)
-}
-
-// Puts bytes in the place of the first.
-fn copy_front(into: &mut [u8], bytes: &[u8])
-    requires { length bytes.now ≤ length into.old }
-    ensures { into.new ≡ bytes.now ++ drop (length bytes.now) into.old }
-{
-    into[..bytes.len()].copy_from_slice(bytes);
 }

@@ -1,6 +1,6 @@
 use Rattle.std.proofs.Common.{◌∙◌, ◌++◌, ℕ, List, length, ap, drop}
 use Rattle.std.proofs.lemmas.List.{take-replicate, drop-replicate}
-use Rattle.scode_state.proofs.strs.with_zeros.Goals as goal
+use Rattle.sed_engine.proofs.strs.with_zeros.Goals as goal
 
 pub returns : goal.returns
 returns c =

@@ -11,10 +11,9 @@ use Rattle.scode_image.specs.declared.image.ImageClass.{ImageClass}
 use Rattle.scode_image.specs.declared.image.ImageField.{ImageField}
 use Rattle.scode_code.specs.TableRules as rule
 use Rattle.scode_code.specs.Tables.{class_fields}
-use Rattle.scode_whole.proofs.Rule.{Agrees}
-use Rattle.scode_whole.proofs.Truths.{no_truth, no_value, same_value, passes}
 use Rattle.scode_whole.proofs.Bases.{fields_at}
-use Rattle.scode_state.proofs.Rows.{class_row, class_rule}
+use Rattle.scode_whole.proofs.Rule.{Agrees, class_agrees}
+use Rattle.scode_whole.proofs.Truths.{no_truth, no_value, same_value, passes}
 
 pub equal : (a b : ℕ) → a ≡ b → (a == b) ≡ true
 equal a b e = grind (arith, nat_tests, e)
@@ -93,7 +92,7 @@ not_itself image is class n few r = by_class (slice_get image.classes class) ref
         sym (ap (λ (all : List ImageField). slice_get all r.1.place) (fields_at image class c e)) ∙ r.1.stands in
         let test : (not (r.1.field.form == 8) || not (rule.leads_to image r.1.field.n class)) ≡ true =
         passes (λ (f : ImageField). not (f.form == 8) || not (rule.leads_to image f.n class)) c.fields r.1.place
-        r.1.field (class_rule image is class c e).holders at in
+        r.1.field (class_agrees image is class c e).holders at in
         let leads : rule.leads_to image r.1.field.n class ≡ true =
         subst (λ (k : ℕ). rule.leads_to image k class ≡ true) (sym r.1.is)
         (reaches_leads image n (length image.classes) r.0 class few r.2) in
@@ -140,9 +139,27 @@ Nested image zero class = ⊥
 Nested image (suc n) class = (held : ℕ) → Holds image class held → Nested image n held
 
 held_there : (image : Image) → Agrees image → (class held : ℕ) → Holds image class held → held < length image.classes
-held_there image is class held g =
-    subst (λ (k : ℕ). k < length image.classes) g.is
-    ((class_row image is class).known g.place g.field g.stands g.object)
+held_there image is class held g = by_class (slice_get image.classes class) refl
+  where
+    asked : (a b : Bool) → a ≡ true → (not a || b) ≡ true → b ≡ true
+    asked true b e h = h
+    asked false b e h = no_truth e
+
+    by_class : (o : Option ImageClass) → slice_get image.classes class ≡ o → held < length image.classes
+    by_class None e =
+        no_value g.field
+        (sym (ap (λ (p : Option ImageClass). slice_get (option_map_or (λ (d : ImageClass). d.fields) p []) g.place) e)
+        ∙ g.stands)
+    by_class (Some c) e =
+        let at : slice_get c.fields g.place ≡ Some g.field =
+        sym (ap (λ (all : List ImageField). slice_get all g.place) (fields_at image class c e)) ∙ g.stands in
+        let test : (not (g.field.form == 8) || rule.has_class image g.field.n) ≡ true =
+        passes (λ (f : ImageField). not (f.form == 8) || rule.has_class image f.n) c.fields g.place g.field
+        (class_agrees image is class c e).fields.are_there at in
+        let known : g.field.n < length image.classes =
+        ltb-true g.field.n (length image.classes)
+        (asked (g.field.form == 8) (rule.has_class image g.field.n) g.object test) in
+        subst (λ (k : ℕ). k < length image.classes) g.is known
 
 -- those of a list are below a number
 abbrev AllBelow : ℕ → List ℕ → Type 0
