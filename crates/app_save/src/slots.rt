@@ -32,7 +32,7 @@ pub struct Place {
     pub is_open: bool,
 }
 
-// Where the second slot begins.
+/// Where the second slot begins.
 pub fn second_slot(slot: u32) -> u64
     ensures { result ≡ slot + 6 }
 {

@@ -9,7 +9,7 @@ use crate::link::LinkRec;
 use crate::rows::{place_by_source, place_by_target};
 use sed_value::Id;
 
-// Puts a link in at its place in the order of the targets.
+/// Puts a link in at its place in the order of the targets.
 pub fn put_by_target(links: &mut Vec<LinkRec>, l: LinkRec)
     requires order { AreInOrder links.old.items }
     requires room { vec_len links.old < vec_capacity links.old }
@@ -20,7 +20,7 @@ pub fn put_by_target(links: &mut Vec<LinkRec>, l: LinkRec)
     let _put = links.insert(place, l);
 }
 
-// Puts a link in at its place in the order of the sources.
+/// Puts a link in at its place in the order of the sources.
 pub fn put_by_source(links: &mut Vec<LinkRec>, l: LinkRec)
     requires order { AreBySource links.old.items }
     requires room { vec_len links.old < vec_capacity links.old }
@@ -31,7 +31,7 @@ pub fn put_by_source(links: &mut Vec<LinkRec>, l: LinkRec)
     let _put = links.insert(place, l);
 }
 
-// Takes a link out of the order of the targets.
+/// Takes a link out of the order of the targets.
 pub fn take_by_target(links: &mut Vec<LinkRec>, l: LinkRec)
     requires order { AreInOrder links.old.items }
     requires there { list_any (is_same_link l) links.old.items ≡ true }
@@ -42,7 +42,7 @@ pub fn take_by_target(links: &mut Vec<LinkRec>, l: LinkRec)
     let _taken = links.remove(place);
 }
 
-// Takes a link out of the order of the sources.
+/// Takes a link out of the order of the sources.
 pub fn take_by_source(links: &mut Vec<LinkRec>, l: LinkRec)
     requires order { AreBySource links.old.items }
     requires there { list_any (is_same_link l) links.old.items ≡ true }
@@ -70,7 +70,7 @@ fn is_at_mark(marks: &[bool], l: &LinkRec) -> bool
     is_marked(marks, l.from) || is_marked(marks, l.to)
 }
 
-// Takes each link out that leads from or to a component that is marked.
+/// Takes each link out that leads from or to a component that is marked.
 pub fn take_at_marks(links: &mut Vec<LinkRec>, marks: &[bool])
     ensures items { links.new.items ≡ filter (λ l. not (is_at_mark marks.now l)) links.old.items }
     ensures capacity { vec_capacity links.new ≡ vec_capacity links.old }

@@ -11,7 +11,7 @@ pub enum End {
     Target,
 }
 
-// The id of the component at an end.
+/// The id of the component at an end.
 pub fn id_at(l: &LinkRec, end: End) -> u16
     ensures { result ≡ id_at end l.now }
 {

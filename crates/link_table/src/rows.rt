@@ -33,7 +33,7 @@ fn is_same_link(k: &LinkRec, l: &LinkRec) -> bool
     k.from.0 == l.from.0 && k.from_slot == l.from_slot && k.to.0 == l.to.0 && k.to_slot == l.to_slot
 }
 
-// The place of a link in the order of the targets.
+/// The place of a link in the order of the targets.
 pub fn place_by_target(links: &[LinkRec], l: &LinkRec) -> usize
     requires { AreInOrder links.now }
     ensures within { result ≤ length links.now }
@@ -43,7 +43,7 @@ pub fn place_by_target(links: &[LinkRec], l: &LinkRec) -> usize
     links.partition_point(|k| is_before(k, l))
 }
 
-// The place of a link in the order of the sources.
+/// The place of a link in the order of the sources.
 pub fn place_by_source(links: &[LinkRec], l: &LinkRec) -> usize
     requires { AreBySource links.now }
     ensures within { result ≤ length links.now }
@@ -73,7 +73,7 @@ fn split_above<'a>(links: &'a [LinkRec], end: End, id: Id) -> (&'a [LinkRec], &'
     links.split_at(place)
 }
 
-// The links that have this component at an end.
+/// The links that have this component at an end.
 pub fn links_of<'a>(links: &'a [LinkRec], end: End, id: Id) -> &'a [LinkRec]
     requires { IsNonDecreasingBy (id_at end) links.now }
     ensures { result.now ≡ filter (λ l. id_at end l == id.0) links.now }
@@ -83,14 +83,14 @@ pub fn links_of<'a>(links: &'a [LinkRec], end: End, id: Id) -> &'a [LinkRec]
     here
 }
 
-// Whether a link is among these.
+/// Whether a link is among these.
 pub fn has_link(links: &[LinkRec], l: &LinkRec) -> bool
     ensures { result ≡ list_any (is_same_link l.now) links.now }
 {
     links.iter().any(|k| is_same_link(l, k))
 }
 
-// The first of these links into a slot of this number.
+/// The first of these links into a slot of this number.
 pub fn first_into(links: &[LinkRec], slot: u8) -> Option<LinkRec>
     ensures { result ≡ find (λ l. l.to_slot == slot) links.now }
 {
@@ -106,7 +106,7 @@ pub struct LinksAt<'a> {
     pub above: &'a [LinkRec],
 }
 
-// The links at a component, of the links by their targets and by their sources.
+/// The links at a component, of the links by their targets and by their sources.
 pub fn links_at<'a>(by_target: &'a [LinkRec], by_source: &'a [LinkRec], id: Id) -> LinksAt<'a>
     requires targets { AreInOrder by_target.now }
     requires sources { AreBySource by_source.now }
@@ -123,7 +123,7 @@ pub fn links_at<'a>(by_target: &'a [LinkRec], by_source: &'a [LinkRec], id: Id) 
     }
 }
 
-// The n-th of the links at a component.
+/// The n-th of the links at a component.
 pub fn nth_of(all: &LinksAt, n: usize) -> Option<LinkRec>
     ensures { result ≡ slice_get (all.now.below.now ++ (all.now.into.now ++ all.now.above.now)) n }
 {

@@ -34,6 +34,7 @@ pub fn has_word(modifiers: &[Modifier], word: ModifierWord) -> bool
         .any(|modifier| word_number(modifier.word) == word_number(word))
 }
 
+/// Whether a class says `abstract`.
 pub fn is_abstract_class(class: &Class) -> bool
     ensures { result ≡ members.is_abstract_class class.now }
 {
@@ -46,6 +47,7 @@ fn says(member: &Member, word: ModifierWord) -> bool
     has_word(member.modifiers.as_slice(), word)
 }
 
+/// Whether a member is a method.
 pub fn is_method(member: &Member) -> bool
     ensures { result ≡ members.is_method member.now }
 {
@@ -75,6 +77,7 @@ pub fn has_body(member: &Member) -> bool
     }
 }
 
+/// Whether a member is a property: a field that says `property`.
 pub fn is_property(member: &Member) -> bool
     ensures { result ≡ members.is_property member.now }
 {
@@ -88,36 +91,42 @@ pub fn is_action(member: &Member) -> bool
     says(member, ModifierWord::Action)
 }
 
+/// Whether a member is a define: a named constant of its class, and no field.
 pub fn is_define(member: &Member) -> bool
     ensures { result ≡ members.is_define member.now }
 {
     !is_method(member) && says(member, ModifierWord::Define)
 }
 
+/// Whether a member says `static`.
 pub fn is_static(member: &Member) -> bool
     ensures { result ≡ members.is_static member.now }
 {
     says(member, ModifierWord::Static)
 }
 
+/// Whether a member is an inline object: it stands in its holder and is never null.
 pub fn is_inline(member: &Member) -> bool
     ensures { result ≡ objects.is_inline member.now }
 {
     says(member, ModifierWord::Inline)
 }
 
+/// Whether a member says `virtual`.
 pub fn says_virtual(member: &Member) -> bool
     ensures { result ≡ members.has_word ModifierWord.Virtual member.now.modifiers }
 {
     says(member, ModifierWord::Virtual)
 }
 
+/// Whether a member says `abstract`.
 pub fn says_abstract(member: &Member) -> bool
     ensures { result ≡ members.has_word ModifierWord.Abstract member.now.modifiers }
 {
     says(member, ModifierWord::Abstract)
 }
 
+/// Whether a member says `override`.
 pub fn overrides(member: &Member) -> bool
     ensures { result ≡ members.overrides member.now }
 {
@@ -131,6 +140,7 @@ pub fn is_instance_field(member: &Member) -> bool
     !is_method(member) && !is_define(member) && !is_static(member)
 }
 
+/// Whether a member is a static field: there is one for all objects, in the static block.
 pub fn is_static_field(member: &Member) -> bool
     ensures { result ≡ members.is_static_field member.now }
 {

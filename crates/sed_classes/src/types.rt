@@ -131,6 +131,7 @@ fn object_type(class: Option<usize>, size: &Option<Size>) -> SourceType
 
 // ---- which types may stand where
 
+/// Whether a type is unknown: its text names no type, so no fault of its own is named where it is used.
 pub fn is_unknown(kind: SourceType) -> bool
     ensures { result ≡ types.is_unknown kind }
 {
@@ -149,6 +150,7 @@ pub fn is_storable(kind: SourceType) -> bool
     }
 }
 
+/// Whether a type is `void`, which no value has.
 pub fn is_void(kind: SourceType) -> bool
     ensures { result ≡ types.is_void kind }
 {

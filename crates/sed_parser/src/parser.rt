@@ -37,6 +37,7 @@ impl<'a> Model for Parser<'a> {
 }
 
 impl<'a> Parser<'a> {
+    /// Begins at the first token.
     pub fn new(tokens: &'a Tokens) -> Parser<'a>
         ensures { result ≡ tokens.now }
     {
@@ -87,6 +88,7 @@ impl<'a> Parser<'a> {
         self.tokens.start(self.at)
     }
 
+    /// Whether the next token is this mark. Nothing is read.
     pub fn is_mark(&self, text: &[u8]) -> bool
         ensures { result ≡ next.next_mark text.now self.now }
     {
@@ -95,6 +97,7 @@ impl<'a> Parser<'a> {
             && self.tokens.bytes(self.at) == text
     }
 
+    /// Whether the next token is this key word. Nothing is read.
     pub fn is_key(&self, text: &[u8]) -> bool
         ensures { result ≡ next.next_key text.now self.now }
     {
@@ -103,12 +106,14 @@ impl<'a> Parser<'a> {
             && self.tokens.bytes(self.at) == text
     }
 
+    /// Whether the next token is an identifier. Nothing is read.
     pub fn is_id(&self) -> bool
         ensures { result ≡ next.next_id self.now }
     {
         self.at < self.tokens.len() && matches!(self.tokens.kind(self.at), TokenKind::Id)
     }
 
+    /// Whether the next token stands first on its line. Nothing is read.
     pub fn is_first(&self) -> bool
         ensures { result ≡ next.next_first self.now }
     {
@@ -207,6 +212,7 @@ impl<'a> Parser<'a> {
         Ok(())
     }
 
+    /// Reads an identifier with the place of its token. Without one the fault is at the next token.
     #[tactic(auto, unfolding(crate::specs::Leaves::ident))]
     pub fn ident(&mut self, alloc: Global) -> Result<Ident, Halt>
         ensures { Gives result self.new (grammar.ident.reads self.old) }
@@ -223,6 +229,7 @@ impl<'a> Parser<'a> {
         })
     }
 
+    /// Reads a literal: a number, a character, a text, a truth or null.
     #[tactic(auto, unfolding(crate::specs::Leaves::literal))]
     pub fn literal(&mut self, alloc: Global) -> Result<Literal, Halt>
         ensures { Gives result self.new (grammar.literal.reads self.old) }
@@ -244,6 +251,7 @@ impl<'a> Parser<'a> {
         })
     }
 
+    /// Reads an integer literal, as a case label or a size has it.
     #[tactic(auto, unfolding(crate::specs::Leaves::integer))]
     pub fn integer(&mut self, alloc: Global) -> Result<Literal, Halt>
         ensures { Gives result self.new (grammar.integer.reads self.old) }

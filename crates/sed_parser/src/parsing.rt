@@ -12,6 +12,7 @@ use sed_units::Unit;
 use std::alloc::Global;
 use thiserror::Error;
 
+/// Why tokens give no unit.
 #[derive(Clone, Copy, Debug, PartialEq, Eq, Error)]
 pub enum ParseRefusal {
     #[error("the tokens do not derive, which shows at token {token}")]

@@ -87,6 +87,7 @@ impl Model for FoundCases {
 }
 
 impl FoundCases {
+    /// No cases yet.
     pub fn new(alloc: Global) -> FoundCases
         ensures { result ≡ Absent }
     {
@@ -110,6 +111,7 @@ impl FoundCases {
 }
 
 impl FoundStmts {
+    /// No statements yet.
     pub fn new(alloc: Global) -> FoundStmts
         ensures { result ≡ Absent }
     {
@@ -128,6 +130,7 @@ impl FoundStmts {
         Ok(FoundStmts { items })
     }
 
+    /// The statements as one block.
     #[tactic(auto, using(crate::proofs::Rows::block_row, crate::proofs::FlatRows::block_flat))]
     pub fn into_block(self, alloc: Global) -> Result<FoundStmt, Memory>
         ensures { IfOk result (λ r. r ≡ Node sign.Block self Absent) }
@@ -138,6 +141,7 @@ impl FoundStmts {
 }
 
 impl FoundStmt {
+    /// The empty statement.
     pub fn empty(alloc: Global) -> Result<FoundStmt, Memory>
         ensures { IfOk result (λ r. r ≡ leaf sign.Empty) }
     {
@@ -240,6 +244,7 @@ impl FoundStmt {
         Ok(FoundStmt { made })
     }
 
+    /// `break`.
     pub fn broken_off(alloc: Global) -> Result<FoundStmt, Memory>
         ensures { IfOk result (λ r. r ≡ leaf sign.Break) }
     {
@@ -247,6 +252,7 @@ impl FoundStmt {
         Ok(FoundStmt { made })
     }
 
+    /// `continue`.
     pub fn continued(alloc: Global) -> Result<FoundStmt, Memory>
         ensures { IfOk result (λ r. r ≡ leaf sign.Continue) }
     {
@@ -254,6 +260,7 @@ impl FoundStmt {
         Ok(FoundStmt { made })
     }
 
+    /// `return` with a value.
     pub fn returned(alloc: Global, value: Found) -> Result<FoundStmt, Memory>
         requires { is_value value ≡ true }
         ensures { IfOk result (λ r. r ≡ Node sign.Return value Absent) }
@@ -263,6 +270,7 @@ impl FoundStmt {
         Ok(FoundStmt { made })
     }
 
+    /// `return` without a value.
     pub fn returned_nothing(alloc: Global) -> Result<FoundStmt, Memory>
         ensures { IfOk result (λ r. r ≡ leaf sign.Return) }
     {

@@ -36,6 +36,7 @@ impl Model for Arguments {
 }
 
 impl Arguments {
+    /// No arguments yet.
     pub fn new(alloc: Global) -> Arguments
         ensures { result ≡ Absent }
     {

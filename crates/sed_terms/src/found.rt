@@ -96,6 +96,7 @@ fn opened(found: Found) -> Made
 // ---- what stands alone
 
 impl Found {
+    /// An int literal.
     pub fn int(alloc: Global, n: i32) -> Result<Found, Memory>
         ensures { IfOk result (λ r. r ≡ leaf (sign.Int n)) }
     {
@@ -103,6 +104,7 @@ impl Found {
         whole(alloc, Sort::Of(Kind::Int), tree)
     }
 
+    /// A long literal.
     pub fn long(alloc: Global, n: i64) -> Result<Found, Memory>
         ensures { IfOk result (λ r. r ≡ leaf (sign.Long n)) }
     {
@@ -133,6 +135,7 @@ impl Found {
         whole(alloc, Sort::Of(kind), tree)
     }
 
+    /// The text literal of this number among those of its program.
     pub fn text(alloc: Global, number: u16) -> Result<Found, Memory>
         ensures { IfOk result (λ r. r ≡ leaf (sign.Text number)) }
     {
@@ -140,6 +143,7 @@ impl Found {
         whole(alloc, Sort::Of(Kind::Text), tree)
     }
 
+    /// `this` in a method of a class.
     pub fn this(alloc: Global, class: TypeNo) -> Result<Found, Memory>
         ensures { IfOk result (λ r. r ≡ leaf (sign.This class)) }
     {
@@ -147,12 +151,14 @@ impl Found {
         whole(alloc, Sort::Of(Kind::Object(class)), tree)
     }
 
+    /// A parameter or local, by its kind and its number in the frame.
     pub fn local(alloc: Global, kind: Kind, number: u8) -> Result<Found, Memory>
         ensures { IfOk result (λ r. r ≡ leaf (sign.Local kind number)) }
     {
         held(alloc, None, Sort::Of(kind), Open::Local(kind, number))
     }
 
+    /// A static field of a primitive type, by its number.
     pub fn static_field(alloc: Global, prim: Prim, number: u16) -> Result<Found, Memory>
         ensures { IfOk result (λ r. r ≡ leaf (sign.Static prim number)) }
     {
@@ -164,6 +170,7 @@ impl Found {
         )
     }
 
+    /// A static Str or object, by its number.
     pub fn static_part(alloc: Global, kind: Kind, number: u16) -> Result<Found, Memory>
         ensures { IfOk result (λ r. r ≡ leaf (sign.StaticPart kind number)) }
     {
@@ -171,6 +178,7 @@ impl Found {
         whole(alloc, Sort::Of(kind), tree)
     }
 
+    /// A static array of so many elements, by its number.
     pub fn static_array(alloc: Global, prim: Prim, count: u16, number: u16) -> Result<Found, Memory>
         ensures { IfOk result (λ r. r ≡ leaf (sign.StaticArray prim count number)) }
     {
@@ -252,6 +260,7 @@ impl Found {
 // ---- operators
 
 impl Found {
+    /// A unary operator on a value.
     pub fn unary(alloc: Global, op: Unary, operand: Found) -> Result<Found, Memory>
         requires { is_value operand ≡ true }
         ensures { IfOk result (λ r. r ≡ Node (sign.Unary op) operand Absent) }
@@ -261,6 +270,7 @@ impl Found {
         whole(alloc, Sort::Of(unary_kind(op)), tree)
     }
 
+    /// A binary operator on two values, the left of which is evaluated first.
     pub fn binary(alloc: Global, op: Binary, left: Found, right: Found) -> Result<Found, Memory>
         requires left_is_value { is_value left ≡ true }
         requires right_is_value { is_value right ≡ true }
@@ -273,6 +283,7 @@ impl Found {
         whole(alloc, Sort::Of(binary_kind(op)), tree)
     }
 
+    /// `&&`: the right value is evaluated where the left one is true.
     pub fn and(alloc: Global, left: Found, right: Found) -> Result<Found, Memory>
         requires left_is_value { is_value left ≡ true }
         requires right_is_value { is_value right ≡ true }
@@ -285,6 +296,7 @@ impl Found {
         whole(alloc, Sort::Of(Kind::Bool), tree)
     }
 
+    /// `||`: the right value is evaluated where the left one is false.
     pub fn or(alloc: Global, left: Found, right: Found) -> Result<Found, Memory>
         requires left_is_value { is_value left ≡ true }
         requires right_is_value { is_value right ≡ true }

@@ -16,6 +16,7 @@ fn width_kind(width: Width) -> Kind
     }
 }
 
+/// The kind of what a unary operator gives.
 pub fn unary_kind(op: Unary) -> Kind
     ensures { result ≡ kinds.unary_kind op }
 {
@@ -27,6 +28,7 @@ pub fn unary_kind(op: Unary) -> Kind
     }
 }
 
+/// The kind of what a binary operator gives.
 pub fn binary_kind(op: Binary) -> Kind
     ensures { result ≡ kinds.binary_kind op }
 {
@@ -36,6 +38,7 @@ pub fn binary_kind(op: Binary) -> Kind
     }
 }
 
+/// The kind that a primitive is read as: byte and short as int.
 pub fn read_kind(prim: Prim) -> Kind
     ensures { result ≡ kinds.read_kind prim }
 {
@@ -46,6 +49,7 @@ pub fn read_kind(prim: Prim) -> Kind
     }
 }
 
+/// The kind of what a call on a Str gives.
 pub fn text_kind(op: TextCall) -> Kind
     ensures { result ≡ kinds.text_kind op }
 {
@@ -56,7 +60,7 @@ pub fn text_kind(op: TextCall) -> Kind
     }
 }
 
-// The kind of a value; void of what is none.
+/// The kind of a value; void of what is none.
 pub fn kind_in(sort: Sort) -> Kind
     ensures { result ≡ sort_kinds.kind_in sort }
 {

@@ -14,7 +14,7 @@ use sed_typed::{Binary, Expr, Link, Place};
 use sed_value::{Memory, Prim};
 use std::alloc::Global;
 
-// An expression with one more link behind it.
+/// An expression with one more link behind it.
 pub fn with_link(alloc: Global, mut tree: Box<Expr>, link: Box<Link>) -> Result<Box<Expr>, Memory>
     requires tree_is_flat { IsFlat tree.value }
     requires link_is_flat { IsFlatLink link.value }
@@ -44,24 +44,28 @@ fn chain(alloc: Global, head: Box<Expr>, link: Box<Link>) -> Result<Box<Expr>, M
 
 // ---- links that hold an expression
 
+/// The link of a binary operator with its right operand.
 pub fn binary_link(alloc: Global, op: Binary, e: Box<Expr>) -> Result<Box<Link>, Memory>
     ensures { IfOk result (λ l. l.value ≡ tied.Binary op e.value) }
 {
     boxed(alloc, Link::Binary(op, Box::into_inner(e)))
 }
 
+/// The link of `&&` with its right operand.
 pub fn and_link(alloc: Global, e: Box<Expr>) -> Result<Box<Link>, Memory>
     ensures { IfOk result (λ l. l.value ≡ tied.And e.value) }
 {
     boxed(alloc, Link::And(Box::into_inner(e)))
 }
 
+/// The link of `||` with its right operand.
 pub fn or_link(alloc: Global, e: Box<Expr>) -> Result<Box<Link>, Memory>
     ensures { IfOk result (λ l. l.value ≡ tied.Or e.value) }
 {
     boxed(alloc, Link::Or(Box::into_inner(e)))
 }
 
+/// The link of an element of an array of so many elements, with the index.
 pub fn element_link(
     alloc: Global,
     prim: Prim,
@@ -77,12 +81,14 @@ pub fn element_link(
     )
 }
 
+/// The link of a byte of a Buf, with the index.
 pub fn byte_link(alloc: Global, number: u16, e: Box<Expr>) -> Result<Box<Link>, Memory>
     ensures { IfOk result (λ l. l.value ≡ tied.Byte number e.value) }
 {
     boxed(alloc, Link::Byte(number, Box::into_inner(e)))
 }
 
+/// The link of a static member through an instance: the value on the left is not used.
 pub fn after_link(alloc: Global, e: Box<Expr>) -> Result<Box<Link>, Memory>
     ensures { IfOk result (λ l. l.value ≡ tied.After e.value) }
 {
@@ -91,7 +97,7 @@ pub fn after_link(alloc: Global, e: Box<Expr>) -> Result<Box<Link>, Memory>
 
 // ---- with a last access behind it
 
-// What is evaluated of an expression whose value is not used: of a value all, with its last access behind it.
+/// What is evaluated of an expression whose value is not used: of a value all, with its last access behind it.
 #[tactic(auto, using(crate::proofs::Discarded::whole))]
 pub fn evaluated_part(alloc: Global, tree: Open) -> Result<Option<Box<Expr>>, Memory>
     requires { IsFlatOpen tree }
@@ -127,7 +133,7 @@ pub fn evaluated_part(alloc: Global, tree: Open) -> Result<Option<Box<Expr>>, Me
     }
 }
 
-// The same behind what is evaluated before it.
+/// The same behind what is evaluated before it.
 #[tactic(auto, using(crate::proofs::Discarded::after_is))]
 pub fn evaluated(
     alloc: Global,
@@ -150,7 +156,7 @@ pub fn evaluated(
     }
 }
 
-// A value with its last access behind it.
+/// A value with its last access behind it.
 #[tactic(auto, using(crate::proofs::Discarded::value_whole))]
 pub fn closed(alloc: Global, tree: Open) -> Result<Box<Expr>, Memory>
     requires is_value { is_value (open_term tree) ≡ true }
@@ -165,7 +171,7 @@ pub fn closed(alloc: Global, tree: Open) -> Result<Box<Expr>, Memory>
     }
 }
 
-// What may be assigned to.
+/// What may be assigned to.
 pub fn placed(tree: Open) -> Result<Place, Memory>
     requires is_open { is_open tree ≡ true }
     requires is_flat { IsFlatOpen tree }
@@ -186,7 +192,7 @@ pub fn placed(tree: Open) -> Result<Place, Memory>
     }
 }
 
-// A value behind what is evaluated before it.
+/// A value behind what is evaluated before it.
 pub fn put_behind(
     alloc: Global,
     before: Option<Box<Expr>>,

@@ -16,6 +16,7 @@ pub struct Expr {
     pub node: Node,
 }
 
+/// What an expression is, as it is written.
 #[cycle(expressions)]
 #[derive(Drop)]
 pub enum Node {
@@ -48,6 +49,7 @@ pub struct Link {
     pub step: Step,
 }
 
+/// One step behind an operand: a member, a call or an index.
 #[cycle(expressions)]
 #[derive(Drop)]
 pub enum Step {

@@ -12,6 +12,7 @@ pub struct Stmt {
     pub form: Form,
 }
 
+/// What a statement is, as it is written.
 #[cycle(statements)]
 #[derive(Drop)]
 pub enum Form {

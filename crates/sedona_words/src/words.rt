@@ -18,6 +18,7 @@ const MOST_KITS: usize = 15;
 // The most turns of a root call.
 const MOST_TURNS: u64 = 1_000_000;
 
+/// Whether a word may name a file: it has 1 to as many bytes as the longest name.
 pub fn is_file_name(name: &str) -> bool
     ensures { result ≡ words_of.is_file_name name.now }
 {

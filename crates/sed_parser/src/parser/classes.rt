@@ -285,6 +285,7 @@ impl<'a> Parser<'a> {
         made::class(alloc, at, facets, modifiers, name, base, members)
     }
 
+    /// Reads the classes of a source, to its last token.
     #[tactic(auto, unfolding(crate::specs::Classes::classes))]
     pub fn classes(&mut self, alloc: Global) -> Result<Items<Class>, Halt>
         ensures { Gives result self.new (grammar.classes.reads self.old) }

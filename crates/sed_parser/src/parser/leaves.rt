@@ -28,6 +28,7 @@ impl<'a> Parser<'a> {
         Ok(())
     }
 
+    /// Reads the name of a type, with its kit before `::` where one stands.
     #[tactic(auto, unfolding(crate::specs::Leaves::type_name))]
     pub fn type_name(&mut self, alloc: Global) -> Result<TypeName, Halt>
         ensures { Gives result self.new (grammar.type_name.reads self.old) }
@@ -87,6 +88,7 @@ impl<'a> Parser<'a> {
         Ok(None)
     }
 
+    /// Reads a type: its name, then a size in parentheses or brackets where one stands.
     #[tactic(auto, unfolding(crate::specs::Leaves::type_of))]
     pub fn type_of(&mut self, alloc: Global) -> Result<Boxed<TypeRef>, Halt>
         ensures { Gives result self.new (grammar.type_of.reads self.old) }
@@ -109,6 +111,7 @@ impl<'a> Parser<'a> {
         Ok(Some(value))
     }
 
+    /// Reads a facet: `@`, its name, and its value where `=` stands behind the name.
     #[tactic(auto, unfolding(crate::specs::Leaves::facet))]
     pub fn facet(&mut self, alloc: Global) -> Result<Boxed<Facet>, Halt>
         ensures { Gives result self.new (grammar.facet.reads self.old) }
@@ -120,6 +123,7 @@ impl<'a> Parser<'a> {
         Boxed::new(alloc, Facet { at, name, value })
     }
 
+    /// Reads a modifier of a class or member, such as `static`.
     #[tactic(auto, unfolding(crate::specs::Leaves::modifier))]
     pub fn modifier(&mut self, alloc: Global) -> Result<Boxed<Modifier>, Halt>
         ensures { Gives result self.new (grammar.modifier.reads self.old) }
@@ -129,6 +133,7 @@ impl<'a> Parser<'a> {
         Boxed::new(alloc, Modifier { at, word })
     }
 
+    /// Reads a parameter: its type and its name.
     #[tactic(auto, unfolding(crate::specs::Leaves::param))]
     pub fn param(&mut self, alloc: Global) -> Result<Boxed<Param>, Halt>
         ensures { Gives result self.new (grammar.param.reads self.old) }
@@ -156,6 +161,7 @@ impl<'a> Parser<'a> {
         Boxed::new(alloc, InitValue::Name(name))
     }
 
+    /// Reads an initial value: a literal, one behind `-`, or the name of a define.
     #[tactic(auto, unfolding(crate::specs::Leaves::initial))]
     pub fn initial(&mut self, alloc: Global) -> Result<Boxed<Init>, Halt>
         ensures { Gives result self.new (grammar.initial.reads self.old) }

@@ -157,6 +157,8 @@ impl<'a> Parser<'a> {
         }
     }
 
+    /// Reads a statement that holds no other: an empty one, `break`, `continue`, or one with a value. `room` is how
+    /// many further constructs may be open in it.
     #[tactic(auto, unfolding(crate::specs::Statements::plain))]
     pub fn plain(&mut self, alloc: Global, room: usize) -> Result<Boxed<Stmt>, Halt>
         ensures { Gives result self.new ((grammar.plain room).reads self.old) }
@@ -179,6 +181,7 @@ impl<'a> Parser<'a> {
         self.valued(alloc, room)
     }
 
+    /// Reads a condition in its parentheses.
     #[tactic(auto, unfolding(crate::specs::Statements::condition))]
     pub fn condition(&mut self, alloc: Global, room: usize) -> Result<Boxed<Expr>, Halt>
         ensures { Gives result self.new ((grammar.condition room).reads self.old) }
@@ -281,6 +284,7 @@ impl<'a> Parser<'a> {
         Ok(e)
     }
 
+    /// Reads the head of a `for`: three parts, each of which may be left out.
     #[tactic(auto, unfolding(crate::specs::Statements::for_head))]
     pub fn for_head(&mut self, alloc: Global, room: usize) -> Result<Boxed<ForHead>, Halt>
         ensures { Gives result self.new ((grammar.for_head room).reads self.old) }
@@ -291,6 +295,7 @@ impl<'a> Parser<'a> {
         made::for_head(alloc, first, condition, last)
     }
 
+    /// Reads the label of a case with its colon: an expression, or none for `default`.
     #[tactic(auto, unfolding(crate::specs::Statements::case_label))]
     pub fn case_label(&mut self, alloc: Global, room: usize) -> Result<Option<Boxed<Expr>>, Halt>
         ensures { Gives result self.new ((grammar.case_label room).reads self.old) }
@@ -304,12 +309,14 @@ impl<'a> Parser<'a> {
         Ok(None)
     }
 
+    /// Whether a statement of a block or a case may come next. Nothing is read.
     pub fn is_statement(&self) -> bool
         ensures { result ≡ grammar.next_statement self.now }
     {
         !(self.is_mark(b"}") || self.is_key(b"case") || self.is_key(b"default"))
     }
 
+    /// Whether a case or the default comes next. Nothing is read.
     pub fn is_case(&self) -> bool
         ensures { result ≡ grammar.next_case self.now }
     {

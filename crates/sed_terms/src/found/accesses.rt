@@ -67,6 +67,7 @@ impl Found {
         )
     }
 
+    /// The Buf of an object, by its number among the fields of the class.
     pub fn buf(alloc: Global, object: Found, number: u16) -> Result<Found, Memory>
         requires { is_value object ≡ true }
         ensures { IfOk result (λ r. r ≡ Node (sign.Buf number) object Absent) }
