@@ -1,13 +1,13 @@
 -- Where a reference to an object leads, and what stands there.
 use Rattle.std.proofs.Common.{◌≡◌, ◌+◌, ◌*◌, ◌<◌, ◌≤◌, ◌^◌, ℕ, true, List, [], ◌∷◌, ◌++◌, Option, Some, None, refl, sym, ap, subst, ◌∙◌, arith}
 use Rattle.std.specs.Prelude.{slice_get}
-use Rattle.std.specs.Option.{option_map}
+use Rattle.std.specs.Option.{option_and_then, option_map, option_map_or}
 use Rattle.sed_value.specs.declared.slot_type.Primitive.{Primitive}
 use Rattle.sed_value.specs.SlotType.{width_of}
 use Rattle.sed_typed.specs.declared.number.TypeNo.{TypeNo}
 use Rattle.sed_typed.specs.declared.program.FieldForm.{FieldForm}
 use Rattle.sed_typed.specs.declared.program.FieldForm.TheVariants as form
-use Rattle.sed_typed.specs.Contents.{Path}
+use Rattle.sed_typed.specs.Contents.{Path, value_at}
 use Rattle.sed_typed.specs.Objects.{class_in, form_class, object_in}
 use Rattle.sed_engine.specs.declared.call.Place.{Place}
 use Rattle.sed_engine.specs.State.{State, answers, gives, then_do}
@@ -27,26 +27,16 @@ use Rattle.scode_cells.specs.declared.cell.Cell.TheVariants as cell
 use Rattle.scode_whole.proofs.Truths.{same_value, through}
 use Rattle.scode_state.proofs.Apart.{field_part_of}
 use Rattle.scode_state.specs.References.{block_of, leads_to}
-use Rattle.scode_state.specs.Stands.{IsBlock, StandsAt}
-use Rattle.scode_state.specs.Values.{part_width, size_in}
+use Rattle.scode_state.specs.Stands.{IsBlock, StandsAt, contents_in}
+use Rattle.scode_state.specs.Values.{held_in, part_width, size_in, value_from}
 use Rattle.scode_vm.specs.Seen.{spot_in, val_of, val_or}
 use Rattle.scode_vm.specs.Doings.{EndsTyped}
+pub use Rattle.scode_vm.proofs.Receivers.{ObjectsLead, StrsLead}
 use Rattle.scode_access.specs.Found.{BufFound, FieldFound, Standing}
 use Rattle.scode_access.specs.Tops.{IsObject}
 use Rattle.scode_access.specs.Within.{IsGround}
 
 -- ---- what the laws of blocks say
-
-abbrev pub ObjectsLead : Type 0
-ObjectsLead = (image : Image) (class : ℕ) (place : Place) (b : Block) (offset k : ℕ) (spot : Spot)
-    → leads_to image class place (cell.Object b offset k) ≡ Some spot
-    → (b ≡ block_of place spot.base)
-    × (part_of image class spot.base spot.path ≡ Some (offset, form.Object (record { 0 = k })))
-
-abbrev pub StrsLead : Type 0
-StrsLead = (image : Image) (class : ℕ) (place : Place) (b : Block) (offset n : ℕ) (spot : Spot)
-    → leads_to image class place (cell.Str b offset n) ≡ Some spot
-    → (b ≡ block_of place spot.base) × (part_of image class spot.base spot.path ≡ Some (offset, form.Str n))
 
 abbrev pub FieldsStand : Type 0
 FieldsStand = (w : Setting) (spot : Spot) (at i : ℕ) (t : TypeNo) (to : ImageField)
@@ -86,6 +76,10 @@ SizesReach = (image : Image) (class : ℕ) (base : Base) → tables_agree image 
 abbrev pub BlocksHave : Type 0
 BlocksHave = (image : Image) (class : ℕ) (base : Base) (path : Path) (h : Held) (b : Block) (offset : ℕ) (f : FieldForm)
     → StandsAt image class base path h b offset f → HasBytes h b offset (part_width image f)
+
+abbrev pub PartsRead : Type 0
+PartsRead = (image : Image) (class : ℕ) (base : Base) (path : Path) (bytes : List ℕ) → tables_agree image ≡ true
+    → value_at (held_in image class base bytes) path ≡ option_and_then (value_from bytes) (part_of image class base path)
 
 -- ---- cells that are references
 
@@ -271,6 +265,22 @@ module _ (lie : PartsLie) (sizes : SizesReach) (have : BlocksHave) (w : Setting)
   element_stands elements b at spot p n i s below =
       standing b (at + i * width_of p) (inside spot i) (form.Prim p) s.block
       (elements w.image w.class spot.base spot.path at n i p s.stands.part below)
+
+  pub str_found : StrsLead → (b : Block) (at size : ℕ) (spot : Spot)
+      → spot_in w place (cell.Str b at size) ≡ Some spot → Standing w place h b at spot (form.Str size)
+  str_found strs b at size spot e =
+      let l = strs w.image w.class place b at size spot (led w place (cell.Str b at size) (Some spot) e) in
+      standing b at spot (form.Str size) l.0 l.1
+
+  pub object_not_read : ObjectsLead → PartsRead → (b : Block) (at class : ℕ) (spot : Spot)
+      → spot_in w place (cell.Object b at class) ≡ Some spot
+      → value_at (contents_in w.image w.class spot.base h (block_of place spot.base)) spot.path ≡ None
+  object_not_read objects reads b at class spot e =
+      let l = objects w.image w.class place b at class spot (led w place (cell.Object b at class) (Some spot) e) in
+      let fits = ground.fit w.class spot.base (block_of place spot.base) (own_block spot.base) in
+      ap (λ (o : Option (List ℕ)). value_at (option_map_or (held_in w.image w.class spot.base) o []) spot.path) fits.are
+      ∙ reads w.image w.class spot.base spot.path fits.bytes ground.agree
+      ∙ ap (λ (o : Option Part). option_and_then (value_from fits.bytes) o) l.1
 
 -- how a field that was found ends
 pub field_ends : (w : Setting) (place : Place) (h : Held) (b : Block) (start class : ℕ) (to : ImageField)

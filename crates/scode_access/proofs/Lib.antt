@@ -11,3 +11,7 @@ pub mod OnArrays
 pub mod DoneArrays
 pub mod OnParts
 pub mod DoneParts
+pub mod OnStrs
+pub mod DoneStrs
+pub mod OnStrStores
+pub mod DoneStrStores

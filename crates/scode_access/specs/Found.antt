@@ -1,9 +1,10 @@
 -- What instructions find in blocks.
-use Rattle.std.specs.Prelude.{ℕ, ◌≡◌, ◌+◌, ◌*◌, ◌<◌, ◌≤◌, ◌^◌, Some}
+use Rattle.std.specs.Prelude.{ℕ, ◌≡◌, ◌+◌, ◌*◌, ◌<◌, ◌≤◌, ◌^◌, Some, None}
 use Rattle.sed_value.specs.declared.slot_type.Primitive.{Primitive}
 use Rattle.sed_value.specs.SlotType.{width_of}
 use Rattle.sed_typed.specs.declared.program.FieldForm.{FieldForm}
 use Rattle.sed_typed.specs.declared.program.FieldForm.TheVariants as form
+use Rattle.sed_typed.specs.Contents.{value_at}
 use Rattle.sed_engine.specs.declared.call.Place.{Place}
 use Rattle.sed_engine.specs.State.{State}
 use Rattle.sed_engine.specs.Steps.{inside}
@@ -16,7 +17,7 @@ use Rattle.scode_mem.specs.Blocks.{HasBytes, Held}
 use Rattle.scode_cells.specs.declared.cell.Cell.{Cell}
 use Rattle.scode_cells.specs.declared.cell.Cell.TheVariants as cell
 use Rattle.scode_state.specs.References.{block_of}
-use Rattle.scode_state.specs.Stands.{HasBuf, StandsAt}
+use Rattle.scode_state.specs.Stands.{HasBuf, StandsAt, contents_in}
 use Rattle.scode_state.specs.Values.{part_width}
 use Rattle.scode_vm.specs.Seen.{spot_in, val_of}
 use Rattle.scode_vm.specs.Doings.{EndsTyped}
@@ -92,3 +93,13 @@ abbrev pub StrsAreLedTo : Type 0
 StrsAreLedTo = (w : Setting) (place : Place) (h : Held) (b : Block) (at size : ℕ) (spot : Spot) → IsGround w place h
     → Standing w place h b at spot (form.Str size)
     → (1 ≤ size) × (size ≤ 255) × (spot_in w place (cell.Str b at size) ≡ Some spot)
+
+-- a reference to a Str that leads somewhere leads to one that stands there; and at an object no value stands
+abbrev pub StrsAreFound : Type 0
+StrsAreFound = (w : Setting) (place : Place) (h : Held) (b : Block) (at size : ℕ) (spot : Spot) → IsGround w place h
+    → spot_in w place (cell.Str b at size) ≡ Some spot → Standing w place h b at spot (form.Str size)
+
+abbrev pub ObjectsAreNotRead : Type 0
+ObjectsAreNotRead = (w : Setting) (place : Place) (h : Held) (b : Block) (at class : ℕ) (spot : Spot)
+    → IsGround w place h → spot_in w place (cell.Object b at class) ≡ Some spot
+    → value_at (contents_in w.image w.class spot.base h (block_of place spot.base)) spot.path ≡ None

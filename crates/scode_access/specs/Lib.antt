@@ -1,3 +1,5 @@
 pub mod Within
 pub mod Tops
 pub mod Found
+pub mod Strs
+pub mod StrStores

@@ -1,17 +1,15 @@
 -- What one instruction does to frames of cells and to the blocks of a pool, and when it may be done.
-use Rattle.std.specs.Prelude.{ℕ, ℤ, ◌≡◌, ◌≢◌, true, length, Result}
-use Rattle.std.specs.FinMap as finite
-use Rattle.std.specs.Option.{option_map}
+use Rattle.std.specs.Prelude.{ℕ, ℤ, ◌≡◌, true, length, Result}
 use Rattle.sed_engine.specs.declared.call.Place.{Place}
 use Rattle.sed_engine.specs.declared.trap.Trap.{Trap}
 use Rattle.sed_engine.specs.Values.{Component}
 use Rattle.scode_image.specs.declared.image.Image.{Image}
 use Rattle.scode_code.specs.Fields.{Setting}
 use Rattle.scode_code.specs.TableRules.{tables_agree}
-use Rattle.scode_mem.specs.declared.block.Block.{Block}
 use Rattle.scode_mem.specs.declared.block.Block.TheVariants as block
-use Rattle.scode_mem.specs.Blocks.{Held, bytes_of}
+use Rattle.scode_mem.specs.Blocks.{Held}
 use Rattle.scode_state.specs.Stands.{BlocksFit, IsBlock}
+pub use Rattle.scode_state.specs.Stands.{KeepsBlocks}
 use Rattle.scode_cells.specs.Frames.{Frames, IsRunning, running}
 use Rattle.scode_vm.specs.Doings.{Doing, HasRoom, IsTypedOn, ending, point_from, reached}
 use Rattle.scode_vm.specs.Seen.{machine_seen, shared_seen}
@@ -24,16 +22,6 @@ pub record IsGround (w : Setting) (place : Place) (h : Held) : Type 0 where
   pub agree : tables_agree w.image ≡ true
   pub fit : BlocksFit w.image h
   pub block : IsBlock h w.class Component (block.Live place)
-
--- Of the blocks that there were, the object's own and the static one may hold something else now. All others are as
--- they were, none came or went, and all fit on.
-pub record KeepsBlocks (image : Image) (place : Place) (old new : Held) : Type 0 where
-  pub fit : BlocksFit image new
-  pub others : (b : Block) → b ≢ block.Live place → b ≢ block.Statics → bytes_of new b ≡ bytes_of old b
-  pub classes : (q : ℕ) → option_map (λ k. k.class) (finite.get new.live q)
-      ≡ option_map (λ k. k.class) (finite.get old.live q)
-  pub firsts : new.firsts ≡ old.firsts
-  pub limit : new.limit ≡ old.limit
 
 -- In some root call on this image, with these blocks, it ends by a value or a trap, and there is room for what it
 -- leaves.
