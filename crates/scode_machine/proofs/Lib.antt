@@ -1,0 +1,5 @@
+pub mod Fetching
+pub mod Here
+pub mod Steps
+pub mod Begins
+pub mod Ends

@@ -1,0 +1,3 @@
+pub mod AtWork
+pub mod Root
+pub mod RootCall
