@@ -1,0 +1,5 @@
+pub mod Answering
+pub mod Asking
+pub mod Enough
+pub mod Found
+pub mod Moved

@@ -1,0 +1,117 @@
+//! Root calls on live objects.
+ghost use Rattle.std.specs.Prelude.{◌≡◌, ◌≤◌, [], IfSome, IsSomeAnd, IsTrue, Ok, Some};
+ghost use Rattle.std.specs.FinMap as finite;
+ghost use Rattle.sed_engine.specs.Code.{called, may_call, root_of};
+ghost use Rattle.scode_code.specs.Image.{meaning_of};
+ghost use Rattle.scode_code.specs.Root.{root_method as root_method_of};
+ghost use Rattle.scode_code.specs.Tables.{schema_of};
+ghost use Rattle.scode_objects.specs.Loaded.{IsLoaded, live_of, statics_of};
+ghost use Rattle.scode_vm.specs.Calling.{AreZeros};
+ghost use Rattle.scode_vm.specs.Doings.{HasCells};
+ghost use Rattle.scode_machine.specs.AtWork.{running_on};
+ghost use Rattle.scode_machine.specs.Root.{rooted};
+ghost use Rattle.scode_engine.specs.Answered.{IsAnswered, IsReady};
+
+use crate::arguments::{argument_cell, call_end};
+use crate::methods::root_method;
+use scode_cells::{Cell, Cells};
+use scode_image::Image;
+use scode_machine::{RootCall, run_root};
+use scode_mem::Pool;
+use scode_objects::root_calls_leave_objects;
+use scode_sound::has_root;
+use sed_engine::{CallEnd, Place, Root};
+use sed_typed::Schema;
+use sed_value::{Items, Value};
+
+/// Runs a root call on a live object. It ends as the image's root call does, and leaves the contents and statics that
+/// this leaves; the other objects stay. No frame runs before or behind it.
+pub fn call(
+    image: &Image,
+    schema: &Schema,
+    zeros: &[Items<Cell>],
+    pool: &mut Pool,
+    cells: &mut Cells,
+    p: Place,
+    which: Root,
+    argument: &Value,
+    turns: u32,
+    moment: i64,
+) -> CallEnd
+    requires loaded { IsLoaded image.now pool.old }
+    requires schema { schema.now ≡ schema_of image.now }
+    requires zeros { AreZeros image.now zeros.now }
+    requires cells { HasCells image.now cells.old.most }
+    requires idle { cells.old.frames ≡ [] }
+    requires may { IsSomeAnd (finite.get (live_of image.now pool.old) p.0)
+        (λ o. IsTrue (may_call (meaning_of image.now) o.class which argument.now)) }
+    requires some_turns { 1 ≤ turns }
+    requires most_turns { turns ≤ 1000000 }
+    ensures loaded { IsLoaded image.now pool.new }
+    ensures end { IfSome (finite.get (live_of image.now pool.old) p.0) (λ o. result
+        ≡ (root_of (meaning_of image.now) o (statics_of image.now pool.old) which argument.now turns moment).end) }
+    ensures left { IfSome (finite.get (live_of image.now pool.old) p.0) (λ o. live_of image.now pool.new
+        ≡ finite.insert (live_of image.now pool.old) p.0 (called o
+        (root_of (meaning_of image.now) o (statics_of image.now pool.old) which argument.now turns moment))) }
+    ensures statics { IfSome (finite.get (live_of image.now pool.old) p.0) (λ o. statics_of image.now pool.new
+        ≡ (root_of (meaning_of image.now) o (statics_of image.now pool.old) which argument.now turns moment).statics) }
+    ensures limit { pool.new.limit ≡ pool.old.limit }
+    ensures cells { cells.new ≡ cells.old }
+{
+    root_calls_leave_objects();
+    let class = pool.kind(p).0;
+    let asked = RootCall {
+        image,
+        zeros,
+        class,
+        place: p,
+        moment,
+    };
+    answer(&asked, schema, which, argument, turns, pool, cells)
+}
+
+// Runs a root call that may be asked.
+fn answer(
+    call: &RootCall,
+    schema: &Schema,
+    which: Root,
+    argument: &Value,
+    turns: u32,
+    pool: &mut Pool,
+    cells: &mut Cells,
+) -> CallEnd
+    requires schema { schema.now ≡ schema_of call.now.image.now }
+    requires zeros { AreZeros call.now.image.now call.now.zeros.now }
+    requires ready { IsReady (rooted call.now) which argument.now (running_on cells.old pool.old turns) }
+    ensures { IsAnswered (rooted call.now) which argument.now (running_on cells.old pool.old turns) result cells.new
+        pool.new }
+{
+    has_root();
+    match root_method(call.image, schema, call.class, which) {
+        Some(number) => run_method(call, number, which, argument, turns, pool, cells),
+        None => CallEnd::Done { left: turns },
+    }
+}
+
+// Runs the method of a root call that may be asked.
+fn run_method(
+    call: &RootCall,
+    number: u16,
+    which: Root,
+    argument: &Value,
+    turns: u32,
+    pool: &mut Pool,
+    cells: &mut Cells,
+) -> CallEnd
+    requires zeros { AreZeros call.now.image.now call.now.zeros.now }
+    requires ready { IsReady (rooted call.now) which argument.now (running_on cells.old pool.old turns) }
+    requires found { root_method_of call.now.image.now call.now.class which ≡ Ok (Some number) }
+    ensures { IsAnswered (rooted call.now) which argument.now (running_on cells.old pool.old turns) result cells.new
+        pool.new }
+{
+    has_root();
+    let given = argument_cell(argument);
+    let mut left = turns;
+    let came = run_root(call, number, given, pool, cells, &mut left);
+    call_end(came, left)
+}
