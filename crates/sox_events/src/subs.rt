@@ -19,8 +19,9 @@ use sub_table::{IDS, Part, SubTable, Widths};
 /// that was posted of each. Contracts see it by `subscriptions`: of a place, an id and a part none where it is not
 /// subscribed, and else the last event, if there is one.
 ///
-/// All memory is taken by `new`, as much as the components of a schema may need: about 106 MB at the limits, some
-/// 54 MB where classes are small. No other call takes any.
+/// All memory is taken by `new`, as much as the components of a schema may need: about 107 MB at the limits, some
+/// 55 MB where classes are small. No other call takes any. It is reserved, and what is resident follows the most
+/// subscriptions that there were at once.
 #[derive(Drop)]
 pub struct Subs {
     pub(crate) table: SubTable,

@@ -8,7 +8,7 @@ use Rattle.std.specs.Int.{w64, bit_at, bit_not}
 use Rattle.std.specs.Int.RustNames.{bit_or}
 use Rattle.std.specs.Prelude.{◌==◌, bit_and}
 use Rattle.sed_value.proofs.Lists.{zeros}
-use Rattle.sub_table.specs.Events.{is_member}
+use Rattle.sub_table.specs.Holders.{is_member}
 
 -- two numbers in one word differ in their bits
 same_word : (a b : ℕ) → a / 64 ≡ b / 64 → a % 64 ≡ b % 64 → a ≡ b

@@ -1,4 +1,5 @@
 pub mod BitLemmas
-pub mod EventLemmas
+pub mod HolderLemmas
+pub mod RowLemmas
 pub mod TableLemmas
 pub mod WordLemmas

@@ -10,7 +10,8 @@ use Rattle.sub_table.specs.declared.part.Part.{Part}
 use Rattle.sub_table.specs.declared.part.Part.TheVariants.{Tree, Config, Runtime, Links}
 use Rattle.sub_table.specs.declared.part.Widths.{Widths}
 use Rattle.sub_table.specs.declared.table.SubTable.{SubTable}
-use Rattle.sub_table.specs.Events.{Kept, Changes, is_member, kept_at}
+use Rattle.sub_table.specs.Events.{Kept, Changes, kept_at}
+use Rattle.sub_table.specs.Holders.{is_member}
 use Rattle.sub_table.specs.Parts.{is_in, is_part, one_of, width_of}
 use Rattle.std.proofs.Math.ListN.{get_or}
 use Rattle.sub_table.specs.Table.{at, is_any, is_at, kept_of, number_of}

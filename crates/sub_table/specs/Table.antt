@@ -4,7 +4,8 @@ use Rattle.std.specs.Prelude.{nat_lt, List, Option, None, is_some}
 use Rattle.sub_table.specs.declared.part.Part.{Part}
 use Rattle.sub_table.specs.declared.part.Part.TheVariants.{Tree, Config, Runtime, Links}
 use Rattle.sub_table.specs.declared.table.SubTable.{SubTable}
-use Rattle.sub_table.specs.Events.{Kept, is_member, kept_at, subscribed, unsubscribed, posted}
+use Rattle.sub_table.specs.Events.{Kept, kept_at, subscribed, unsubscribed, posted}
+use Rattle.sub_table.specs.Holders.{is_member}
 use Rattle.sub_table.specs.Parts.{is_in, is_part}
 
 -- ---- what a table says

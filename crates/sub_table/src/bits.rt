@@ -1,7 +1,7 @@
 //! Bits of subscribers.
 ghost use Rattle.std.specs.Prelude.{◌≡◌, ◌≢◌, ◌<◌, ◌/◌, ◌%◌, ◌==◌, ℕ, true, false, IfOk, length, replicate};
 ghost use Rattle.std.specs.Prelude.{slice_index};
-ghost use Rattle.sub_table.specs.Events.{is_member};
+ghost use Rattle.sub_table.specs.Holders.{is_member};
 
 use sed_value::Memory;
 use std::alloc::{AllocError, Global};

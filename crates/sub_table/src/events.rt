@@ -1,67 +1,59 @@
 //! The subscriptions of one part, and the bytes of their last events.
-ghost use Rattle.std.specs.Prelude.{◌≡◌, ◌<◌, ◌≤◌, ◌+◌, ◌*◌, ◌++◌, ℕ, IfOk, IsSome, None, true, is_some, unwrap_or};
-ghost use Rattle.std.specs.Prelude.{length, take, drop, replicate, slice_index, slice_index_or};
+ghost use Rattle.std.specs.Prelude.{◌≡◌, ◌<◌, ◌≤◌, ℕ, IfOk, IsSome, None, true, is_some, unwrap_or};
+ghost use Rattle.std.specs.Prelude.{length, slice_index};
 ghost use Rattle.std.specs.Option.{option_copied};
 ghost use Rattle.sub_table.specs.Events.{kept_at, Changes, subscribed, unsubscribed, posted};
 
-use crate::bits::Bits;
+use crate::holders::Holders;
+use crate::rows::Rows;
 use sed_value::Memory;
-use std::alloc::{AllocError, Global};
+use std::alloc::Global;
 use std::marker::Model;
-
-// How many subscribers a part may have.
-const SUBSCRIBERS: usize = 65536;
 
 /// Which of 65,536 numbers have subscribed a part, and the bytes of the last event that was posted to each. Contracts
 /// see it by `kept_at`.
+///
+/// Each number that has subscribed holds a row of the part's width. `new` takes all memory: of it it touches a bit and
+/// the number of a row for each of the 65,536, and rows are touched as they are first held. So what is resident follows
+/// the most numbers that had subscribed at once.
 #[derive(Drop)]
 pub struct Events {
-    subscribed: Bits,
-    // How long the last event of each is; what stands there says nothing where it has not subscribed.
-    lengths: Vec<Option<u16>>,
-    // As many bytes for each as the width says.
-    bytes: Vec<u8>,
-    width: u16,
+    holders: Holders,
+    rows: Rows,
 }
 
 impl Model for Events {
-    ghost use Rattle.sub_table.specs.Events.{Kept, IsRoomy};
+    ghost use Rattle.std.specs.Prelude.{◌≡◌, length};
+    ghost use Rattle.sub_table.specs.Events.{Kept};
 
     ghost Value = { Kept };
 
     ghost view = { λ e. record {
-      words = e.subscribed;
-      lengths = e.lengths.items;
-      bytes = e.bytes.items;
-      width = e.width;
+      words = e.holders.words;
+      rows = e.holders.rows;
+      texts = e.rows;
+      width = e.rows.width;
     } };
 
-    ghost invariant = { λ e.
-        IsRoomy (record { words = e.subscribed; lengths = e.lengths.items; bytes = e.bytes.items; width = e.width }) };
+    ghost invariant = { λ e. length e.rows.lengths ≡ e.holders.count };
 }
 
 impl Events {
-    /// None has subscribed. Room for an event of this many bytes is taken for each number.
+    /// None has subscribed. Room for an event of this many bytes is reserved for each number.
     pub fn new(alloc: Global, width: u16) -> Result<Events, Memory>
         ensures none { IfOk result (λ events. (number : ℕ) → kept_at events number ≡ None) }
         ensures width { IfOk result (λ events. events.width ≡ width) }
     {
-        let subscribed = Bits::new(alloc)?;
-        let lengths = no_lengths(alloc, SUBSCRIBERS)?;
-        let bytes = no_bytes(alloc, SUBSCRIBERS * usize::from(width))?;
-        Ok(Events {
-            subscribed,
-            lengths,
-            bytes,
-            width,
-        })
+        let holders = Holders::new(alloc)?;
+        let rows = Rows::new(alloc, width)?;
+        Ok(Events { holders, rows })
     }
 
     /// How many bytes an event may have.
     pub fn width(&self) -> u16
         ensures { result ≡ self.now.width }
     {
-        self.width
+        self.rows.width()
     }
 
     /// Whether a number has subscribed.
@@ -69,7 +61,7 @@ impl Events {
         requires { number < 65536 }
         ensures { result ≡ is_some (kept_at self.now number) }
     {
-        self.subscribed.contains(number)
+        self.holders.contains(number)
     }
 
     /// The bits of 64 numbers from this many times 64 on.
@@ -77,7 +69,7 @@ impl Events {
         requires { at < 1024 }
         ensures { result ≡ slice_index self.now.words at }
     {
-        self.subscribed.word(at)
+        self.holders.word(at)
     }
 
     /// A number subscribes. Where it has already, all stays.
@@ -86,10 +78,11 @@ impl Events {
         ensures after { Changes subscribed number true self.old self.new }
         ensures width { self.new.width ≡ self.old.width }
     {
-        if !self.subscribed.contains(number) {
-            self.lengths[number] = None;
-            self.subscribed.insert(number);
+        if self.holders.contains(number) {
+            return;
         }
+        self.holders.insert(number);
+        self.rows.push();
     }
 
     /// A number has not subscribed any more, and its last event is forgotten.
@@ -98,7 +91,11 @@ impl Events {
         ensures after { Changes unsubscribed number true self.old self.new }
         ensures width { self.new.width ≡ self.old.width }
     {
-        self.subscribed.remove(number);
+        if !self.holders.contains(number) {
+            return;
+        }
+        let row = self.holders.remove(number);
+        self.rows.remove(row);
     }
 
     /// The bytes of the last event that was posted to a number: none where none was since it subscribed, or where it
@@ -107,16 +104,10 @@ impl Events {
         requires { number < 65536 }
         ensures { option_copied result ≡ unwrap_or (kept_at self.now number) None }
     {
-        if !self.subscribed.contains(number) {
+        if !self.holders.contains(number) {
             return None;
         }
-        match length_at(&self.lengths, number) {
-            Some(len) => {
-                let start = number * usize::from(self.width);
-                Some(field(&self.bytes, start, usize::from(len)))
-            }
-            None => None,
-        }
+        self.rows.event(self.holders.row(number))
     }
 
     /// An event of these bytes is posted to a number.
@@ -127,44 +118,7 @@ impl Events {
         ensures after { Changes (posted event.now) number true self.old self.new }
         ensures width { self.new.width ≡ self.old.width }
     {
-        let start = number * usize::from(self.width);
-        put_at(&mut self.bytes, start, event);
-        self.lengths[number] = Some(event.len() as u16);
+        let row = self.holders.row(number);
+        self.rows.put(row, event);
     }
-}
-
-// How long the last event of a number is.
-fn length_at(lengths: &[Option<u16>], number: usize) -> Option<u16>
-    requires { number < length lengths.now }
-    ensures { result ≡ slice_index_or lengths.now number None }
-{
-    lengths[number]
-}
-
-// So many bytes from a place on.
-fn field(bytes: &[u8], start: usize, len: usize) -> &[u8]
-    requires { start + len ≤ length bytes.now }
-    ensures { result.now ≡ take len (drop start bytes.now) }
-{
-    &bytes[start..start + len]
-}
-
-// Puts bytes over those from a place on.
-fn put_at(bytes: &mut [u8], start: usize, event: &[u8])
-    requires { start + length event.now ≤ length bytes.old }
-    ensures { bytes.new ≡ take start bytes.old ++ (event.now ++ drop (start + length event.now) bytes.old) }
-{
-    bytes[start..start + event.len()].copy_from_slice(event);
-}
-
-fn no_lengths(alloc: Global, count: usize) -> Result<Vec<Option<u16>>, AllocError>
-    ensures { IfOk result (λ lengths. lengths.items ≡ replicate count None) }
-{
-    vec![in alloc; None; count]
-}
-
-fn no_bytes(alloc: Global, count: usize) -> Result<Vec<u8>, AllocError>
-    ensures { IfOk result (λ bytes. bytes.items ≡ replicate count 0) }
-{
-    vec![in alloc; 0; count]
 }

@@ -29,7 +29,10 @@ const ALL: u8 = 15;
 /// Who has subscribed which part of which id at which session place, and the bytes of the last event of each. Contracts
 /// see it by `at`, and how many bytes an event may have by `most_bytes`, which no call changes.
 ///
-/// All memory is taken by `new`: for each part 65,536 times the width, a length and a bit. No other call takes any.
+/// All memory is taken by `new`, and no other call takes any: for each part 65,536 times a bit, the number of a row and
+/// room for a row, which is the width, a length and the number that holds it. `new` touches the bits and the numbers of
+/// rows, 136 KB a part; room is touched row by row. So what is resident follows the most subscriptions of a part that
+/// there were at once, however many there were in all.
 #[derive(Drop)]
 pub struct SubTable {
     tree: Events,
