@@ -58,7 +58,7 @@ module _ (size : ℕ → ℕ) (object : ℕ → List ℕ) (sized : (class : ℕ)
   field_many (form.Array p n) v h = length-replicate {A = ℕ} (n * width_of p) 0
   field_many (form.Object class) v h = sized class.0
 
-  fields_many : (all : List Field) → All (λ f. IsTrue (is_initial f.form f.initial)) all → length (fields_bytes object all) ≡ sum_by (λ f. form_size size f.form) all
+  pub fields_many : (all : List Field) → All (λ f. IsTrue (is_initial f.form f.initial)) all → length (fields_bytes object all) ≡ sum_by (λ f. form_size size f.form) all
   fields_many all h =
       length-flat_map (λ (f : Field). field_bytes object f.form f.initial) all
       ∙ sums_agree (λ (f : Field). length (field_bytes object f.form f.initial)) (λ (f : Field). form_size size f.form) all

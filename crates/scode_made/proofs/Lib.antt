@@ -18,3 +18,4 @@ pub mod FieldBytes
 pub mod FirstContents
 pub mod AskedAlike
 pub mod Whole
+pub mod MaskedCarry

@@ -52,7 +52,7 @@ by_flags false false = refl
 -- ---- methods
 
 -- no local is void
-storable : (program : Program) (m : Method) → IsMethod program m → All (IsStorable program) (locals_of m)
+pub storable : (program : Program) (m : Method) → IsMethod program m → All (IsStorable program) (locals_of m)
 storable program m is = by_body m.body refl is.body
   where
     receiver : (b : Bool) → All (IsStorable program) (cond b [] (kind.Object m.class ∷ []))

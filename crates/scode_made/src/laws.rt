@@ -8,7 +8,7 @@ ghost use Rattle.sed_typed.specs.Typed.{Typed};
 ghost use Rattle.sed_engine.specs.Asked.{MayAsk, may_ask};
 ghost use Rattle.sed_engine.specs.Carries.{Carries};
 ghost use Rattle.sed_engine.specs.Code.{Question, slot_type};
-ghost use Rattle.sed_engine.specs.Program.{code_of};
+ghost use Rattle.sed_engine.specs.Program.{code_of, meaning_of};
 ghost use Rattle.sed_engine.specs.Root.{argument_of, root, root_method};
 ghost use Rattle.sed_engine.specs.Values.{Val};
 ghost use Rattle.scode_code.specs.Faults.{IsVerified};
@@ -24,8 +24,10 @@ ghost use Rattle.scode_sim.specs.Reaches.{IsOver, begun_with, setting_of};
 
 use scode_entries::code_exists;
 use scode_sim::compiled_roots_are_the_same;
-use scode_sound::verified_calls_are_over;
-use sed_engine::what_may_be_asked;
+use scode_sound::{verified_calls_are_over, verified_images_are_whole};
+use sed_engine::{
+    carried_codes_are_one, masked_codes_answer, typed_programs_are_whole, what_may_be_asked,
+};
 use sed_layout::{
     data_is_the_sum_of_fields, fields_do_not_overlap, fields_lie_within, fields_take_bytes,
     inherited_fields_keep_their_offsets, names_keep_their_places, numbers_are_small,
@@ -133,4 +135,20 @@ pub fn verified_images_carry_their_programs()
     images_tell_the_schema();
     roots_run_the_same_methods();
     verified_calls_are_over();
+}
+
+/// Where the methods of a typed program are short and its image breaks no rule, the image means what the program means.
+/// So an engine over the image is one of the program.
+pub fn images_mean_their_programs()
+    ensures { (program : AnyProgram) → Typed program → IsSpelledOut program
+        → All (λ (m : AnyMethod). EachCaseOf Has32Bits m.body) program.methods
+        → All (IsShort program) program.methods → IsVerified (image_of program)
+        → made.meaning_of (image_of program) ≡ meaning_of program }
+{
+    carried_codes_are_one();
+    images_tell_the_data();
+    masked_codes_answer();
+    typed_programs_are_whole();
+    verified_images_are_whole();
+    verified_images_carry_their_programs();
 }
