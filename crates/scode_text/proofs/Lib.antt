@@ -1,0 +1,13 @@
+pub mod Forms
+pub mod Names
+pub mod Lists
+pub mod ToldKinds
+pub mod LinkKinds
+pub mod MarkKinds
+pub mod Parts
+pub mod Counted
+pub mod Fields
+pub mod Classes
+pub mod Entries
+pub mod Methods
+pub mod Whole
