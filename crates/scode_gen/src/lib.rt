@@ -2,8 +2,8 @@
 //!
 //! By the definition `image_of` the image of a typed program has its kits, its classes with their fields, slots,
 //! tables and first bytes, its statics, its texts, and each method as it is compiled for the layout that these say.
-//! `generate` gives exactly that image, and refuses the first method whose code is too long. Where such an image breaks
-//! no rule it carries the program, by the laws of scode_made; that it breaks none is not proved yet.
+//! `generate` gives exactly that image, and refuses the first method whose code is too long. That such an image breaks
+//! no rule, has a text and carries the program are the laws of scode_agree, scode_fine, scode_text and scode_made.
 #![tactic(auto)]
 
 mod class_fields;

@@ -1,0 +1,3 @@
+mod BareSizes
+mod Refused
+pub mod FirstTooLong
