@@ -8,6 +8,7 @@
 #![tactic(auto)]
 
 mod case;
+mod choices;
 mod row;
 mod spelling;
 mod table;
@@ -15,7 +16,8 @@ mod words;
 mod written;
 
 pub use case::{Case, CaseFault};
+pub use choices::choice;
 pub use row::{Row, RowFault, is_row};
-pub use table::run;
+pub use table::{run, text_of};
 pub use words::put_bytes;
 pub use written::Written;

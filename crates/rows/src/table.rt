@@ -60,8 +60,8 @@ fn count_rows(text: &str) -> usize
     text.lines().filter(|line| is_row(line.as_bytes())).count()
 }
 
-// The text of a file, which lies where the program runs, or in data/ below that.
-fn text_of<R: Files + AllocGlobal>(rt: &R, path: &str) -> io::Result<String> {
+/// The text of a file, which lies where the program runs, or in data/ below that.
+pub fn text_of<R: Files + AllocGlobal>(rt: &R, path: &str) -> io::Result<String> {
     if let Ok(text) = fs::read_to_string(rt, path) {
         return Ok(text);
     }

@@ -1,6 +1,6 @@
 //! Values as bytes, both ways.
 use dasp_msg::ack_more_bytes;
-use rows::{Case, CaseFault};
+use rows::{Case, CaseFault, choice};
 use sed_value::{Bytes, LONGEST_BUFFER, Prim, SlotType, Value};
 use sed_wire::{Reader, Writer, can_be_held, has_spelling, is_text};
 
@@ -15,28 +15,66 @@ pub fn reading(case: &mut Case) {
     case.put(b">");
 }
 
+// What a word asks a reader for.
+enum Asked {
+    U1,
+    U2,
+    U4,
+    I4,
+    I8,
+    Str,
+    Take,
+    Remaining,
+    IsEmpty,
+    AckMore,
+    Value(SlotType),
+    Buffer,
+}
+
+const ASKED: [(&str, Asked); 16] = [
+    ("u1", Asked::U1),
+    ("u2", Asked::U2),
+    ("u4", Asked::U4),
+    ("i4", Asked::I4),
+    ("i8", Asked::I8),
+    ("str", Asked::Str),
+    ("take", Asked::Take),
+    ("remaining", Asked::Remaining),
+    ("is_empty", Asked::IsEmpty),
+    ("ack_more", Asked::AckMore),
+    ("bool", Asked::Value(SlotType::Prim(Prim::Bool))),
+    ("byte", Asked::Value(SlotType::Prim(Prim::Byte))),
+    ("short", Asked::Value(SlotType::Prim(Prim::Short))),
+    ("int", Asked::Value(SlotType::Prim(Prim::Int))),
+    ("long", Asked::Value(SlotType::Prim(Prim::Long))),
+    ("buf", Asked::Buffer),
+];
+
 fn read(case: &mut Case, call: &str, reader: &mut Reader<'_>) {
     let (name, argument) = call.split_once(' ').unwrap_or((call, "0"));
     let count: u8 = case.parsed(argument);
-    let buffer = SlotType::Buf(count);
-    match name {
-        "u1" => case.show(&reader.u1()),
-        "u2" => case.show(&reader.u2()),
-        "u4" => case.show(&reader.u4()),
-        "i4" => case.show(&reader.i4()),
-        "i8" => case.show(&reader.i8()),
-        "str" => case.show(&reader.str()),
-        "take" => case.show(&reader.take(usize::from(count))),
-        "remaining" => case.show(&reader.remaining()),
-        "is_empty" => case.show(&reader.is_empty()),
-        "ack_more" => case.hex(&ack_more_bytes(reader.rest())),
-        "bool" => case.show(&reader.value(SlotType::Prim(Prim::Bool))),
-        "byte" => case.show(&reader.value(SlotType::Prim(Prim::Byte))),
-        "short" => case.show(&reader.value(SlotType::Prim(Prim::Short))),
-        "int" => case.show(&reader.value(SlotType::Prim(Prim::Int))),
-        "long" => case.show(&reader.value(SlotType::Prim(Prim::Long))),
-        "buf" if can_be_held(buffer) => case.show(&reader.value(buffer)),
-        _ => case.put(b"no call"),
+    match choice(&ASKED, name) {
+        Some(Asked::U1) => case.show(&reader.u1()),
+        Some(Asked::U2) => case.show(&reader.u2()),
+        Some(Asked::U4) => case.show(&reader.u4()),
+        Some(Asked::I4) => case.show(&reader.i4()),
+        Some(Asked::I8) => case.show(&reader.i8()),
+        Some(Asked::Str) => case.show(&reader.str()),
+        Some(Asked::Take) => case.show(&reader.take(usize::from(count))),
+        Some(Asked::Remaining) => case.show(&reader.remaining()),
+        Some(Asked::IsEmpty) => case.show(&reader.is_empty()),
+        Some(Asked::AckMore) => case.hex(&ack_more_bytes(reader.rest())),
+        Some(Asked::Value(slot)) => read_value(case, *slot, reader),
+        Some(Asked::Buffer) => read_value(case, SlotType::Buf(count), reader),
+        None => case.put(b"no call"),
+    }
+}
+
+fn read_value(case: &mut Case, slot: SlotType, reader: &mut Reader<'_>) {
+    if can_be_held(slot) {
+        case.show(&reader.value(slot));
+    } else {
+        case.put(b"no call");
     }
 }
 
