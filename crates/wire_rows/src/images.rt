@@ -105,8 +105,8 @@ fn told(case: &mut Case, bytes: &[u8]) -> Vec<u8> {
     outcome_of(case, inner)
 }
 
-// The image that bytes are, where it is then written alike. Else tells what they are.
-fn read_written(case: &mut Case, bytes: &[u8]) -> Option<Image> {
+/// The image that bytes are, where it is then written alike. Else tells what they are.
+pub fn read_written(case: &mut Case, bytes: &[u8]) -> Option<Image> {
     match read_image(case.alloc(), bytes) {
         Ok(image) if is_written_alike(case, &image, bytes) => return Some(image),
         Ok(_) => case.put(b"image that is written otherwise"),

@@ -1,5 +1,5 @@
 //! The rows of what goes over the network, and of compiled code: values, messages, requests and records as bytes, users
-//! and sessions, links, clocks, files and sinks, and images.
+//! and sessions, links, clocks, files and sinks, images, and what the code of images does.
 //!
 //! Each table of data/ is run through the public calls of its crate. A row of which something else comes than what is
 //! wanted is printed, and of each table how many rows it has and how many differ. Each file says what its columns are.
@@ -8,6 +8,7 @@
 mod files;
 mod images;
 mod live;
+mod machines;
 mod messages;
 mod outside;
 mod records;
@@ -21,7 +22,7 @@ use rows::{Case, CaseFault, run};
 use std::io;
 
 // The tables, in the order in which they run.
-const TABLES: [&str; 27] = [
+const TABLES: [&str; 31] = [
     "reading",
     "writing",
     "messages",
@@ -49,6 +50,10 @@ const TABLES: [&str; 27] = [
     "images",
     "verifying",
     "values",
+    "running",
+    "calls",
+    "objects",
+    "bare",
 ];
 
 fn main(rt: HostRuntime) -> io::Result<()> {
@@ -97,16 +102,18 @@ fn of_the_outside(rt: &HostRuntime, name: &str, case: &mut Case) {
         "system_files" => files::system_files(case, rt),
         "sinks" => files::sinks(case),
         "writers" => files::writers(case),
-        _ => of_images(name, case),
+        _ => of_images(rt, name, case),
     }
 }
 
-fn of_images(name: &str, case: &mut Case) {
+fn of_images(rt: &HostRuntime, name: &str, case: &mut Case) {
     match name {
         "decoding" => images::decoding(case),
         "images" => images::images(case),
         "verifying" => images::verifying(case),
         "values" => images::values(case),
+        "running" | "calls" => machines::running(case, rt),
+        "objects" | "bare" => machines::objects(case, rt, name),
         _ => case.fail(CaseFault::BadInput),
     }
 }
