@@ -1,6 +1,9 @@
 -- Why a program is not loaded, and what a call that loads one leaves.
-use Rattle.std.specs.Prelude.{◌≡◌, ◌⊎◌, ℕ, Bool, true, false, List, [], ◌∷◌, Option, Some, None, Result, Ok, Err}
+use Rattle.std.specs.Prelude.{◌≡◌, ◌⊎◌, ℕ, Bool, true, false, List, [], ◌∷◌, map, Option, Some, None, Result, Ok, Err}
+use Rattle.std.specs.Option.{option_map}
+use Rattle.sed_typed.specs.declared.program.Method.{Method}
 use Rattle.sed_typed.specs.declared.program.Program.{Program}
+use Rattle.sed_typed.specs.Bare.{bare_stmt}
 use Rattle.kit_sources.specs.declared.refusal.SourcesRefusal.{SourcesRefusal}
 use Rattle.kit_sources.specs.declared.refusal.SourcesRefusal.TheVariants as sources
 use Rattle.sed_kits.specs.declared.refusal.KitsRefusal.{KitsRefusal}
@@ -28,12 +31,20 @@ refusal_of (Err refusal) = Some refusal
 abbrev pub HasRefusalOf : Result Program KitsRefusal → Result Program KitsRefusal → Type 0
 HasRefusalOf end other = refusal_of other ≡ refusal_of end
 
--- Programs that are alike in all but their methods, whose bodies may group chains in other ways.
+-- Programs that are the same, but for where the trees of their bodies lie in memory.
 pub record AreAlike (p q : Program) : Type 0 where
   pub schema : p.schema ≡ q.schema
   pub fields : p.fields ≡ q.fields
   pub statics : p.statics ≡ q.statics
   pub texts : p.texts ≡ q.texts
+  pub classes : map (λ (m : Method). m.class) p.methods ≡ map (λ (m : Method). m.class) q.methods
+  pub names : map (λ (m : Method). m.name) p.methods ≡ map (λ (m : Method). m.name) q.methods
+  pub static : map (λ (m : Method). m.is_static) p.methods ≡ map (λ (m : Method). m.is_static) q.methods
+  pub virtual : map (λ (m : Method). m.is_virtual) p.methods ≡ map (λ (m : Method). m.is_virtual) q.methods
+  pub params : map (λ (m : Method). m.params) p.methods ≡ map (λ (m : Method). m.params) q.methods
+  pub results : map (λ (m : Method). m.result) p.methods ≡ map (λ (m : Method). m.result) q.methods
+  pub bodies : map (λ (m : Method). option_map bare_stmt m.body) p.methods
+      ≡ map (λ (m : Method). option_map bare_stmt m.body) q.methods
 
 -- the names of the reads that failed, by the refusal, and by how it ended
 abbrev pub failed_of : KitsRefusal → List (List ℕ)

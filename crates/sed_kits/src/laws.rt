@@ -8,10 +8,11 @@ ghost use Rattle.sed_kits.specs.Refusals.{AreAlike, HasRefusalOf, failed_in};
 ghost use Rattle.sed_kits.specs.Loading.{KitsLoaded, TextLoaded};
 
 use kit_sources::{failed_reads_are_told, what_is_read_is_one};
+use sed_terms::terms_have_one_tree;
 
 /// Whether a program is loaded, and else the refusal, is one for the same reads: where two rows of reads give the same
 /// wherever they read one name at one place, they are the same reads, and both end with a program or with the same
-/// refusal; and the programs are alike in all but their methods.
+/// refusal; and the programs are the same, but for where the trees of their bodies lie in memory.
 pub fn loads_agree()
     ensures kits { (names : List (List ℕ)) (reads others : List Read) (end other : Result Program KitsRefusal)
         → KitsLoaded names reads end → KitsLoaded names others other → Agree reads others
@@ -21,7 +22,10 @@ pub fn loads_agree()
     ensures text { (name : List ℕ) (reads others : List Read) (end other : Result Program KitsRefusal)
         → TextLoaded name reads end → TextLoaded name others other → Agree reads others
         → (reads ≡ others) × HasRefusalOf end other }
+    ensures alone { (name : List ℕ) (reads others : List Read) (p q : Program)
+        → TextLoaded name reads (Ok p) → TextLoaded name others (Ok q) → Agree reads others → AreAlike p q }
 {
+    terms_have_one_tree();
     what_is_read_is_one();
 }
 
