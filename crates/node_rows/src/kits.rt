@@ -1,10 +1,13 @@
-//! The walker over the kits of a row, and cases within cases.
+//! The walker and the machine over the kits of a row, and cases within cases.
 ghost use Rattle.std.specs.Prelude.{◌≡◌, IfOk, IfSome};
 ghost use Rattle.std.specs.FinMap as map;
 ghost use Rattle.sed_typed.specs.Initial.{initial_statics};
 ghost use Rattle.sed_typed.specs.Typed.{Typed};
 
 use rows::{Case, CaseFault};
+use scode_compile::compile;
+use scode_engine::Machine;
+use sed_engine::Engine;
 use sed_kits::load_kits;
 use sed_outside::MemFiles;
 use sed_typed::Program;
@@ -90,6 +93,30 @@ pub fn walker<R: Files + AllocGlobal>(rt: &R, case: &mut Case, kits: &Kits) -> O
     };
     match Walker::new(case.alloc(), program, kits.limit) {
         Ok(walker) => Some(walker),
+        Err(_) => {
+            case.fail(CaseFault::Memory);
+            None
+        }
+    }
+}
+
+/// The machine over the image of the program of kits, without a component. Where code is too long, tells so.
+pub fn machine<R: Files + AllocGlobal>(rt: &R, case: &mut Case, kits: &Kits) -> Option<Machine>
+    ensures { IfSome result (λ m. ⟦<Machine as Engine>⟧.live m ≡ map.empty) }
+{
+    let Ok(program) = program(rt, kits.names.as_str()) else {
+        case.fail(CaseFault::BadInput);
+        return None;
+    };
+    let compiled = match compile(case.alloc(), program) {
+        Ok(compiled) => compiled,
+        Err(refusal) => {
+            case.show(&refusal);
+            return None;
+        }
+    };
+    match compiled.machine(case.alloc(), kits.limit) {
+        Ok(machine) => Some(machine),
         Err(_) => {
             case.fail(CaseFault::Memory);
             None

@@ -1,5 +1,6 @@
-//! The rows of applications and of what keeps them: requests, cycles, marks and events over the walker on real kits,
-//! and over an engine that wants memory; what is printed; the bytes of files; and the store on a disk.
+//! The rows of applications and of what keeps them: requests, cycles, marks and events on real kits, over the walker
+//! and over the machine, and over an engine that wants memory; what is printed; the bytes of files; and the store on a
+//! disk.
 #![tactic(auto)]
 
 mod files;

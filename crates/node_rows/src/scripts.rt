@@ -3,7 +3,7 @@ ghost use Rattle.std.specs.Prelude.{◌≡◌, ◌<◌, ◌≤◌};
 ghost use Rattle.std.specs.FinMap as map;
 
 use crate::files::written;
-use crate::kits::{came, kits_of, walker, within};
+use crate::kits::{Kits, came, kits_of, machine, walker, within};
 use app_cycle::{begin, cycle};
 use comp_tree::Tree;
 use link_prop::App;
@@ -32,19 +32,53 @@ struct Stage<E: Engine> {
     moment: i64,
 }
 
-/// Kits, the most bytes of data, and steps with `; ` between them. The kits `tiny` are an engine that keeps one
-/// component and then wants memory.
+/// Kits, the most bytes of data, and steps with `; ` between them, over the walker and over the machine. The kits
+/// `tiny` are an engine that keeps one component and then wants memory.
 pub fn scripts<R: Files + AllocGlobal>(case: &mut Case, rt: &R) {
     let kits = kits_of(case);
     let script = case.text();
+    let script = script.as_str();
     if kits.names.as_str() == "tiny" {
-        match Tiny::new(case.alloc(), kits.limit) {
-            Ok(engine) => act(case, engine, script.as_str()),
+        return match Tiny::new(case.alloc(), kits.limit) {
+            Ok(engine) => act(case, engine, script),
             Err(_) => case.fail(CaseFault::Memory),
-        }
-    } else if let Some(walker) = walker(rt, case, &kits) {
-        act(case, walker, script.as_str());
+        };
     }
+    let walked = over_walker(case, rt, &kits, script);
+    let run = over_machine(case, rt, &kits, script);
+    case.put(walked.as_slice());
+    if run != walked {
+        case.put(b"; over the machine: ");
+        case.put(run.as_slice());
+    }
+}
+
+// What comes of a script over the walker.
+fn over_walker<R: Files + AllocGlobal>(
+    case: &mut Case,
+    rt: &R,
+    kits: &Kits,
+    script: &str,
+) -> Vec<u8> {
+    let mut inner = within(case);
+    if let Some(walker) = walker(rt, &mut inner, kits) {
+        act(&mut inner, walker, script);
+    }
+    came(case, inner)
+}
+
+// What comes of a script over the machine.
+fn over_machine<R: Files + AllocGlobal>(
+    case: &mut Case,
+    rt: &R,
+    kits: &Kits,
+    script: &str,
+) -> Vec<u8> {
+    let mut inner = within(case);
+    if let Some(machine) = machine(rt, &mut inner, kits) {
+        act(&mut inner, machine, script);
+    }
+    came(case, inner)
 }
 
 fn act<E: Engine>(case: &mut Case, engine: E, script: &str)
