@@ -2,8 +2,8 @@
 use Rattle.std.proofs.Common.{◌≡◌, inl, inr, ◌≤◌, ℕ, List, length, IsTrue, refl, sym, ◌∙◌, ap, subst, arith, Result, Ok, Err}
 use Rattle.std.proofs.lemmas.Bool.{cases_lt}
 use Rattle.disk_model.specs.Disk.{Image, Meaning, Elapses, During, MarksUp, SyncsUp, Torn, IsTorn, Holds, Keeps, Writes, Syncs}
-use Rattle.app_save.specs.Saving.{SinceSync}
-use Rattle.app_save.specs.Stages.{Lands}
+use Rattle.app_save.specs.Saving.{SinceSync, SyncsOnce}
+use Rattle.app_save.specs.Stages.{Lands, Settled}
 
 pub then_time : (a b c : Meaning) → Elapses a b → Elapses b c → Elapses a c
 then_time a b c one two = record {
@@ -138,3 +138,37 @@ since_kept a b c P told told_syncs one two first keeps syncs u i from to more le
 -- where no call is made nothing is written
 pub keeps_self : (a : Meaning) → Keeps a a
 keeps_self a = record { content = refl; during = λ u i from to left. now_alone a u i from to left }
+
+-- one sync, and behind it a call that makes none
+pub then_synced : (a b c : Meaning) → Elapses a b → SyncsOnce a b → SyncsUp b c 0 → SyncsOnce a c
+then_synced a b c one once none told =
+    let end = (none (one.told_syncs ∙ told)).at_end in
+    let here = once told in
+    omega (arith, end, here)
+
+-- a sync settles what was written
+pub settled_sync : {T E : Type 0} (x : T) (a b : Meaning) → Syncs {E = E} (Ok x) a b → SyncsUp a b 1 → Settled {E = E} (Ok x) a b
+settled_sync x a b syncs up = record {
+  during = syncs.during;
+  since = λ told u i from to more left. elim (cases_lt u b.now) [
+    | inl before ↦ let count = (up told).until u from before in absurd (omega (arith, more, count))
+    | inr ended ↦ let e : u ≡ b.now = omega (arith, to, ended) in syncs.durable i (subst (λ (n : ℕ). b.leaves n i) e left)
+  ];
+  kept = syncs.kept;
+  rests = λ i left. syncs.durable i left ∙ sym syncs.kept;
+}
+
+-- and it stays so behind a call that writes nothing
+pub settled_on : {T U E F : Type 0} (x : T) (r : Result U F) (a b c : Meaning) → IsTrue a.tells → Elapses a b → Elapses b c → Settled {E = E} (Ok x) a b → Keeps b c → Settled r a c
+settled_on x (Ok y) a b c told one two settled keeps = record {
+  during = then_during a b c (a.leaves a.now) told one two settled.during (λ u i from to left. at_end a b (a.leaves a.now) one settled.during i (keeps.during u i from to left));
+  since = λ told_syncs. then_since a b c (λ i. i ≡ a.content) told told_syncs one two (settled.since told_syncs) (λ u i from to left. settled.rests i (keeps.during u i from to left) ∙ settled.kept);
+  kept = keeps.content ∙ settled.kept;
+  rests = λ i left. settled.rests i (keeps.during c.now i two.later (omega arith) left) ∙ sym keeps.content;
+}
+settled_on x (Err e) a b c told one two settled keeps = record {
+  during = then_during a b c (a.leaves a.now) told one two settled.during (λ u i from to left. at_end a b (a.leaves a.now) one settled.during i (keeps.during u i from to left));
+  since = λ told_syncs. then_since a b c (λ i. i ≡ a.content) told told_syncs one two (settled.since told_syncs) (λ u i from to left. settled.rests i (keeps.during u i from to left) ∙ settled.kept);
+  kept = tt;
+  rests = tt;
+}

@@ -1,5 +1,5 @@
 -- What a save leaves of a store, moment by moment.
-use Rattle.std.specs.Prelude.{◌≡◌, ◌⊎◌, ◌+◌, ◌*◌, ◌<◌, ◌≤◌, ℕ, List, length, slice_index}
+use Rattle.std.specs.Prelude.{◌≡◌, ◌⊎◌, ◌+◌, ◌*◌, ◌<◌, ◌≤◌, ℕ, IsTrue, List, length, slice_index}
 use Rattle.disk_model.specs.Disk.{Image, Meaning}
 use Rattle.app_save.specs.Store.{IsStore, IsNewest, AreSlots, Opens}
 
@@ -21,6 +21,10 @@ pub record OpensAsBegun (S : ℕ) (payload : List ℕ) (start : Meaning) (image 
 abbrev pub SinceSync : Meaning → Meaning → (Image → Type 0) → Type 0
 SinceSync old new P = (u : ℕ) (c : Image) → old.now ≤ u → u ≤ new.now
     → old.syncs old.now < new.syncs u → new.leaves u c → P c
+
+-- One sync of this call answered Ok, where syncs are told.
+abbrev pub SyncsOnce : Meaning → Meaning → Type 0
+SyncsOnce old new = IsTrue old.tells_syncs → new.syncs new.now ≡ old.syncs old.now + 1
 
 -- A page is 512 bytes of the payload from a multiple of 512 on; the last one is cut at the payload's length. Page q of
 -- the payload stands in this image, whose payload begins there.

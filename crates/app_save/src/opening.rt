@@ -1,10 +1,10 @@
 //! Opening a store.
 ghost use Rattle.std.specs.Prelude.{◌≡◌, ◌⊎◌, ◌+◌, ◌*◌, ◌<◌, ◌≤◌, ◌↔◌, [], ℕ, true, length, IsTrue, IsErr, IsErrOf};
-ghost use Rattle.std.specs.Prelude.{IfOk, IfSome, IfNone, OnErr, replicate, vec_len};
+ghost use Rattle.std.specs.Prelude.{IfOk, IfSome, IfNone, OnErr, OnOk, replicate, vec_len};
 ghost use Rattle.sed_outside.specs.Cause.{HasCause};
 ghost use Rattle.disk_model.specs.Disk.{Image, Elapses, During, MarksUp};
 ghost use Rattle.app_save.specs.Store.{IsStore, Opens};
-ghost use Rattle.app_save.specs.Saving.{AllOpen, SinceSync};
+ghost use Rattle.app_save.specs.Saving.{AllOpen, SinceSync, SyncsOnce};
 ghost use Rattle.app_save.specs.Run.{IsRun};
 ghost use Rattle.app_save.specs.Slots.{IsHeader, IsFound};
 ghost use Rattle.app_save.specs.Stages.{Settled};
@@ -89,6 +89,8 @@ fn find<D: Disk>(disk: &mut D) -> Result<Option<Found>, DiskFault>
         → IfOk result (λ found. IfNone found ((S : ℕ) → IsStore S (D.meaning disk.old).content → ⊥)) }
     ensures time { Elapses (D.meaning disk.old) (D.meaning disk.new) }
     ensures marks { MarksUp (D.meaning disk.old) (D.meaning disk.new) 0 }
+    ensures syncs { OnOk result (SyncsOnce (D.meaning disk.old) (D.meaning disk.new)) }
+    ensures calls { (D.meaning disk.new).calls ≤ (D.meaning disk.old).calls + 4 }
     ensures attached { (D.meaning disk.new).attached ≡ (D.meaning disk.old).attached }
     ensures cause { HasCause (D.meaning disk.old).faults (D.meaning disk.new).faults (IsErr result) }
 {
@@ -112,7 +114,8 @@ fn zeros(alloc: Global, len: usize) -> Result<Vec<u8>, Memory>
 }
 
 /// Opens the store on the disk: `into` then holds the payload of its newest slot. It begins with a sync and writes
-/// nothing. After a refusal `into` holds what it held.
+/// nothing. After a refusal `into` holds what it held. Unless the disk failed, one sync answered Ok. The disk is asked
+/// at most five times: for that sync, its size, what stands in front of the two slots, and the payload.
 ///
 /// From the first sync that answers Ok on, every crash leaves what was read. `NotAStore` comes exactly where that is no
 /// whole store, and `Memory` where the payload found no memory.
@@ -132,6 +135,8 @@ pub fn open<D: Disk>(disk: &mut D, into: &mut Vec<u8>) -> Result<Store, SaveRefu
         → (D.meaning disk.new).content ≡ (D.meaning disk.old).content }
     ensures time { Elapses (D.meaning disk.old) (D.meaning disk.new) }
     ensures marks { MarksUp (D.meaning disk.old) (D.meaning disk.new) 0 }
+    ensures syncs { (IsErrOf result SaveRefusal.Device → ⊥) → SyncsOnce (D.meaning disk.old) (D.meaning disk.new) }
+    ensures calls { (D.meaning disk.new).calls ≤ (D.meaning disk.old).calls + 5 }
     ensures run { IsTrue (D.meaning disk.old).tells
         → IfOk result (λ S. IsRun S into.new.items [] (D.meaning disk.new) (D.meaning disk.new)) }
     ensures attached { (D.meaning disk.new).attached ≡ (D.meaning disk.old).attached }

@@ -1,7 +1,7 @@
 //! The two slots: what stands in front of their payloads, and which is the newest.
 ghost use Rattle.std.specs.Prelude.{◌≡◌, ◌+◌, ◌*◌, ◌%◌, ◌≤◌, ◌==◌, length, slice_index, IsTrue, IsErr, IfOk};
 ghost use Rattle.sed_outside.specs.Cause.{HasCause};
-ghost use Rattle.disk_model.specs.Disk.{Image, Elapses, Keeps, MarksUp};
+ghost use Rattle.disk_model.specs.Disk.{Image, Elapses, Keeps, MarksUp, SyncsUp};
 ghost use Rattle.app_save.specs.Store.{IsStore, AreSlots};
 ghost use Rattle.app_save.specs.Slots.{IsHeader, IsPlace};
 
@@ -60,6 +60,8 @@ pub fn read_header<D: Disk>(disk: &mut D, slot: u64) -> Result<Header, DiskFault
     ensures keeps { IsTrue (D.meaning disk.old).tells → Keeps (D.meaning disk.old) (D.meaning disk.new) }
     ensures time { Elapses (D.meaning disk.old) (D.meaning disk.new) }
     ensures marks { MarksUp (D.meaning disk.old) (D.meaning disk.new) 0 }
+    ensures syncs { SyncsUp (D.meaning disk.old) (D.meaning disk.new) 0 }
+    ensures calls { (D.meaning disk.new).calls ≤ (D.meaning disk.old).calls + 1 }
     ensures attached { (D.meaning disk.new).attached ≡ (D.meaning disk.old).attached }
     ensures cause { HasCause (D.meaning disk.old).faults (D.meaning disk.new).faults (IsErr result) }
 {

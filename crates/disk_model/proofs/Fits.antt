@@ -1,8 +1,8 @@
 -- Room in a record, by its entries and by the calls that they are.
-use Rattle.std.proofs.Common.{◌≡◌, ◌+◌, ◌<◌, ◌≤◌, ℕ, List, [], ◌∷◌, length, take, drop, sum_by, refl, sym, ◌∙◌, ap, arith, length-drop}
+use Rattle.std.proofs.Common.{◌≡◌, ◌+◌, ◌<◌, ◌≤◌, ℕ, List, [], ◌∷◌, length, sum_by, refl, ◌∙◌, ap, arith, length-drop}
 use Rattle.std.proofs.lemmas.List.{length-take-le}
 use Rattle.std.proofs.lemmas.List.Sums.{sum_by-cons}
-use Rattle.disk_model.specs.Replay.{Call, calls_by, bytes_by, InMemory, HasRoom, HasBytes}
+use Rattle.disk_model.specs.Replay.{calls_by, bytes_by, InMemory, HasRoom, HasBytes}
 use Rattle.disk_model.specs.Recorded.{call_of, bytes_behind, calls_of, size_of, is_call}
 use Rattle.disk_model.specs.declared.journal.Entry.{Entry}
 use Rattle.disk_model.specs.declared.journal.Entry.TheVariants.{Wrote, Synced, Other, Marked}

@@ -11,7 +11,7 @@ use Rattle.disk_model.proofs.Steps.{Idle, idle_call, idle_none, call_time, call_
 
 -- a history by what time, content, marks and syncs depend on
 abbrev pub history : Image → List Call → History
-history first calls = record { first = first; calls = calls; is_marked = false; attached = record { count = 0; name = [] }; faults = 0 }
+history first calls = record { first = first; calls = calls; is_marked = false; attached = record { count = 0; name = []; at = 0 }; faults = 0; made = 0 }
 
 pub idle_tried : (old new : History) (log : List ℕ) (before now : Tape) → new.first ≡ old.first → calls_of log before.entries ≡ old.calls → new.calls ≡ calls_of log now.entries → IsTried before now Other → Idle (replayed old) (replayed new)
 idle_tried old new log before now first was is (inl tried) =

@@ -6,10 +6,11 @@ use Rattle.std.specs.Prelude.{max, Option, Some, None, Result, OnOk}
 abbrev pub Image : Type 0
 Image = List ℕ
 
--- How often a name was attached, and the last one.
+-- How often a name was attached, and the last one; and how many calls had been made before that was attached.
 pub record Attached : Type 0 where
   pub count : ℕ
   pub name : List ℕ
+  pub at : ℕ
 
 -- What a disk means at one point of a run. Moments are numbers, and the run has come to `now`.
 pub record Meaning : Type 1 where
@@ -31,6 +32,8 @@ pub record Meaning : Type 1 where
   pub attached : Option Attached
   -- how many calls have failed
   pub faults : ℕ
+  -- how many calls were made; it stands still at 2^64 - 1
+  pub calls : ℕ
 
 -- The length of the longest name that is attached.
 abbrev pub longest_name : ℕ
@@ -71,12 +74,13 @@ SyncsUp old new by = IsTrue old.tells_syncs → CountsUp old.now new.now old.syn
 abbrev pub one_more : ℕ → ℕ
 one_more count = min (count + 1) (2 ^ 64 - 1)
 
--- A name was attached once more, and it is the last one.
-abbrev pub Attaches : Option Attached → Option Attached → List ℕ → Type 0
-Attaches None None name = Unit {0}
-Attaches (Some old) (Some new) name = (new.count ≡ one_more old.count) × (new.name ≡ name)
-Attaches (Some old) None name = ⊥
-Attaches None (Some new) name = ⊥
+-- A name was attached once more, when so many calls had been made, and it is the last one.
+abbrev pub Attaches : ℕ → Option Attached → Option Attached → List ℕ → Type 0
+Attaches calls None None name = Unit {0}
+Attaches calls (Some old) (Some new) name =
+    (new.count ≡ one_more old.count) × (new.name ≡ name) × (new.at ≡ calls)
+Attaches calls (Some old) None name = ⊥
+Attaches calls None (Some new) name = ⊥
 
 -- A write of n bytes that may be cut short anywhere: any bytes in its range and past the old end, elsewhere the same.
 pub record Torn (at n : ℕ) (old new : Image) : Type 0 where

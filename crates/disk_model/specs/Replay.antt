@@ -72,13 +72,14 @@ abbrev pub LeftIn : State → Image → Type 0
 LeftIn s image = IsTornAll s.on_disk s.ranges image
 
 -- What a disk in memory has been through: its file when it was made, the calls and marks since then, whether one of
--- these marks was made since the last call, what was attached, and how many calls failed.
+-- these marks was made since the last call, what was attached, and how many calls failed and were made.
 pub record History : Type 0 where
   pub first : Image
   pub calls : List Call
   pub is_marked : Bool
   pub attached : Attached
   pub faults : ℕ
+  pub made : ℕ
 
 -- What bounds a disk in memory: the size of its file and the bytes of all its writes, and the number of its calls.
 pub record Bounds : Type 0 where
@@ -117,6 +118,7 @@ replayed h = record {
   syncs = λ u. sum_by syncs_by (take u h.calls);
   attached = Some h.attached;
   faults = h.faults;
+  calls = h.made;
 }
 
 left_after : (s : State) (c : Call) → LeftIn s s.content → LeftIn (after s c) (after s c).content

@@ -1,9 +1,9 @@
--- The system's file: nothing is told but the count of faults.
+-- The system's file: nothing is told but the counts of faults and of calls.
 use Rattle.std.specs.Prelude.{ℕ, false, [], None}
 use Rattle.disk_model.specs.Disk.{Meaning, IsDisk}
 
-abbrev pub system_meaning : ℕ → Meaning
-system_meaning faults = record {
+abbrev pub system_meaning : ℕ → ℕ → Meaning
+system_meaning faults calls = record {
   tells = false;
   content = [];
   leaves = λ u c. ⊥;
@@ -15,7 +15,8 @@ system_meaning faults = record {
   syncs = λ u. 0;
   attached = None;
   faults = faults;
+  calls = calls;
 }
 
-pub system_is_disk : (faults : ℕ) → IsDisk (system_meaning faults)
-system_is_disk faults told = absurd (cc told)
+pub system_is_disk : (faults calls : ℕ) → IsDisk (system_meaning faults calls)
+system_is_disk faults calls told = absurd (cc told)

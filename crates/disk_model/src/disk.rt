@@ -3,7 +3,7 @@ ghost use Rattle.std.specs.Prelude.{◌≡◌, ◌+◌, ◌≤◌, true, false, 
 ghost use Rattle.std.specs.Prelude.{if◌then◌else◌};
 ghost use Rattle.sed_outside.specs.Cause.{HasCause};
 ghost use Rattle.disk_model.specs.Disk.{Meaning, Elapses, Attaches, Keeps, Writes, Syncs, MarksUp, SyncsUp, IsDisk};
-ghost use Rattle.disk_model.specs.Disk.{longest_name, largest_store};
+ghost use Rattle.disk_model.specs.Disk.{longest_name, largest_store, one_more};
 
 use thiserror::Error;
 
@@ -28,13 +28,15 @@ pub trait Disk {
     /// leave, where these are told.
     fn attach(&mut self, name: &str) -> Result<(), DiskFault>
         requires { length name.now ≤ longest_name }
-        ensures attached { Attaches (meaning self.old).attached (meaning self.new).attached name.now }
+        ensures attached { Attaches (meaning self.old).calls (meaning self.old).attached (meaning self.new).attached
+            name.now }
         ensures keeps { IsTrue (meaning self.old).tells → Keeps (meaning self.old) (meaning self.new) }
         ensures time { Elapses (meaning self.old) (meaning self.new) }
         ensures marks { MarksUp (meaning self.old) (meaning self.new) 0 }
         ensures syncs { SyncsUp (meaning self.old) (meaning self.new) 0 }
         ensures unmarked { OnOk result ((meaning self.new).is_marked ≡ false) }
-        ensures cause { HasCause (meaning self.old).faults (meaning self.new).faults (IsErr result) };
+        ensures cause { HasCause (meaning self.old).faults (meaning self.new).faults (IsErr result) }
+        ensures calls { (meaning self.new).calls ≡ one_more (meaning self.old).calls };
 
     /// The size of the file, in bytes.
     fn size(&mut self) -> Result<u64, DiskFault>
@@ -45,7 +47,8 @@ pub trait Disk {
         ensures marks { MarksUp (meaning self.old) (meaning self.new) 0 }
         ensures syncs { SyncsUp (meaning self.old) (meaning self.new) 0 }
         ensures unmarked { OnOk result ((meaning self.new).is_marked ≡ false) }
-        ensures cause { HasCause (meaning self.old).faults (meaning self.new).faults (IsErr result) };
+        ensures cause { HasCause (meaning self.old).faults (meaning self.new).faults (IsErr result) }
+        ensures calls { (meaning self.new).calls ≡ one_more (meaning self.old).calls };
 
     /// Fills `into` with the bytes from that place on. After a fault it may hold any bytes. Where the content is not
     /// told, a read past the end fails.
@@ -59,7 +62,8 @@ pub trait Disk {
         ensures marks { MarksUp (meaning self.old) (meaning self.new) 0 }
         ensures syncs { SyncsUp (meaning self.old) (meaning self.new) 0 }
         ensures unmarked { OnOk result ((meaning self.new).is_marked ≡ false) }
-        ensures cause { HasCause (meaning self.old).faults (meaning self.new).faults (IsErr result) };
+        ensures cause { HasCause (meaning self.old).faults (meaning self.new).faults (IsErr result) }
+        ensures calls { (meaning self.new).calls ≡ one_more (meaning self.old).calls };
 
     /// Writes the bytes at that place; the file grows where they pass its end. Until a sync a crash may leave any bytes
     /// in their range. A write that fails counts as written, and a read may then give any bytes there.
@@ -72,7 +76,8 @@ pub trait Disk {
         ensures marks { MarksUp (meaning self.old) (meaning self.new) 0 }
         ensures syncs { SyncsUp (meaning self.old) (meaning self.new) 0 }
         ensures unmarked { OnOk result ((meaning self.new).is_marked ≡ false) }
-        ensures cause { HasCause (meaning self.old).faults (meaning self.new).faults (IsErr result) };
+        ensures cause { HasCause (meaning self.old).faults (meaning self.new).faults (IsErr result) }
+        ensures calls { (meaning self.new).calls ≡ one_more (meaning self.old).calls };
 
     /// Waits until all that was written is on the disk: then a crash leaves what a read gives, until the next write.
     fn sync(&mut self) -> Result<(), DiskFault>
@@ -82,7 +87,8 @@ pub trait Disk {
         ensures marks { MarksUp (meaning self.old) (meaning self.new) 0 }
         ensures syncs { SyncsUp (meaning self.old) (meaning self.new) (if is_ok result then 1 else 0) }
         ensures unmarked { OnOk result ((meaning self.new).is_marked ≡ false) }
-        ensures cause { HasCause (meaning self.old).faults (meaning self.new).faults (IsErr result) };
+        ensures cause { HasCause (meaning self.old).faults (meaning self.new).faults (IsErr result) }
+        ensures calls { (meaning self.new).calls ≡ one_more (meaning self.old).calls };
 
     /// Marks that what is on the disk is acknowledged. It writes nothing, needs no room and never fails. Two marks
     /// with no other call between them are one.
@@ -93,7 +99,8 @@ pub trait Disk {
         ensures marks { MarksUp (meaning self.old) (meaning self.new) (if (meaning self.old).is_marked then 0 else 1) }
         ensures syncs { SyncsUp (meaning self.old) (meaning self.new) 0 }
         ensures marked { IsTrue (meaning self.old).tells_marks → (meaning self.new).is_marked ≡ true }
-        ensures faults { (meaning self.new).faults ≡ (meaning self.old).faults };
+        ensures faults { (meaning self.new).faults ≡ (meaning self.old).faults }
+        ensures calls { (meaning self.new).calls ≡ one_more (meaning self.old).calls };
 
     /// What a read gives is one of the images that a crash now may leave.
     ghost is_disk: { (disk : Self) → IsDisk (meaning disk) };

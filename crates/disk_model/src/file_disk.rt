@@ -8,27 +8,30 @@ use std::fs::{OpenFile, OpenOptions};
 use std::os::unix::fs::FileExt;
 use std::{io, rt};
 
-/// One file of the system, under the name that was attached last. It counts its faults and tells nothing else. Where no
-/// name is attached, at first and after an attach that failed, each call fails.
+/// One file of the system, under the name that was attached last. It counts its calls and its faults and tells nothing
+/// else. Where no name is attached, at first and after an attach that failed, each call fails.
 #[derive(Drop)]
 pub struct FileDisk<'a, R: rt::Files> {
     rt: &'a R,
     file: Option<R::File>,
     faults: u64,
+    made: u64,
 }
 
 impl<'a, R: rt::Files> FileDisk<'a, R>
 where
     R::File: FileExt,
 {
-    /// No file yet, and no fault.
+    /// No file yet, no fault and no call.
     pub fn new(rt: &'a R) -> FileDisk<'a, R>
-        ensures { (⟦<FileDisk<'a, R> as Disk>⟧.meaning result).faults ≡ 0 }
+        ensures faults { (⟦<FileDisk<'a, R> as Disk>⟧.meaning result).faults ≡ 0 }
+        ensures calls { (⟦<FileDisk<'a, R> as Disk>⟧.meaning result).calls ≡ 0 }
     {
         FileDisk {
             rt,
             file: None,
             faults: 0,
+            made: 0,
         }
     }
 }
@@ -92,11 +95,12 @@ impl<'a, R: rt::Files> Disk for FileDisk<'a, R>
 where
     R::File: FileExt,
 {
-    ghost meaning = { λ d. system_meaning d.faults };
+    ghost meaning = { λ d. system_meaning d.faults d.made };
 
-    ghost is_disk = { λ d. system_is_disk d.faults };
+    ghost is_disk = { λ d. system_is_disk d.faults d.made };
 
     fn attach(&mut self, name: &str) -> Result<(), DiskFault> {
+        self.made = self.made.saturating_add(1);
         self.file = None;
         let file = answered(open_or_make(self.rt, name), &mut self.faults)?;
         self.file = Some(file);
@@ -104,20 +108,26 @@ where
     }
 
     fn size(&mut self) -> Result<u64, DiskFault> {
+        self.made = self.made.saturating_add(1);
         answered(size_of(&self.file), &mut self.faults)
     }
 
     fn read(&mut self, at: u64, into: &mut [u8]) -> Result<(), DiskFault> {
+        self.made = self.made.saturating_add(1);
         answered(read_from(&self.file, at, into), &mut self.faults)
     }
 
     fn write_at(&mut self, at: u64, bytes: &[u8]) -> Result<(), DiskFault> {
+        self.made = self.made.saturating_add(1);
         answered(write_to(&self.file, at, bytes), &mut self.faults)
     }
 
     fn sync(&mut self) -> Result<(), DiskFault> {
+        self.made = self.made.saturating_add(1);
         answered(sync_file(&self.file), &mut self.faults)
     }
 
-    fn acknowledge(&mut self) {}
+    fn acknowledge(&mut self) {
+        self.made = self.made.saturating_add(1);
+    }
 }

@@ -38,7 +38,9 @@ pub struct MemDisk {
     calls: FailingCalls,
     name: Buffer,
     attaches: u64,
+    attached_at: u64,
     faults: u64,
+    made: u64,
 }
 
 impl Model for MemDisk {
@@ -52,8 +54,9 @@ impl Model for MemDisk {
         first = d.first.items;
         calls = calls_of d.log.bytes d.journal.entries;
         is_marked = d.journal.is_marked;
-        attached = record { count = d.attaches; name = d.name.bytes };
+        attached = record { count = d.attaches; name = d.name.bytes; at = d.attached_at };
         faults = d.faults;
+        made = d.made;
       };
       plan = d.calls;
       bounds = record { room = d.log.room; limit = d.journal.limit };
@@ -77,8 +80,9 @@ impl MemDisk {
             first = bytes.items;
             calls = [];
             is_marked = false;
-            attached = record { count = 0; name = [] };
+            attached = record { count = 0; name = []; at = 0 };
             faults = 0;
+            made = 0;
           };
           plan = begins_with fails.items;
           bounds = record { room = room; limit = calls };
@@ -94,7 +98,9 @@ impl MemDisk {
             calls: FailingCalls::new(fails),
             name: Buffer::with_room(alloc, LONGEST_NAME)?,
             attaches: 0,
+            attached_at: 0,
             faults: 0,
+            made: 0,
         })
     }
 
@@ -136,11 +142,13 @@ impl MemDisk {
         ensures unmarked { OnOk result (self.new.history.is_marked ≡ false) }
         ensures cause { HasCause self.old.history.faults self.new.history.faults (IsErr result) }
 
-        ensures calls { self.new.plan ≡ after_call self.old.plan }
+        ensures calls { self.new.history.made ≡ one_more self.old.history.made }
+        ensures plan { self.new.plan ≡ after_call self.old.plan }
         ensures bounds { self.new.bounds ≡ self.old.bounds }
         ensures planned { FailsNow self.old.plan → IsErr result }
         ensures fits { (FailsNow self.old.plan → ⊥) → HasRoom self.old → IsOk result }
     {
+        self.made = self.made.saturating_add(1);
         if record_call(&mut self.calls, &mut self.journal, Entry::Other) {
             Ok(())
         } else {
@@ -225,6 +233,7 @@ impl Disk for MemDisk {
         ensures attached { self.new.history.attached ≡ record {
           count = one_more self.old.history.attached.count;
           name = name.now;
+          at = self.old.history.made;
         } }
         ensures keeps { Keeps (replayed self.old.history) (replayed self.new.history) }
         ensures time { Elapses (replayed self.old.history) (replayed self.new.history) }
@@ -233,12 +242,15 @@ impl Disk for MemDisk {
         ensures unmarked { OnOk result (self.new.history.is_marked ≡ false) }
         ensures cause { HasCause self.old.history.faults self.new.history.faults (IsErr result) }
 
-        ensures calls { self.new.plan ≡ after_call self.old.plan }
+        ensures calls { self.new.history.made ≡ one_more self.old.history.made }
+        ensures plan { self.new.plan ≡ after_call self.old.plan }
         ensures bounds { self.new.bounds ≡ self.old.bounds }
         ensures planned { FailsNow self.old.plan → IsErr result }
         ensures fits { (FailsNow self.old.plan → ⊥) → HasRoom self.old → IsOk result }
     {
         self.attaches = self.attaches.saturating_add(1);
+        self.attached_at = self.made;
+        self.made = self.made.saturating_add(1);
         self.name.set(name.as_bytes());
         if record_call(&mut self.calls, &mut self.journal, Entry::Other) {
             Ok(())
@@ -257,7 +269,8 @@ impl Disk for MemDisk {
         ensures unmarked { OnOk result (self.new.history.is_marked ≡ false) }
         ensures cause { HasCause self.old.history.faults self.new.history.faults (IsErr result) }
 
-        ensures calls { self.new.plan ≡ after_call self.old.plan }
+        ensures calls { self.new.history.made ≡ one_more self.old.history.made }
+        ensures plan { self.new.plan ≡ after_call self.old.plan }
         ensures bounds { self.new.bounds ≡ self.old.bounds }
         ensures planned { FailsNow self.old.plan → IsErr result }
         ensures fits { (FailsNow self.old.plan → ⊥) → HasRoom self.old → IsOk result }
@@ -277,7 +290,8 @@ impl Disk for MemDisk {
         ensures unmarked { OnOk result (self.new.history.is_marked ≡ false) }
         ensures cause { HasCause self.old.history.faults self.new.history.faults (IsErr result) }
 
-        ensures calls { self.new.plan ≡ after_call self.old.plan }
+        ensures calls { self.new.history.made ≡ one_more self.old.history.made }
+        ensures plan { self.new.plan ≡ after_call self.old.plan }
         ensures bounds { self.new.bounds ≡ self.old.bounds }
         ensures planned { FailsNow self.old.plan → IsErr result }
         ensures fits { (FailsNow self.old.plan → ⊥) → HasRoom self.old → IsOk result }
@@ -299,12 +313,14 @@ impl Disk for MemDisk {
         ensures unmarked { OnOk result (self.new.history.is_marked ≡ false) }
         ensures cause { HasCause self.old.history.faults self.new.history.faults (IsErr result) }
 
-        ensures calls { self.new.plan ≡ after_call self.old.plan }
+        ensures calls { self.new.history.made ≡ one_more self.old.history.made }
+        ensures plan { self.new.plan ≡ after_call self.old.plan }
         ensures bounds { self.new.bounds ≡ self.old.bounds }
         ensures planned { FailsNow self.old.plan → IsErr result }
         ensures fits { (FailsNow self.old.plan → ⊥) → HasRoom self.old
             → HasBytes self.old at (length bytes.now) → IsOk result }
     {
+        self.made = self.made.saturating_add(1);
         let fails = self.calls.fails_now();
         if !record_write(&mut self.file, &mut self.log, &mut self.journal, at, bytes) {
             return Err(counted(&mut self.faults));
@@ -325,11 +341,13 @@ impl Disk for MemDisk {
         ensures unmarked { OnOk result (self.new.history.is_marked ≡ false) }
         ensures cause { HasCause self.old.history.faults self.new.history.faults (IsErr result) }
 
-        ensures calls { self.new.plan ≡ after_call self.old.plan }
+        ensures calls { self.new.history.made ≡ one_more self.old.history.made }
+        ensures plan { self.new.plan ≡ after_call self.old.plan }
         ensures bounds { self.new.bounds ≡ self.old.bounds }
         ensures planned { FailsNow self.old.plan → IsErr result }
         ensures fits { (FailsNow self.old.plan → ⊥) → HasRoom self.old → IsOk result }
     {
+        self.made = self.made.saturating_add(1);
         if record_call(&mut self.calls, &mut self.journal, Entry::Synced) {
             Ok(())
         } else {
@@ -337,7 +355,7 @@ impl Disk for MemDisk {
         }
     }
 
-    /// It is no call that is counted or that needs room.
+    /// It is none of the calls that are numbered, and needs no room.
     fn acknowledge(&mut self)
         ensures keeps { Keeps (replayed self.old.history) (replayed self.new.history) }
         ensures attached { self.new.history.attached ≡ self.old.history.attached }
@@ -347,9 +365,11 @@ impl Disk for MemDisk {
         ensures syncs { SyncsUp (replayed self.old.history) (replayed self.new.history) 0 }
         ensures marked { self.new.history.is_marked ≡ true }
         ensures faults { self.new.history.faults ≡ self.old.history.faults }
-        ensures calls { self.new.plan ≡ self.old.plan }
+        ensures calls { self.new.history.made ≡ one_more self.old.history.made }
+        ensures plan { self.new.plan ≡ self.old.plan }
         ensures bounds { self.new.bounds ≡ self.old.bounds }
     {
+        self.made = self.made.saturating_add(1);
         self.journal.mark();
     }
 }

@@ -1,4 +1,5 @@
 pub mod Told
+pub mod Counts
 pub mod Link
 pub mod Clock
 pub mod Rounds

@@ -1,10 +1,11 @@
 -- What a link means, and what each of its calls does to that.
-use Rattle.std.specs.Prelude.{◌≡◌, ◌≤◌, ◌+◌, ◌-◌, ◌^◌, ℕ, Bool, min, List, [], ◌∷◌, length, take, Option, Some, None}
+use Rattle.std.specs.Prelude.{◌≡◌, ◌≤◌, ℕ, Bool, List, [], ◌∷◌, length, take, Option, Some, None}
 use Rattle.std.specs.Prelude.{if◌then◌else◌, nat_le}
 use Rattle.live_outside.specs.declared.polling.Polling.{Polling}
 use Rattle.live_outside.specs.declared.polling.Polling.TheVariants as to_come
 use Rattle.live_outside.specs.declared.link.Polled.{Polled}
 use Rattle.live_outside.specs.declared.link.Polled.TheVariants.{Got, Nothing, Failed}
+use Rattle.live_outside.specs.Counts.{one_more}
 
 -- The longest datagram, in bytes.
 abbrev pub longest_datagram : ℕ
@@ -53,6 +54,6 @@ pub record Bound : Type 0 where
 -- A port was asked for once more, and it is the last one. The count stands still at its end.
 abbrev pub Binds : Option Bound → Option Bound → ℕ → Type 0
 Binds None None port = Unit {0}
-Binds (Some old) (Some new) port = (new.count ≡ min (old.count + 1) (2 ^ 64 - 1)) × (new.port ≡ port)
+Binds (Some old) (Some new) port = (new.count ≡ one_more old.count) × (new.port ≡ port)
 Binds (Some old) None port = ⊥
 Binds None (Some new) port = ⊥

@@ -1,6 +1,7 @@
 -- What contracts see of a clock in memory.
-use Rattle.std.specs.Prelude.{ℤ, drop}
+use Rattle.std.specs.Prelude.{ℕ, drop}
 use Rattle.live_outside.specs.declared.mem_clock.MemClock.{MemClock}
+use Rattle.live_outside.specs.declared.sleep.Sleep.{Sleep}
 use Rattle.live_outside.specs.Clock.{Moments}
 use Rattle.live_outside.specs.Told.{Bounded}
 
@@ -8,6 +9,10 @@ use Rattle.live_outside.specs.Told.{Bounded}
 abbrev pub moments_in : MemClock → Moments
 moments_in clock = record { last = clock.last; to_come = drop clock.next clock.moments.items }
 
--- The moments that were asked of sleeps, and the room for them.
-abbrev pub asked_in : MemClock → Bounded ℤ
+-- The sleeps that were asked, and the room for them.
+abbrev pub asked_in : MemClock → Bounded Sleep
 asked_in clock = clock.asked
+
+-- How many moments were given.
+abbrev pub given_by : MemClock → ℕ
+given_by clock = clock.given

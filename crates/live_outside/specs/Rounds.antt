@@ -1,11 +1,14 @@
 -- What a program that runs hears: so many cycles, each with the datagrams of its polls and then the moment of its tick.
-use Rattle.std.specs.Prelude.{◌≡◌, ℕ, zero, suc, ◌*◌, ℤ, pos, ◌+ℤ◌, List, [], ◌∷◌, ◌++◌, take, Option, Some, None}
+use Rattle.std.specs.Prelude.{◌≡◌, ℕ, zero, suc, ◌+◌, ◌*◌, min, ℤ, pos, ◌+ℤ◌, List, [], ◌∷◌, ◌++◌, length, take, Option}
+use Rattle.std.specs.Prelude.{Some, None}
 use Rattle.std.specs.Int.{w64, saturate_signed}
 use Rattle.sed_outside.specs.declared.addr.Addr.{Addr}
 use Rattle.live_outside.specs.declared.datagram.Datagram.{Datagram}
 use Rattle.live_outside.specs.declared.polling.Polling.{Polling}
 use Rattle.live_outside.specs.declared.polling.Polling.TheVariants.{Got, Nothing, Failed}
+use Rattle.live_outside.specs.declared.sleep.Sleep.{Sleep}
 use Rattle.live_outside.specs.Clock.{Moments, next_moment, later_moments}
+use Rattle.live_outside.specs.Counts.{counted, counts_behind}
 use Rattle.live_outside.specs.Link.{next_poll, later_polls}
 
 -- How many polls a cycle has at most.
@@ -33,6 +36,16 @@ pub record LiveCycle : Type 0 where
   pub datagrams : List Datagram
   pub moment : ℤ
 
+-- The datagrams of so many cycles of these polls, cycle by cycle.
+unfoldable pub heard_in : ℕ → List Polling → List (List Datagram)
+heard_in zero polls = []
+heard_in (suc n) polls = heard most_polls polls ∷ heard_in n (unheard most_polls polls)
+
+-- The moments of so many ticks.
+unfoldable pub tick_moments : ℕ → Moments → List ℤ
+tick_moments zero moments = []
+tick_moments (suc n) moments = next_moment moments ∷ tick_moments n (later_moments moments)
+
 -- So many cycles of these polls and moments.
 unfoldable pub live_cycles : List Polling → Moments → ℕ → List LiveCycle
 live_cycles polls moments zero = []
@@ -40,15 +53,30 @@ live_cycles polls moments (suc n) =
     record { datagrams = heard most_polls polls; moment = next_moment moments }
     ∷ live_cycles (unheard most_polls polls) (later_moments moments) n
 
+-- How many polls a cycle has: one for each datagram, and then one that gives none, unless it had 16 before.
+abbrev pub polls_of : LiveCycle → ℕ
+polls_of cycle = min (length cycle.datagrams + 1) most_polls
+
+-- How many polls had been made when each datagram and each tick of these cycles was come to, where so many had been
+-- made before them: each datagram comes right behind its own poll, and the tick behind the last one of its cycle.
+unfoldable pub polls_at : ℕ → List LiveCycle → List ℕ
+polls_at polled [] = []
+polls_at polled (cycle ∷ cycles) =
+    counts_behind polled (length cycle.datagrams)
+    ++ counted (polled + polls_of cycle) ∷ polls_at (polled + polls_of cycle) cycles
+
 -- The moment to which a program sleeps once so many cycles are done: so many periods of milliseconds behind the moment
 -- of the first tick, or the last moment that there is.
 abbrev pub wake_moment : ℤ → ℕ → ℕ → ℤ
 wake_moment first done period = saturate_signed w64 (first +ℤ pos (done * period * 1000000))
 
--- The moments to which it sleeps in so many cycles, one behind each.
-unfoldable pub wake_moments : ℤ → ℕ → ℕ → List ℤ
-wake_moments first period zero = []
-wake_moments first period (suc n) = wake_moments first period n ++ wake_moment first (suc n) period ∷ []
+-- The sleeps of so many cycles, one behind each, where the clock had given so many moments before the first tick: one
+-- moment for each tick, and then the sleep.
+unfoldable pub sleeps_in : ℤ → ℕ → ℕ → ℕ → List Sleep
+sleeps_in first period given zero = []
+sleeps_in first period given (suc n) =
+    sleeps_in first period given n
+    ++ record { moment = wake_moment first (suc n) period; given = counted (given + suc n) } ∷ []
 
 -- A datagram was heard, of so many polls that were left, where these were to come; and what is left, and to come, then.
 pub record Hears (left : ℕ) (polls : List Polling) (peer : Addr) (bytes : List ℕ)

@@ -2,8 +2,9 @@
 ghost use Rattle.std.specs.Prelude.{◌≡◌, ◌≤◌, ◌+◌, [], ◌∷◌, List, ℕ, Option, is_ok, IsErr, IfSome};
 ghost use Rattle.std.specs.Option.{option_map};
 ghost use Rattle.sed_outside.specs.Cause.{HasCause};
-ghost use Rattle.live_outside.specs.declared.datagram.Datagram.{Datagram};
+ghost use Rattle.live_outside.specs.declared.offer.Offer.{Offer};
 ghost use Rattle.live_outside.specs.declared.polling.Polling.{Polling};
+ghost use Rattle.live_outside.specs.Counts.{one_more};
 ghost use Rattle.live_outside.specs.Link.{Bound, next_poll, later_polls, answered, IsShort, KeepsUnlessGot, Binds};
 ghost use Rattle.live_outside.specs.Told.{Told, AddsWhereTold};
 
@@ -41,7 +42,10 @@ pub trait Link {
     ghost polls: { Self → Option (List Polling) };
 
     /// The datagrams that were offered so far, whether they were sent or not.
-    ghost offered: { Self → Option (Told Datagram) };
+    ghost offered: { Self → Option (Told Offer) };
+
+    /// How many polls were made. The count goes on by one, and stands still at 2^64 - 1.
+    ghost polled: { Self → ℕ };
 
     /// How often a port was asked for, which one last, and whether that was taken.
     ghost bound: { Self → Option Bound };
@@ -54,6 +58,7 @@ pub trait Link {
         ensures bound { Binds (bound self.old) (bound self.new) port }
         ensures taken { IfSome (bound self.new) (λ now. now.taken ≡ is_ok result) }
         ensures polls { polls self.new ≡ polls self.old }
+        ensures polled { polled self.new ≡ polled self.old }
         ensures offered { offered self.new ≡ offered self.old }
         ensures cause { HasCause (faults self.old) (faults self.new) (IsErr result) }
         ensures by_one { faults self.new ≤ faults self.old + 1 };
@@ -64,6 +69,7 @@ pub trait Link {
         ensures later { polls self.new ≡ option_map later_polls (polls self.old) }
         ensures short { IsShort result }
         ensures kept { KeepsUnlessGot result into.old into.new }
+        ensures polled { polled self.new ≡ one_more (polled self.old) }
         ensures offered { offered self.new ≡ offered self.old }
         ensures bound { bound self.new ≡ bound self.old }
         ensures cause { HasCause (faults self.old) (faults self.new) (result ≡ Polled.Failed) }
@@ -72,8 +78,9 @@ pub trait Link {
     /// Offers a datagram to that peer. After a fault it was offered too, and is lost.
     fn send(&mut self, to: Addr, bytes: &[u8]) -> Result<(), LinkFault>
         ensures offered { AddsWhereTold (offered self.old) (offered self.new)
-            (record { peer = to; bytes = bytes.now } ∷ []) }
+            (record { datagram = record { peer = to; bytes = bytes.now }; polled = polled self.old } ∷ []) }
         ensures polls { polls self.new ≡ polls self.old }
+        ensures polled { polled self.new ≡ polled self.old }
         ensures bound { bound self.new ≡ bound self.old }
         ensures cause { HasCause (faults self.old) (faults self.new) (IsErr result) }
         ensures by_one { faults self.new ≤ faults self.old + 1 };

@@ -1,22 +1,25 @@
 //! A clock in memory.
 ghost use Rattle.std.specs.Prelude.{◌≡◌, ◌≤◌, [], ◌∷◌, Some, IfOk, vec_len};
 ghost use Rattle.live_outside.specs.Clock.{all_to_come, next_moment, later_moments};
-ghost use Rattle.live_outside.specs.MemClock.{moments_in, asked_in};
+ghost use Rattle.live_outside.specs.Counts.{one_more};
+ghost use Rattle.live_outside.specs.MemClock.{moments_in, asked_in, given_by};
 ghost use Rattle.live_outside.specs.Told.{told_none, Adds, HasRoom, with_item, with_more};
 
 use crate::clock::Clock;
 use crate::first_ones::FirstOnes;
+use crate::sleep::Sleep;
 use sed_value::Memory;
 use std::alloc::Global;
 
-/// A clock in memory, whose moments are given and which never waits. It tells its moments, and of those that were asked
-/// of sleeps the first ones, as many as its room, and whether there were more.
+/// A clock in memory, whose moments are given and which never waits. It tells its moments, and of the sleeps that were
+/// asked the first ones, as many as its room, and whether there were more.
 #[derive(Drop)]
 pub struct MemClock {
     moments: Vec<i64>,
     next: usize,
     last: i64,
-    asked: FirstOnes<i64>,
+    asked: FirstOnes<Sleep>,
+    given: u64,
 }
 
 impl MemClock {
@@ -26,6 +29,7 @@ impl MemClock {
         ensures moments { IfOk result (λ clock. ⟦<MemClock as Clock>⟧.moments clock
             ≡ Some (all_to_come moments.items)) }
         ensures asked { IfOk result (λ clock. ⟦<MemClock as Clock>⟧.asked clock ≡ Some told_none) }
+        ensures given { IfOk result (λ clock. ⟦<MemClock as Clock>⟧.given clock ≡ 0) }
         ensures to_come { IfOk result (λ clock. moments_in clock ≡ all_to_come moments.items) }
         ensures room { IfOk result (λ clock. asked_in clock ≡ record { told = told_none; room = room }) }
     {
@@ -35,13 +39,14 @@ impl MemClock {
                 next: 0,
                 last: 0,
                 asked,
+                given: 0,
             }),
             Err(Memory) => Err(Memory),
         }
     }
 
-    /// The first moments that were asked of sleeps, as many as the room.
-    pub fn asked(&self) -> &[i64]
+    /// The first sleeps that were asked, as many as the room.
+    pub fn asked(&self) -> &[Sleep]
         ensures { result.now ≡ (asked_in self.now).told.first }
     {
         self.asked.first()
@@ -60,11 +65,15 @@ impl Clock for MemClock {
 
     ghost asked = { λ m. Some (asked_in m).told };
 
+    ghost given = { λ m. given_by m };
+
     fn now(&mut self) -> i64
         ensures told { result ≡ next_moment (moments_in self.old) }
         ensures later { moments_in self.new ≡ later_moments (moments_in self.old) }
+        ensures given { given_by self.new ≡ one_more (given_by self.old) }
         ensures asked { asked_in self.new ≡ asked_in self.old }
     {
+        self.given = self.given.saturating_add(1);
         if self.next < self.moments.len() {
             self.last = self.moments[self.next];
             self.next += 1;
@@ -72,16 +81,21 @@ impl Clock for MemClock {
         self.last
     }
 
-    /// As every sleep, and: the moment is told where there is room for it. It comes back at once.
+    /// As every sleep, and: it is told where there is room for it. It comes back at once.
     fn sleep_until(&mut self, moment: i64)
-        ensures asked { Adds (asked_in self.old).told (asked_in self.new).told (moment ∷ []) }
+        ensures asked { Adds (asked_in self.old).told (asked_in self.new).told
+            (record { moment = moment; given = given_by self.old } ∷ []) }
+        ensures given { given_by self.new ≡ given_by self.old }
         ensures moments { moments_in self.new ≡ moments_in self.old }
 
-        ensures kept { HasRoom (asked_in self.old) → asked_in self.new ≡ with_item (asked_in self.old) moment }
+        ensures kept { HasRoom (asked_in self.old)
+            → asked_in self.new ≡ with_item (asked_in self.old)
+            (record { moment = moment; given = given_by self.old }) }
         ensures passed { (HasRoom (asked_in self.old) → ⊥) → asked_in self.new ≡ with_more (asked_in self.old) }
     {
         if self.asked.has_room() {
-            self.asked.put(moment);
+            let given = self.given;
+            self.asked.put(Sleep { moment, given });
         } else {
             self.asked.pass();
         }

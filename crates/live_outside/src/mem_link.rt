@@ -4,13 +4,16 @@ ghost use Rattle.std.specs.Prelude.{IsTrue};
 ghost use Rattle.std.specs.Bool.{OnTrue, OnFalse};
 ghost use Rattle.sed_outside.specs.Cause.{HasCause};
 ghost use Rattle.sed_outside.specs.Failing.{begins_with, FailsNow, after_call};
+ghost use Rattle.live_outside.specs.Counts.{one_more};
 ghost use Rattle.live_outside.specs.Link.{next_poll, later_polls, answered, IsShort, KeepsUnlessGot};
-ghost use Rattle.live_outside.specs.MemLink.{polls_in, offered_in, bound_in, plan_of, faults_of, HasRoomFor};
+ghost use Rattle.live_outside.specs.MemLink.{polls_in, offered_in, polled_by, bound_in, plan_of, faults_of};
+ghost use Rattle.live_outside.specs.MemLink.{HasRoomFor};
 ghost use Rattle.live_outside.specs.Told.{told_none, Adds, with_item, with_more};
 
 use crate::datagram::Datagram;
 use crate::first_ones::FirstOnes;
 use crate::link::{Link, LinkFault, Polled};
+use crate::offer::Offer;
 use crate::polling::{Polling, Polls};
 use sed_outside::{Addr, FailingCalls};
 use sed_value::limits::LONGEST_DATAGRAM;
@@ -23,7 +26,8 @@ use std::alloc::Global;
 #[derive(Drop)]
 pub struct MemLink {
     polls: Polls,
-    offered: FirstOnes<Datagram>,
+    offered: FirstOnes<Offer>,
+    polled: u64,
     binds: u64,
     port: u16,
     taken: bool,
@@ -43,6 +47,7 @@ impl MemLink {
     ) -> Result<MemLink, Memory>
         ensures polls { IfOk result (λ link. ⟦<MemLink as Link>⟧.polls link ≡ Some polls.items) }
         ensures offered { IfOk result (λ link. ⟦<MemLink as Link>⟧.offered link ≡ Some told_none) }
+        ensures polled { IfOk result (λ link. ⟦<MemLink as Link>⟧.polled link ≡ 0) }
         ensures bound { IfOk result (λ link. ⟦<MemLink as Link>⟧.bound link
             ≡ Some (record { count = 0; port = 0; taken = false })) }
         ensures faults { IfOk result (λ link. ⟦<MemLink as Link>⟧.faults link ≡ 0) }
@@ -54,6 +59,7 @@ impl MemLink {
             Ok(offered) => Ok(MemLink {
                 polls: Polls::new(polls),
                 offered,
+                polled: 0,
                 binds: 0,
                 port: 0,
                 taken: false,
@@ -65,7 +71,7 @@ impl MemLink {
     }
 
     /// The first datagrams that were offered, as many as the room.
-    pub fn offered(&self) -> &[Datagram]
+    pub fn offered(&self) -> &[Offer]
         ensures { result.now ≡ (offered_in self.now).told.first }
     {
         self.offered.first()
@@ -88,21 +94,25 @@ fn counted(faults: &mut u64) -> LinkFault
     LinkFault::Failed
 }
 
-// Keeps a datagram behind those that were offered before, where there is room for it, and answers whether there was.
-fn keep(offered: &mut FirstOnes<Datagram>, peer: Addr, bytes: &[u8]) -> bool
+// Keeps a datagram behind those that were offered before, with how many polls were made by then, where there is room
+// for it, and answers whether there was.
+fn keep(offered: &mut FirstOnes<Offer>, peer: Addr, bytes: &[u8], polled: u64) -> bool
     ensures room { IsTrue result ↔ HasRoomFor offered.old bytes.now }
-    ensures kept { OnTrue result (offered.new ≡ with_item offered.old (record { peer = peer; bytes = bytes.now })) }
+    ensures kept { OnTrue result (offered.new ≡ with_item offered.old (record {
+      datagram = record { peer = peer; bytes = bytes.now };
+      polled = polled;
+    })) }
     ensures passed { OnFalse result (offered.new ≡ with_more offered.old) }
-    ensures adds { Adds offered.old.told offered.new.told (record { peer = peer; bytes = bytes.now } ∷ []) }
+    ensures adds { Adds offered.old.told offered.new.told
+        (record { datagram = record { peer = peer; bytes = bytes.now }; polled = polled } ∷ []) }
 {
     if bytes.len() > LONGEST_DATAGRAM || !offered.has_room() {
         offered.pass();
         return false;
     }
-    offered.put(Datagram {
-        peer,
-        bytes: InPlace::new(bytes),
-    });
+    let bytes = InPlace::new(bytes);
+    let datagram = Datagram { peer, bytes };
+    offered.put(Offer { datagram, polled });
     true
 }
 
@@ -110,6 +120,8 @@ impl Link for MemLink {
     ghost polls = { λ m. Some (polls_in m) };
 
     ghost offered = { λ m. Some (offered_in m).told };
+
+    ghost polled = { λ m. polled_by m };
 
     ghost bound = { λ m. Some (bound_in m) };
 
@@ -124,6 +136,7 @@ impl Link for MemLink {
         } }
         ensures taken { (bound_in self.new).taken ≡ is_ok result }
         ensures polls { polls_in self.new ≡ polls_in self.old }
+        ensures polled { polled_by self.new ≡ polled_by self.old }
         ensures offered { offered_in self.new ≡ offered_in self.old }
         ensures cause { HasCause (faults_of self.old) (faults_of self.new) (IsErr result) }
         ensures by_one { faults_of self.new ≤ faults_of self.old + 1 }
@@ -146,6 +159,7 @@ impl Link for MemLink {
         ensures later { polls_in self.new ≡ later_polls (polls_in self.old) }
         ensures short { IsShort result }
         ensures kept { KeepsUnlessGot result into.old into.new }
+        ensures polled { polled_by self.new ≡ one_more (polled_by self.old) }
         ensures offered { offered_in self.new ≡ offered_in self.old }
         ensures bound { bound_in self.new ≡ bound_in self.old }
         ensures cause { HasCause (faults_of self.old) (faults_of self.new) (result ≡ Polled.Failed) }
@@ -153,6 +167,7 @@ impl Link for MemLink {
 
         ensures calls { plan_of self.new ≡ plan_of self.old }
     {
+        self.polled = self.polled.saturating_add(1);
         let polled = self.polls.poll(into);
         if polled == Polled::Failed {
             self.faults = self.faults.saturating_add(1);
@@ -165,22 +180,24 @@ impl Link for MemLink {
     /// bytes has no room, and once one was not told, no later one is.
     fn send(&mut self, to: Addr, bytes: &[u8]) -> Result<(), LinkFault>
         ensures offered { Adds (offered_in self.old).told (offered_in self.new).told
-            (record { peer = to; bytes = bytes.now } ∷ []) }
+            (record { datagram = record { peer = to; bytes = bytes.now }; polled = polled_by self.old } ∷ []) }
         ensures polls { polls_in self.new ≡ polls_in self.old }
+        ensures polled { polled_by self.new ≡ polled_by self.old }
         ensures bound { bound_in self.new ≡ bound_in self.old }
         ensures cause { HasCause (faults_of self.old) (faults_of self.new) (IsErr result) }
         ensures by_one { faults_of self.new ≤ faults_of self.old + 1 }
 
         ensures calls { plan_of self.new ≡ after_call (plan_of self.old) }
         ensures kept { HasRoomFor (offered_in self.old) bytes.now
-            → offered_in self.new ≡ with_item (offered_in self.old) (record { peer = to; bytes = bytes.now }) }
+            → offered_in self.new ≡ with_item (offered_in self.old)
+            (record { datagram = record { peer = to; bytes = bytes.now }; polled = polled_by self.old }) }
         ensures passed { (HasRoomFor (offered_in self.old) bytes.now → ⊥)
             → IsErr result × (offered_in self.new ≡ with_more (offered_in self.old)) }
         ensures planned { FailsNow (plan_of self.old) → IsErr result }
         ensures done { (FailsNow (plan_of self.old) → ⊥) → HasRoomFor (offered_in self.old) bytes.now → IsOk result }
     {
         let fails = self.calls.fails_now();
-        if keep(&mut self.offered, to, bytes) && !fails {
+        if keep(&mut self.offered, to, bytes, self.polled) && !fails {
             return Ok(());
         }
         Err(counted(&mut self.faults))

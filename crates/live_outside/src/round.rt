@@ -1,5 +1,6 @@
 //! The polls of a cycle, and the moment to which a program sleeps behind it.
-ghost use Rattle.std.specs.Prelude.{◌≡◌, ◌+◌, ◌<◌, ◌≤◌, OnSome, IfSome, IfNone};
+ghost use Rattle.std.specs.Prelude.{◌≡◌, ◌+◌, ◌≤◌, OnSome, IfSome, IfNone};
+ghost use Rattle.live_outside.specs.Counts.{one_more};
 ghost use Rattle.live_outside.specs.Rounds.{most_polls, wake_moment, HearsWhereTold};
 
 use crate::link::{Link, Polled};
@@ -38,10 +39,12 @@ impl Round {
     /// `into`. Where none came or the poll failed, the cycle has no more polls. Where none is left, it does not poll.
     pub fn next<L: Link>(&mut self, link: &mut L, into: &mut [u8; 512]) -> Option<(Addr, usize)>
         ensures heard { HearsWhereTold self.old (L.polls link.old) result into.new self.new (L.polls link.new) }
-        ensures left { OnSome result (self.new < self.old) }
+        ensures left { OnSome result (self.old ≡ self.new + 1) }
         ensures ended { IfNone result (self.new ≡ 0) }
         ensures short { IfSome result (λ came. came.1 ≤ 512) }
         ensures kept { IfNone result (into.new ≡ into.old) }
+        ensures polled { 1 ≤ self.old → L.polled link.new ≡ one_more (L.polled link.old) }
+        ensures unpolled { self.old ≡ 0 → L.polled link.new ≡ L.polled link.old }
         ensures offered { L.offered link.new ≡ L.offered link.old }
         ensures bound { L.bound link.new ≡ L.bound link.old }
         ensures later { L.faults link.old ≤ L.faults link.new }
@@ -55,10 +58,12 @@ impl Round {
 #[tactic(auto, using(crate::proofs::RoundLemmas::next_ones))]
 fn next_of<L: Link>(left: &mut u8, link: &mut L, into: &mut [u8; 512]) -> Option<(Addr, usize)>
     ensures heard { HearsWhereTold left.old (L.polls link.old) result into.new left.new (L.polls link.new) }
-    ensures left { OnSome result (left.new < left.old) }
+    ensures left { OnSome result (left.old ≡ left.new + 1) }
     ensures ended { IfNone result (left.new ≡ 0) }
     ensures short { IfSome result (λ came. came.1 ≤ 512) }
     ensures kept { IfNone result (into.new ≡ into.old) }
+    ensures polled { 1 ≤ left.old → L.polled link.new ≡ one_more (L.polled link.old) }
+    ensures unpolled { left.old ≡ 0 → L.polled link.new ≡ L.polled link.old }
     ensures offered { L.offered link.new ≡ L.offered link.old }
     ensures bound { L.bound link.new ≡ L.bound link.old }
     ensures later { L.faults link.old ≤ L.faults link.new }

@@ -15,17 +15,20 @@ use std::net::{IpAddr, Ipv4Addr, Net, SocketAddr, UdpSocket};
 pub struct UdpLink<'a, R> {
     rt: &'a R,
     socket: Option<UdpSocket>,
+    polls: u64,
     faults: u64,
 }
 
 impl<'a, R: Net> UdpLink<'a, R> {
-    /// No port yet, and no fault.
+    /// No port yet, no fault and no poll.
     pub fn new(rt: &'a R) -> UdpLink<'a, R>
-        ensures { ⟦<UdpLink<'a, R> as Link>⟧.faults result ≡ 0 }
+        ensures faults { ⟦<UdpLink<'a, R> as Link>⟧.faults result ≡ 0 }
+        ensures polled { ⟦<UdpLink<'a, R> as Link>⟧.polled result ≡ 0 }
     {
         UdpLink {
             rt,
             socket: None,
+            polls: 0,
             faults: 0,
         }
     }
@@ -105,6 +108,8 @@ impl<'a, R: Net> Link for UdpLink<'a, R> {
 
     ghost offered = { λ _. None };
 
+    ghost polled = { λ link. link.polls };
+
     ghost bound = { λ _. None };
 
     ghost faults = { λ link. link.faults };
@@ -117,6 +122,7 @@ impl<'a, R: Net> Link for UdpLink<'a, R> {
     }
 
     fn poll(&mut self, into: &mut [u8; 512]) -> Polled {
+        self.polls = self.polls.saturating_add(1);
         let polled = polled(&self.socket, into);
         if polled == Polled::Failed {
             self.faults = self.faults.saturating_add(1);

@@ -86,6 +86,12 @@ abbrev pub run : Meaning → Setup → Node → List Event → Reached
 run m s n [] = nothing_yet n
 run m s n (event ∷ events) = followed_by (one_event m s n event) (run m s (one_event m s n event).node events)
 
+-- what each of these events sent, event by event
+abbrev pub sent_by : Meaning → Setup → Node → List Event → List (List Letter)
+sent_by m s n [] = []
+sent_by m s n (event ∷ events) =
+    (one_event m s n event).sent ∷ sent_by m s (one_event m s n event).node events
+
 -- ---- saves
 
 -- the saves of a run: what was opened, which counts as acknowledged, and then each save that began

@@ -3,6 +3,7 @@
 use Rattle.std.specs.Prelude.{◌≡◌, ℕ, Bool, List, ◌++◌, Option}
 use Rattle.sed_outside.specs.Sink.{PutsFront, with_text}
 use Rattle.disk_model.specs.Disk.{Meaning as DiskMeaning}
+use Rattle.live_outside.specs.Counts.{counted}
 use Rattle.sed_engine.specs.declared.engine.Engine.{Ghosts}
 use Rattle.sed_engine.specs.Code.{Meaning}
 use Rattle.replay_log.specs.Entry.{Entry}
@@ -12,7 +13,7 @@ use Rattle.printed_app.specs.Summary.{summary_text}
 use Rattle.printed_app.specs.declared.summary.Summary.{Summary}
 use Rattle.node_events.specs.Node.{Node, Setup, live_sessions}
 use Rattle.node_events.specs.Running.{Event, Reached, offered, run}
-use Rattle.sed_node.specs.Running.{Runs, RunsUntil, counted, lines_of}
+use Rattle.sed_node.specs.Running.{Runs, RunsUntil, lines_of}
 use Rattle.sed_node.specs.declared.node.Node.{Node as Kept}
 
 -- ---- the text

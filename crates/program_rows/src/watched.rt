@@ -33,6 +33,8 @@ impl<L: Link> Link for Watched<L> {
 
     ghost offered = { λ l. L.offered l.inner };
 
+    ghost polled = { λ l. L.polled l.inner };
+
     ghost bound = { λ l. L.bound l.inner };
 
     ghost faults = { λ l. L.faults l.inner };

@@ -173,7 +173,8 @@ impl World {
     }
 
     /// Tells what was put, how often a name was attached, the marks and what the store's file holds; the ports that
-    /// were asked for, the datagrams that were offered, and the moments that were asked of sleeps.
+    /// were asked for, the datagrams that were offered, each with how many polls had been made by then, and the moments
+    /// that were asked of sleeps, each with how many the clock had given by then.
     pub fn tell(&self, case: &mut Case) {
         case.put(self.sink.text());
         case.put(b"attached ");
@@ -185,13 +186,23 @@ impl World {
         case.put(b"; asked ");
         case.show(&self.link.asked.as_slice());
         case.put(b"; offered");
-        for datagram in self.link.inner.offered() {
+        for offer in self.link.inner.offered() {
             case.put(b" ");
-            case.say(&datagram.peer.port);
+            case.say(&offer.datagram.peer.port);
             case.put(b"=");
-            case.hex(datagram.bytes.as_bytes());
+            case.hex(offer.datagram.bytes.as_bytes());
+            case.put(b"@");
+            case.say(&offer.polled);
         }
-        case.put(b"; slept ");
-        case.show(&self.clock.asked());
+        case.put(b"; slept [");
+        let mut behind: &[u8] = b"";
+        for sleep in self.clock.asked() {
+            case.put(behind);
+            case.say(&sleep.moment);
+            case.put(b"@");
+            case.say(&sleep.given);
+            behind = b", ";
+        }
+        case.put(b"]");
     }
 }

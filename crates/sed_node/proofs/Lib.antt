@@ -1,6 +1,7 @@
 pub mod Saved
 pub mod Leaving
 pub mod Rounds
+pub mod Told
 pub mod Commanded
 pub mod Given
 pub mod Small
@@ -18,4 +19,5 @@ pub mod Handled
 pub mod Crashes
 pub mod Lines
 pub mod Runs
+pub mod Polled
 pub mod Lives

@@ -1,31 +1,32 @@
 -- A run over a link and a clock, in its course.
-use Rattle.std.proofs.Common.{◌≡◌, ◌∙◌, ◌≤◌, ℕ, ℤ, zero, suc, Bool, List, [], ◌∷◌, ◌++◌, take, refl, sym, ap}
+use Rattle.std.proofs.Common.{◌≡◌, ◌∙◌, ◌≤◌, ◌+◌, ℕ, ℤ, zero, suc, Bool, List, [], ◌∷◌, ◌++◌, length, refl, sym, ap}
 use Rattle.std.proofs.Common.{subst, append_assoc, arith}
-use Rattle.std.specs.Prelude.{map, Option, Some, None, IfSome, ⊤}
-use Rattle.std.specs.Option.{option_map}
-use Rattle.std.proofs.lemmas.List.{append-nil, map-append}
-use Rattle.std.proofs.lemmas.List.Concat.{flat_map-cons}
-use Rattle.sed_outside.specs.declared.addr.Addr.{Addr}
+use Rattle.std.specs.Prelude.{map, Option, Some, None, IfSome}
+use Rattle.std.proofs.lemmas.List.{append-nil, length-append}
 use Rattle.disk_model.specs.Disk.{Meaning as DiskMeaning}
 use Rattle.sed_engine.specs.declared.engine.Engine.{Ghosts}
 use Rattle.sed_engine.specs.Code.{Meaning}
-use Rattle.live_outside.specs.declared.datagram.Datagram.{Datagram as Offered}
+use Rattle.live_outside.specs.declared.datagram.Datagram.{Datagram as Heard}
+use Rattle.live_outside.specs.declared.offer.Offer.{Offer}
 use Rattle.live_outside.specs.declared.polling.Polling.{Polling}
-use Rattle.live_outside.specs.Clock.{Moments, later_moments, next_moment}
-use Rattle.live_outside.specs.Rounds.{HearsWhereTold, LiveCycle, heard, live_cycles, most_polls, unheard, wake_moment}
-use Rattle.live_outside.specs.Rounds.{wake_moments}
+use Rattle.live_outside.specs.declared.sleep.Sleep.{Sleep}
+use Rattle.live_outside.specs.Clock.{Moments, next_moment}
+use Rattle.live_outside.specs.Counts.{counted, one_more}
+use Rattle.live_outside.specs.Rounds.{LiveCycle, most_polls, polls_at, sleeps_in, wake_moment}
 use Rattle.live_outside.specs.Told.{AddsWhereTold, Tells, Told}
-use Rattle.replay_log.specs.Entry.{Entry, datagram, tick}
+use Rattle.replay_log.specs.Entry.{Entry}
+use Rattle.dasp_session.specs.Letters.{Letter}
 use Rattle.dasp_session.specs.Outbox.{AreTexts, Datagram}
-use Rattle.node_events.specs.LiveEvents.{entries_in, heard_as, live_events}
 use Rattle.node_events.specs.Node.{Node, Setup}
-use Rattle.node_events.specs.Running.{Event, followed_by, nothing_yet, one_event, run}
-use Rattle.sed_node.specs.Living.{AreLive, offered_as}
+use Rattle.node_events.specs.Running.{Event, followed_by, nothing_yet, one_event, run, sent_by}
+use Rattle.sed_node.specs.Living.{AreTextsByEvent, Lives, all_sent, offered_at, offers}
 use Rattle.sed_node.specs.Running.{IsEnd, Runs, Steps}
 use Rattle.sed_node.specs.Standing.{StandsFor}
 use Rattle.sed_node.specs.declared.node.Node.{Node as Kept}
 use Rattle.sed_node.specs.declared.running.RunEnd.{RunEnd}
-use Rattle.sed_node.proofs.Rounds.{InRounds, rounds_none}
+use Rattle.sed_node.proofs.Polled.{GoesOn, all_sent_more, counts_so_far, goes_none, goes_one, offers_more, polls_so_far}
+use Rattle.sed_node.proofs.Polled.{sent_more, texts_by_event_more}
+use Rattle.sed_node.proofs.Rounds.{InRounds, rounds_all, rounds_none}
 use Rattle.sed_node.proofs.Runs.{ends_more, nothing_runs, runs_more}
 
 -- ---- lists that are told
@@ -53,163 +54,42 @@ adds_both {T} (Some old) (Some middle) (Some new) first later one other = record
       (other.told (whole ++ first) (one.told whole tells));
 }
 
-pub offered_more : (old middle new : Option (Told Offered)) (sent now : List Datagram)
-    → AddsWhereTold old middle (map offered_as sent) → AddsWhereTold middle new (map offered_as now)
-    → AddsWhereTold old new (map offered_as (sent ++ now))
-offered_more old middle new sent now one other =
-    subst (λ (all : List Offered). AddsWhereTold old new all) (sym (map-append offered_as sent now))
-    (adds_both old middle new (map offered_as sent) (map offered_as now) one other)
-
--- ---- entries that are to come
-
--- of so many cycles, where so many polls are left of the first one
-pub to_go : ℕ → List Polling → Moments → ℕ → List Entry
-to_go left polls moments zero = []
-to_go left polls moments (suc n) =
-    map heard_as (heard left polls)
-    ++ tick (next_moment moments) ∷ live_events (unheard left polls) (later_moments moments) n
-
-begins : (polls : List Polling) (moments : Moments) (n : ℕ) → live_events polls moments n
-    ≡ to_go most_polls polls moments n
-unfolding live_cycles to_go
-begins polls moments zero = refl
-begins polls moments (suc n) =
-    let cycle : LiveCycle = record { datagrams = heard most_polls polls; moment = next_moment moments } in
-    let later = live_cycles (unheard most_polls polls) (later_moments moments) n in
-    flat_map-cons entries_in cycle later
-    ∙ append_assoc (map heard_as cycle.datagrams) (tick cycle.moment ∷ [])
-    (live_events (unheard most_polls polls) (later_moments moments) n)
-
-takes : (left left' : ℕ) (polls polls' : List Polling) (moments : Moments) (came : Offered) (n : ℕ)
-    → heard left polls ≡ came ∷ heard left' polls' → unheard left polls ≡ unheard left' polls'
-    → to_go left polls moments (suc n) ≡ heard_as came ∷ to_go left' polls' moments (suc n)
-unfolding to_go
-takes left left' polls polls' moments came n next rest =
-    ap (λ (all : List Offered). map heard_as all
-    ++ tick (next_moment moments) ∷ live_events (unheard left polls) (later_moments moments) n) next
-    ∙ ap (λ (to_come : List Polling). heard_as came ∷ (map heard_as (heard left' polls')
-    ++ tick (next_moment moments) ∷ live_events to_come (later_moments moments) n)) rest
-
-passes_by : (left : ℕ) (polls polls' : List Polling) (moments : Moments) (n : ℕ) → heard left polls ≡ []
-    → unheard left polls ≡ polls'
-    → to_go left polls moments (suc n) ≡ tick (next_moment moments) ∷ to_go most_polls polls' (later_moments moments) n
-unfolding to_go
-passes_by left polls polls' moments n none rest =
-    ap (λ (all : List Offered). map heard_as all
-    ++ tick (next_moment moments) ∷ live_events (unheard left polls) (later_moments moments) n) none
-    ∙ ap (λ (to_come : List Polling). tick (next_moment moments) ∷ live_events to_come (later_moments moments) n) rest
-    ∙ ap (λ (later : List Entry). tick (next_moment moments) ∷ later) (begins polls' (later_moments moments) n)
-
--- the entries so far, and those that are to come, are those of all cycles
-pub IsToGo : Option (List Polling) → Option Moments → ℕ → List Entry → ℕ → Option (List Polling) → Option Moments → ℕ
-    → Type 0
-IsToGo None moments cycles entries left polls_now moments_now n = ⊤
-IsToGo (Some polls) None cycles entries left polls_now moments_now n = ⊤
-IsToGo (Some polls) (Some moments) cycles entries left None moments_now n = ⊥
-IsToGo (Some polls) (Some moments) cycles entries left (Some polls_now) None n = ⊥
-IsToGo (Some polls) (Some moments) cycles entries left (Some polls_now) (Some moments_now) n =
-    live_events polls moments cycles ≡ entries ++ to_go left polls_now moments_now n
-
-pub goes_none : (polls : Option (List Polling)) (moments : Option Moments) (cycles : ℕ)
-    → IsToGo polls moments cycles [] most_polls polls moments cycles
-unfolding IsToGo
-goes_none None moments cycles = tt {0}
-goes_none (Some polls) None cycles = tt {0}
-goes_none (Some polls) (Some moments) cycles = begins polls moments cycles
-
-one_more : (all entries : List Entry) (next : Entry) (rest later : List Entry) → all ≡ entries ++ rest
-    → rest ≡ next ∷ later → all ≡ (entries ++ next ∷ []) ++ later
-one_more all entries next rest later is more =
-    is ∙ ap (λ (xs : List Entry). entries ++ xs) more ∙ sym (append_assoc entries (next ∷ []) later)
-
-pub goes_datagram : (polls : Option (List Polling)) (moments : Option Moments) (cycles : ℕ) (entries : List Entry)
-    (left left' : ℕ) (polls_now polls_then : Option (List Polling)) (moments_now : Option Moments) (n : ℕ)
-    (from : Addr) (len : ℕ) (bytes : List ℕ)
-    → IsToGo polls moments cycles entries left polls_now moments_now (suc n)
-    → HearsWhereTold left polls_now (Some (from, len)) bytes left' polls_then
-    → IsToGo polls moments cycles (entries ++ datagram from (take len bytes) ∷ []) left' polls_then moments_now (suc n)
-unfolding IsToGo
-goes_datagram None moments cycles entries left left' polls_now polls_then moments_now n from len bytes go hears = tt {0}
-goes_datagram (Some polls) None cycles entries left left' polls_now polls_then moments_now n from len bytes go hears =
-    tt {0}
-goes_datagram (Some polls) (Some moments) cycles entries left left' None polls_then moments_now n from len bytes go hears
-    = absurd go
-goes_datagram (Some polls) (Some moments) cycles entries left left' (Some now) None moments_now n from len bytes go hears
-    = absurd hears
-goes_datagram (Some polls) (Some moments) cycles entries left left' (Some now) (Some later) None n from len bytes go
-    hears = absurd go
-goes_datagram (Some polls) (Some moments) cycles entries left left' (Some now) (Some later) (Some to_come) n from len
-    bytes go hears =
-    let came : Offered = record { peer = from; bytes = take len bytes } in
-    one_more (live_events polls moments cycles) entries (datagram from (take len bytes))
-    (to_go left now to_come (suc n)) (to_go left' later to_come (suc n)) go
-    (takes left left' now later to_come came n hears.next hears.rest)
-
-pub goes_tick : (polls : Option (List Polling)) (moments : Option Moments) (cycles : ℕ) (entries : List Entry)
-    (left left' : ℕ) (polls_now polls_then : Option (List Polling)) (moments_now moments_then : Option Moments) (n : ℕ)
-    (bytes : List ℕ) (ticks : ℤ)
-    → IsToGo polls moments cycles entries left polls_now moments_now (suc n)
-    → HearsWhereTold left polls_now None bytes left' polls_then
-    → IfSome moments_now (λ to_come. ticks ≡ next_moment to_come)
-    → moments_then ≡ option_map later_moments moments_now
-    → IsToGo polls moments cycles (entries ++ tick ticks ∷ []) most_polls polls_then moments_then n
-unfolding IsToGo
-goes_tick None moments cycles entries left left' polls_now polls_then moments_now moments_then n bytes ticks go hears
-    told later = tt {0}
-goes_tick (Some polls) None cycles entries left left' polls_now polls_then moments_now moments_then n bytes ticks go
-    hears told later = tt {0}
-goes_tick (Some polls) (Some moments) cycles entries left left' None polls_then moments_now moments_then n bytes ticks
-    go hears told later = absurd go
-goes_tick (Some polls) (Some moments) cycles entries left left' (Some now) None moments_now moments_then n bytes ticks
-    go hears told later = absurd hears
-goes_tick (Some polls) (Some moments) cycles entries left left' (Some now) (Some rest) None moments_then n bytes ticks
-    go hears told later = absurd go
-goes_tick (Some polls) (Some moments) cycles entries left left' (Some now) (Some rest) (Some to_come) moments_then n
-    bytes ticks go hears told later =
-    subst (λ (behind : Option Moments). IsToGo (Some polls) (Some moments) cycles (entries ++ tick ticks ∷ []) most_polls
-    (Some rest) behind n) (sym later)
-    (subst (λ (moment : ℤ). live_events polls moments cycles
-    ≡ (entries ++ tick moment ∷ []) ++ to_go most_polls rest (later_moments to_come) n) (sym told)
-    (one_more (live_events polls moments cycles) entries (tick (next_moment to_come)) (to_go left now to_come (suc n))
-    (to_go most_polls rest (later_moments to_come) n) go (passes_by left now rest to_come n hears.none hears.rest)))
-
-pub all_gone : (polls : Option (List Polling)) (moments : Option Moments) (cycles : ℕ) (entries : List Entry) (left : ℕ)
-    (polls_now : Option (List Polling)) (moments_now : Option Moments)
-    → IsToGo polls moments cycles entries left polls_now moments_now 0 → AreLive polls moments cycles entries
-unfolding IsToGo to_go
-all_gone None moments cycles entries left polls_now moments_now go = tt {0}
-all_gone (Some polls) None cycles entries left polls_now moments_now go = tt {0}
-all_gone (Some polls) (Some moments) cycles entries left None moments_now go = absurd go
-all_gone (Some polls) (Some moments) cycles entries left (Some now) None go = absurd go
-all_gone (Some polls) (Some moments) cycles entries left (Some now) (Some to_come) go =
-    sym (append-nil entries) ∙ sym go
-
 -- ---- in the course of it
 
+-- so many cycles were done and one has begun, and so many polls have been made
 pub record RanLive {E D : Type 0} (g : Ghosts E) (meaning : D → DiskMeaning) (fixed : Bool) (m : Meaning) (s : Setup)
     (new : Kept E) (n : Node) (polls : Option (List Polling)) (moments : Option Moments) (cycles left : ℕ)
     (polls_now : Option (List Polling)) (moments_now : Option Moments) (to_do : ℕ) (ended : RunEnd)
-    (offered offered_now : Option (Told Offered)) (before after : D) : Type 0 where
+    (polled polled_now : ℕ) (offered offered_now : Option (Told Offer)) (before after : D) : Type 0 where
   pub entries : List Entry
-  pub going : IsToGo polls moments cycles entries left polls_now moments_now to_do
-  pub rounds_are : InRounds cycles left to_do entries
+  pub rounds : List LiveCycle
+  pub begun : List Heard
+  pub rounds_are : InRounds polls moments cycles left polls_now moments_now to_do rounds begun entries
+  pub goes : GoesOn polled (polls_so_far rounds begun) polled_now
   pub events : List Event
-  pub sent : List Datagram
-  pub runs : Runs g meaning fixed m s new n entries events sent before after
-  pub offered_are : AddsWhereTold offered offered_now (map offered_as sent)
+  pub sents : List (List Datagram)
+  pub as_many : length (counts_so_far polled rounds begun) ≡ length sents
+  pub texts : AreTextsByEvent (sent_by m s n events) sents
+  pub runs : Runs g meaning fixed m s new n entries events (all_sent sents) before after
+  pub offered_are : AddsWhereTold offered offered_now (offers (counts_so_far polled rounds begun) sents)
   pub ends : IsEnd ended (run m s n events)
 
 pub lives_none : {E D : Type 0} (g : Ghosts E) (meaning : D → DiskMeaning) (fixed : Bool) (m : Meaning) (s : Setup)
     (kept : Kept E) (n : Node) (polls : Option (List Polling)) (moments : Option Moments) (cycles : ℕ) (ended : RunEnd)
-    (offered : Option (Told Offered)) (disk : D) → StandsFor g kept n → IsEnd ended (nothing_yet n)
-    → RanLive g meaning fixed m s kept n polls moments cycles most_polls polls moments cycles ended offered offered disk
-    disk
-lives_none g meaning fixed m s kept n polls moments cycles ended offered disk stands ends = record {
+    (polled : ℕ) (offered : Option (Told Offer)) (disk : D) → StandsFor g kept n → IsEnd ended (nothing_yet n)
+    → RanLive g meaning fixed m s kept n polls moments cycles most_polls polls moments cycles ended polled polled offered
+    offered disk disk
+unfolding polls_at
+lives_none g meaning fixed m s kept n polls moments cycles ended polled offered disk stands ends = record {
   entries = [];
-  going = goes_none polls moments cycles;
-  rounds_are = rounds_none cycles;
+  rounds = [];
+  begun = [];
+  rounds_are = rounds_none polls moments cycles;
+  goes = goes_none polled;
   events = [];
-  sent = [];
+  sents = [];
+  as_many = refl;
+  texts = tt {0};
   runs = nothing_runs g meaning fixed m s kept n disk stands;
   offered_are = adds_none offered;
   ends = ends;
@@ -218,97 +98,184 @@ lives_none g meaning fixed m s kept n polls moments cycles ended offered disk st
 -- where the round is a new one, and all cycles are to do
 pub lives_first : {E D : Type 0} (g : Ghosts E) (meaning : D → DiskMeaning) (fixed : Bool) (m : Meaning) (s : Setup)
     (kept : Kept E) (n : Node) (polls : Option (List Polling)) (moments : Option Moments) (cycles round to_do : ℕ)
-    (ended : RunEnd) (offered : Option (Told Offered)) (disk : D) → round ≡ most_polls → to_do ≡ cycles
+    (ended : RunEnd) (polled : ℕ) (offered : Option (Told Offer)) (disk : D) → round ≡ most_polls → to_do ≡ cycles
     → StandsFor g kept n → IsEnd ended (nothing_yet n)
-    → RanLive g meaning fixed m s kept n polls moments cycles round polls moments to_do ended offered offered disk disk
-lives_first g meaning fixed m s kept n polls moments cycles round to_do ended offered disk new all stands ends =
-    subst (λ (left : ℕ). RanLive g meaning fixed m s kept n polls moments cycles left polls moments to_do ended offered
-    offered disk disk) (sym new)
-    (subst (λ (k : ℕ). RanLive g meaning fixed m s kept n polls moments cycles most_polls polls moments k ended offered
-    offered disk disk) (sym all)
-    (lives_none g meaning fixed m s kept n polls moments cycles ended offered disk stands ends))
+    → RanLive g meaning fixed m s kept n polls moments cycles round polls moments to_do ended polled polled offered
+    offered disk disk
+lives_first g meaning fixed m s kept n polls moments cycles round to_do ended polled offered disk new all stands ends =
+    subst (λ (left : ℕ). RanLive g meaning fixed m s kept n polls moments cycles left polls moments to_do ended polled
+    polled offered offered disk disk) (sym new)
+    (subst (λ (k : ℕ). RanLive g meaning fixed m s kept n polls moments cycles most_polls polls moments k ended polled
+    polled offered offered disk disk) (sym all)
+    (lives_none g meaning fixed m s kept n polls moments cycles ended polled offered disk stands ends))
+
+-- the cycles and what has begun with one entry more, and the polls that have been made by then
+pub record GoesTo (polls : Option (List Polling)) (moments : Option Moments) (cycles left : ℕ)
+    (polls_now : Option (List Polling)) (moments_now : Option Moments) (to_do polled polled_now : ℕ)
+    (counts : List ℕ) (entries : List Entry) : Type 0 where
+  pub rounds : List LiveCycle
+  pub begun : List Heard
+  pub rounds_are : InRounds polls moments cycles left polls_now moments_now to_do rounds begun entries
+  pub goes : GoesOn polled (polls_so_far rounds begun) polled_now
+  pub some : 1 ≤ polls_so_far rounds begun
+  pub counts_are : counts_so_far polled rounds begun
+      ≡ counts ++ counted (polled + polls_so_far rounds begun) ∷ []
 
 pub lives_on : (follow : (m : Meaning) (s : Setup) (n : Node) (first later : List Event)
     → run m s n (first ++ later) ≡ followed_by (run m s n first) (run m s (run m s n first).node later))
     {E D : Type 0} (g : Ghosts E) (meaning : D → DiskMeaning) (fixed : Bool) (m : Meaning) (s : Setup)
     (middle new : Kept E) (n : Node) (polls : Option (List Polling)) (moments : Option Moments)
     (cycles left left_now : ℕ) (polls_now polls_then : Option (List Polling)) (moments_now moments_then : Option Moments)
-    (to_do to_do_now : ℕ) (ended ended_now : RunEnd) (offered offered_now offered_then : Option (Told Offered))
+    (to_do to_do_now : ℕ) (ended ended_now : RunEnd) (polled polled_now polled_then : ℕ)
+    (offered offered_now offered_then : Option (Told Offer))
     (before between after : D) (entry : Entry) (sent : List Datagram)
-    (ran : RanLive g meaning fixed m s middle n polls moments cycles left polls_now moments_now to_do ended offered
-    offered_now before between)
+    (ran : RanLive g meaning fixed m s middle n polls moments cycles left polls_now moments_now to_do ended polled
+    polled_now offered offered_now before between)
     → Steps g meaning fixed m s new (run m s n ran.events).node entry sent ended ended_now between after
     → (meaning between).faults ≤ (meaning after).faults
-    → AddsWhereTold offered_now offered_then (map offered_as sent)
-    → IsToGo polls moments cycles (ran.entries ++ entry ∷ []) left_now polls_then moments_then to_do_now
-    → InRounds cycles left_now to_do_now (ran.entries ++ entry ∷ [])
-    → RanLive g meaning fixed m s new n polls moments cycles left_now polls_then moments_then to_do_now ended_now offered
-    offered_then before after
+    → AddsWhereTold offered_now offered_then (map (offered_at polled_then) sent)
+    → GoesTo polls moments cycles left_now polls_then moments_then to_do_now polled polled_then
+    (counts_so_far polled ran.rounds ran.begun) (ran.entries ++ entry ∷ [])
+    → RanLive g meaning fixed m s new n polls moments cycles left_now polls_then moments_then to_do_now ended_now polled
+    polled_then offered offered_then before after
 lives_on follow g meaning fixed m s middle new n polls moments cycles left left_now polls_now polls_then moments_now
-    moments_then to_do to_do_now ended ended_now offered offered_now offered_then before between after entry sent ran
-    step more adds going rounds =
+    moments_then to_do to_do_now ended ended_now polled polled_now polled_then offered offered_now offered_then before
+    between after entry sent ran step more adds to =
     let event = step.handles.event in
-    let texts = subst (λ (out : List Datagram). AreTexts (one_event m s (run m s n ran.events).node event).sent out)
+    let node = (run m s n ran.events).node in
+    let counts = counts_so_far polled ran.rounds ran.begun in
+    let count = counted (polled + polls_so_far to.rounds to.begun) in
+    let is : polled_then ≡ count = to.goes.more to.some in
+    let texts = subst (λ (out : List Datagram). AreTexts (one_event m s node event).sent out)
     (sym step.handles.sends.behind) step.handles.sends.written in
     record {
       entries = ran.entries ++ entry ∷ [];
-      going = going;
-      rounds_are = rounds;
+      rounds = to.rounds;
+      begun = to.begun;
+      rounds_are = to.rounds_are;
+      goes = to.goes;
       events = ran.events ++ event ∷ [];
-      sent = ran.sent ++ sent;
-      runs = runs_more follow m s n ran.events event g meaning fixed middle new ran.entries entry ran.sent sent before
-          between after ran.runs step.handles.is_event step.handles.may step.handles.adds_alone more
-          step.handles.stands texts step.handles.disk step.handles.files;
-      offered_are = offered_more offered offered_now offered_then ran.sent sent ran.offered_are adds;
+      sents = ran.sents ++ sent ∷ [];
+      as_many =
+          let same = ran.as_many in
+          let both = length-append counts (count ∷ []) in
+          let all = length-append ran.sents (sent ∷ []) in
+          ap length to.counts_are
+          ∙ (let e : length (counts ++ count ∷ []) ≡ length (ran.sents ++ sent ∷ []) = omega (arith, same, both, all)
+          in e);
+      texts = subst (λ (letters : List (List Letter)). AreTextsByEvent letters (ran.sents ++ sent ∷ []))
+          (sym (sent_more m s n ran.events event))
+          (texts_by_event_more (sent_by m s n ran.events) ran.sents (one_event m s node event).sent sent ran.texts
+          texts);
+      runs = subst (λ (all : List Datagram). Runs g meaning fixed m s new n (ran.entries ++ entry ∷ [])
+          (ran.events ++ event ∷ []) all before after) (all_sent_more ran.sents sent)
+          (runs_more follow m s n ran.events event g meaning fixed middle new ran.entries entry (all_sent ran.sents) sent
+          before between after ran.runs step.handles.is_event step.handles.may step.handles.adds_alone more
+          step.handles.stands texts step.handles.disk step.handles.files);
+      offered_are = subst (λ (all : List ℕ). AddsWhereTold offered offered_then (offers all (ran.sents ++ sent ∷ [])))
+          (sym to.counts_are)
+          (subst (λ (all : List Offer). AddsWhereTold offered offered_then all)
+          (sym (offers_more counts ran.sents count sent ran.as_many))
+          (adds_both offered offered_now offered_then (offers counts ran.sents) (map (offered_at count) sent)
+          ran.offered_are (subst (λ (k : ℕ). AddsWhereTold offered_now offered_then (map (offered_at k) sent)) is
+          adds)));
       ends = ends_more follow m s n ran.events event ended ended_now entry sent step.traps ran.ends
           step.handles.is_event texts step.handles.traps_are step.counts_are;
     }
 
+-- all cycles are done
+pub lives_all : {E D : Type 0} (g : Ghosts E) (meaning : D → DiskMeaning) (fixed : Bool) (m : Meaning) (s : Setup)
+    (new : Kept E) (n : Node) (polls : Option (List Polling)) (moments : Option Moments) (cycles left : ℕ)
+    (polls_now : Option (List Polling)) (moments_now : Option Moments) (to_do : ℕ) (ended : RunEnd)
+    (polled polled_now : ℕ) (offered offered_now : Option (Told Offer)) (before after : D) → to_do ≡ 0
+    → RanLive g meaning fixed m s new n polls moments cycles left polls_now moments_now to_do ended polled polled_now
+    offered offered_now before after
+    → Lives g meaning fixed m s new n polls moments cycles ended polled offered offered_now before after
+lives_all g meaning fixed m s new n polls moments cycles left polls_now moments_now to_do ended polled polled_now offered
+    offered_now before after none ran = record {
+      entries = ran.entries;
+      rounds = ran.rounds;
+      rounds_are = rounds_all polls moments cycles left polls_now moments_now to_do ran.rounds ran.begun ran.entries none
+          ran.rounds_are;
+      events = ran.events;
+      sents = ran.sents;
+      texts = ran.texts;
+      runs = ran.runs;
+      offered_are = subst (λ (counts : List ℕ). AddsWhereTold offered offered_now (offers counts ran.sents))
+          (ap (λ (begun : List Heard). counts_so_far polled ran.rounds begun) (ran.rounds_are.over none)
+          ∙ append-nil (polls_at polled ran.rounds)) ran.offered_are;
+      ends = ran.ends;
+    }
+
 -- ---- sleeps
 
-pub record Slept (moments moments_now : Option Moments) (done period : ℕ) (first : ℤ) (asked asked_now : Option (Told ℤ))
-    : Type 0 where
-  pub not_yet : done ≡ 0 → moments_now ≡ moments
-  pub first_is : 1 ≤ done → IfSome moments (λ to_come. first ≡ next_moment to_come)
-  pub asked_are : AddsWhereTold asked asked_now (wake_moments first period done)
+abbrev pub sleep_of : ℤ → ℕ → Sleep
+sleep_of moment given = record { moment = moment; given = given }
 
-pub slept_none : (moments : Option Moments) (period : ℕ) (first : ℤ) (asked : Option (Told ℤ))
-    → Slept moments moments 0 period first asked asked
-unfolding wake_moments
-slept_none moments period first asked = record {
+pub record Slept (moments moments_now : Option Moments) (given given_now done period : ℕ) (first : ℤ)
+    (asked asked_now : Option (Told Sleep)) : Type 0 where
+  pub not_yet : done ≡ 0 → moments_now ≡ moments
+  pub goes : GoesOn given done given_now
+  pub first_is : 1 ≤ done → IfSome moments (λ to_come. first ≡ next_moment to_come)
+  pub asked_are : AddsWhereTold asked asked_now (sleeps_in first period given done)
+
+pub slept_none : (moments : Option Moments) (given period : ℕ) (first : ℤ) (asked : Option (Told Sleep))
+    → Slept moments moments given given 0 period first asked asked
+unfolding sleeps_in
+slept_none moments given period first asked = record {
   not_yet = λ e. refl;
+  goes = goes_none given;
   first_is = λ le. absurd (omega (arith, le));
   asked_are = adds_none asked;
 }
 
-given : (moments moments_now : Option Moments) (ticks first_now : ℤ) → moments_now ≡ moments
+told_first : (moments moments_now : Option Moments) (ticks first_now : ℤ) → moments_now ≡ moments
     → IfSome moments_now (λ to_come. ticks ≡ next_moment to_come) → first_now ≡ ticks
     → IfSome moments (λ to_come. first_now ≡ next_moment to_come)
-given moments moments_now ticks first_now same told is =
+told_first moments moments_now ticks first_now same told is =
     subst (λ (m : Option Moments). IfSome m (λ to_come. first_now ≡ next_moment to_come)) same
     (subst (λ (t : ℤ). IfSome moments_now (λ to_come. t ≡ next_moment to_come)) (sym is) told)
 
-pub sleeps_on : (moments moments_now moments_then : Option Moments) (done period : ℕ) (first first_now ticks : ℤ)
-    (asked asked_now asked_then : Option (Told ℤ)) → Slept moments moments_now done period first asked asked_now
+-- the first one, behind none, and each later one
+first_of : (moments moments_now : Option Moments) (done : ℕ) (first first_now ticks : ℤ)
+    → (done ≡ 0 → moments_now ≡ moments) → (1 ≤ done → IfSome moments (λ to_come. first ≡ next_moment to_come))
     → IfSome moments_now (λ to_come. ticks ≡ next_moment to_come) → (done ≡ 0 → first_now ≡ ticks)
-    → (1 ≤ done → first_now ≡ first) → AddsWhereTold asked_now asked_then (wake_moment first_now (suc done) period ∷ [])
-    → Slept moments moments_then (suc done) period first_now asked asked_then
-unfolding wake_moments
-sleeps_on moments moments_now moments_then zero period first first_now ticks asked asked_now asked_then slept told now
-    before adds = record {
-      not_yet = λ e. absurd (omega (arith, e));
-      first_is = λ le. given moments moments_now ticks first_now (slept.not_yet refl) told (now refl);
-      asked_are = adds_both asked asked_now asked_then [] (wake_moment first_now 1 period ∷ []) slept.asked_are adds;
-    }
-sleeps_on moments moments_now moments_then (suc done) period first first_now ticks asked asked_now asked_then slept told
-    now before adds =
-    let same : first_now ≡ first = before (omega arith) in
+    → (1 ≤ done → first_now ≡ first) → IfSome moments (λ to_come. first_now ≡ next_moment to_come)
+first_of moments moments_now zero first first_now ticks not_yet was told now before =
+    told_first moments moments_now ticks first_now (not_yet refl) told (now refl)
+first_of moments moments_now (suc done) first first_now ticks not_yet was told now before =
+    subst (λ (t : ℤ). IfSome moments (λ to_come. t ≡ next_moment to_come)) (sym (before (omega arith)))
+    (was (omega arith))
+
+-- those so far, from whichever moment where there are none
+sleeps_from : (done : ℕ) (first first_now : ℤ) (given period : ℕ) (asked asked_now : Option (Told Sleep))
+    → (1 ≤ done → first_now ≡ first) → AddsWhereTold asked asked_now (sleeps_in first period given done)
+    → AddsWhereTold asked asked_now (sleeps_in first_now period given done)
+unfolding sleeps_in
+sleeps_from zero first first_now given period asked asked_now before adds = adds
+sleeps_from (suc done) first first_now given period asked asked_now before adds =
+    subst (λ (t : ℤ). AddsWhereTold asked asked_now (sleeps_in t period given (suc done)))
+    (sym (before (omega arith))) adds
+
+pub sleeps_on : (moments moments_now moments_then : Option Moments) (given given_now given_then done period : ℕ)
+    (first first_now ticks : ℤ) (asked asked_now asked_then : Option (Told Sleep))
+    → Slept moments moments_now given given_now done period first asked asked_now
+    → IfSome moments_now (λ to_come. ticks ≡ next_moment to_come) → (done ≡ 0 → first_now ≡ ticks)
+    → (1 ≤ done → first_now ≡ first) → given_then ≡ one_more given_now
+    → AddsWhereTold asked_now asked_then (sleep_of (wake_moment first_now (suc done) period) given_then ∷ [])
+    → Slept moments moments_then given given_then (suc done) period first_now asked asked_then
+unfolding sleeps_in
+sleeps_on moments moments_now moments_then given given_now given_then done period first first_now ticks asked asked_now
+    asked_then slept told now before one adds =
+    let goes = goes_one given done given_now given_then slept.goes one in
+    let wake = wake_moment first_now (suc done) period in
     record {
       not_yet = λ e. absurd (omega (arith, e));
-      first_is = λ le. subst (λ (t : ℤ). IfSome moments (λ to_come. t ≡ next_moment to_come)) (sym same)
-          (slept.first_is (omega arith));
-      asked_are = adds_both asked asked_now asked_then (wake_moments first_now period (suc done))
-          (wake_moment first_now (suc (suc done)) period ∷ [])
-          (subst (λ (t : ℤ). AddsWhereTold asked asked_now (wake_moments t period (suc done))) (sym same)
-          slept.asked_are) adds;
+      goes = goes;
+      first_is = λ le. first_of moments moments_now done first first_now ticks slept.not_yet slept.first_is told now
+          before;
+      asked_are = adds_both asked asked_now asked_then (sleeps_in first_now period given done)
+          (sleep_of wake (counted (given + suc done)) ∷ [])
+          (sleeps_from done first first_now given period asked asked_now before slept.asked_are)
+          (subst (λ (k : ℕ). AddsWhereTold asked_now asked_then (sleep_of wake k ∷ [])) (goes.more (omega arith)) adds);
     }

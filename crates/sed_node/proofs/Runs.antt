@@ -3,6 +3,7 @@ use Rattle.std.proofs.Common.{◌≡◌, ◌∙◌, ◌≤◌, ◌+◌, ℕ, Boo
 use Rattle.std.proofs.Common.{append_assoc, length-append, arith}
 use Rattle.std.specs.Prelude.{map, Option}
 use Rattle.std.proofs.lemmas.List.{append-nil}
+use Rattle.live_outside.specs.Counts.{counted}
 use Rattle.sed_outside.specs.Cause.{Rose}
 use Rattle.sed_outside.specs.Sink.{PutsFront, with_text}
 use Rattle.disk_model.specs.Disk.{Elapses, Meaning as DiskMeaning}
@@ -18,7 +19,7 @@ use Rattle.node_events.specs.Running.{Event, IsEvent, Reached, comes, followed_b
 use Rattle.node_events.specs.Saving.{Save}
 use Rattle.sed_node.specs.Handling.{AddsAlone, AreFiles, AreSaved}
 use Rattle.sed_node.specs.Running.{AllAddAlone, AreCounted, ComesTo, CountsOne, IsEnd, Runs, RunsAll, RunsUntil}
-use Rattle.sed_node.specs.Running.{Steps, counted, datagrams_in, lines_of, ticks_in}
+use Rattle.sed_node.specs.Running.{Steps, datagrams_in, lines_of, ticks_in}
 use Rattle.sed_node.specs.Standing.{SameSetup, StandsFor, code_of, is_fixed, setup_of}
 use Rattle.sed_node.specs.declared.node.Node.{Node as Kept}
 use Rattle.sed_node.specs.declared.running.RunEnd.{RunEnd}

@@ -1,11 +1,12 @@
 -- What running over the entries of a record does: the run over the events that they come to, each sent datagram put as
 -- a line, and what a crash at any moment leaves.
-use Rattle.std.specs.Prelude.{◌≡◌, ◌≤◌, ◌<◌, ◌+◌, ◌-◌, ◌^◌, ℕ, Bool, IsTrue, if◌then◌else◌, min, map, length}
+use Rattle.std.specs.Prelude.{◌≡◌, ◌≤◌, ◌<◌, ◌+◌, ◌-◌, ℕ, Bool, IsTrue, if◌then◌else◌, map, length}
 use Rattle.std.specs.Prelude.{List, [], ◌∷◌, ◌++◌, Option, ⊤}
 use Rattle.std.specs.List.{flat_map}
 use Rattle.sed_outside.specs.Sink.{PutsFront, with_text}
 use Rattle.disk_model.specs.Disk.{Image, Meaning as DiskMeaning}
 use Rattle.app_save.specs.Run.{IsRun}
+use Rattle.live_outside.specs.Counts.{counted}
 use Rattle.sed_engine.specs.declared.engine.Engine.{Ghosts}
 use Rattle.sed_engine.specs.Code.{Meaning}
 use Rattle.comp_tree.specs.Application.{Application}
@@ -32,10 +33,6 @@ abbrev pub lines_of : List Datagram → List ℕ
 lines_of sent = flat_map line_of sent
 
 -- ---- counts
-
--- a count in 64 bits stands still at its end
-abbrev pub counted : ℕ → ℕ
-counted n = min n (2 ^ 64 - 1)
 
 -- the counts of what was reached
 pub record IsEnd (ended : RunEnd) (r : Reached) : Type 0 where

@@ -14,6 +14,7 @@
 #![tactic(auto)]
 
 mod handling;
+mod hearing;
 mod living;
 mod node;
 mod replying;
@@ -22,5 +23,6 @@ mod saving;
 mod subscribing;
 
 pub use handling::saves_go_on;
+pub use hearing::told_rounds_are_live_events;
 pub use node::Node;
 pub use running::RunEnd;

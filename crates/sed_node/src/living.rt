@@ -6,7 +6,7 @@ ghost use Rattle.live_outside.specs.Told.{AddsWhereTold};
 ghost use Rattle.replay_log.specs.Entry.{datagram, tick};
 ghost use Rattle.dasp_session.specs.Outbox.{Datagram as Sent};
 ghost use Rattle.node_events.specs.Node.{Node as State};
-ghost use Rattle.sed_node.specs.Living.{IsLeft, Lives, Sleeps, offered_as};
+ghost use Rattle.sed_node.specs.Living.{IsLeft, Lives, Sleeps, offered_at};
 ghost use Rattle.sed_node.specs.Running.{Steps};
 ghost use Rattle.sed_node.specs.Standing.{SameSetup, StandsFor, code_of, is_fixed, setup_of};
 
@@ -22,11 +22,16 @@ use sed_outside::Addr;
 
 impl<E: Engine> Node<E> {
     /// Runs so many cycles over a link and a clock. Each takes at most 16 datagrams from the link, up to the first poll
-    /// that gives none or fails, and handles them; then comes a tick at the clock's moment; it sleeps until as many
-    /// periods are over as cycles are done, from the moment of the first tick on. A period is in milliseconds. Each
-    /// datagram that is sent is offered to the link, in their order, and is lost where the link fails. What it makes of
-    /// the node and the disk, what is offered and the counts are those of the run over the events of these polls and
-    /// moments, and the polls and moments behind them are still to come. Of the disk the same is said as by `run`.
+    /// that gives none or fails, and handles each of them before the next poll; then it asks the clock for the moment,
+    /// and a tick comes at that; then it sleeps until as many periods are over as cycles are done, from the moment of
+    /// the first tick on. A period is in milliseconds. Each datagram that is sent is offered to the link, in their
+    /// order and before anything else is polled, and is lost where the link fails. What it makes of the node and the
+    /// disk, what is offered and the counts are those of the run over the events of these polls and moments, and the
+    /// polls and moments behind them are still to come. Of the disk the same is said as by `run`.
+    ///
+    /// What is offered is told by the link with its count of polls, and what is asked of sleeps by the clock with its
+    /// count of moments. How calls of the one stand to calls of the other is told by neither: that the moment of a tick
+    /// is asked behind the polls of its cycle, and that the sleep is behind the sends of the tick.
     pub fn live<D: Disk, L: Link, C: Clock>(
         &mut self,
         disk: &mut D,
@@ -40,9 +45,10 @@ impl<E: Engine> Node<E> {
         requires stores { IsTrue (D.meaning disk.old).tells → AllStores (setup_of self.old).slot (D.meaning disk.old) }
         ensures lives { (n : State) → StandsFor E.Engine self.old n
             → Lives E.Engine D.meaning (is_fixed E.Engine self.old) (code_of E.Engine self.old) (setup_of self.old)
-            self.new n (L.polls link.old) (C.moments clock.old) cycles result (L.offered link.old)
+            self.new n (L.polls link.old) (C.moments clock.old) cycles result (L.polled link.old) (L.offered link.old)
             (L.offered link.new) disk.old disk.new }
-        ensures sleeps { Sleeps (C.moments clock.old) cycles period (C.asked clock.old) (C.asked clock.new) }
+        ensures sleeps { Sleeps (C.moments clock.old) (C.given clock.old) cycles period (C.asked clock.old)
+            (C.asked clock.new) }
         ensures left { IsLeft cycles (L.polls link.old) (L.polls link.new) (C.moments clock.old) (C.moments clock.new) }
         ensures bound { L.bound link.new ≡ L.bound link.old }
         ensures same { SameSetup E.Engine self.old self.new }
@@ -94,8 +100,10 @@ impl<E: Engine> Node<E> {
         ensures steps { (n : State) → StandsFor E.Engine self.old n
             → Steps E.Engine D.meaning (is_fixed E.Engine self.old) (code_of E.Engine self.old) (setup_of self.old)
             self.new n (datagram from bytes.now) outbox.new ended.old ended.new disk.old disk.new }
-        ensures offered { AddsWhereTold (L.offered link.old) (L.offered link.new) (map offered_as outbox.new) }
+        ensures offered { AddsWhereTold (L.offered link.old) (L.offered link.new)
+            (map (offered_at (L.polled link.old)) outbox.new) }
         ensures polls { L.polls link.new ≡ L.polls link.old }
+        ensures polled { L.polled link.new ≡ L.polled link.old }
         ensures bound { L.bound link.new ≡ L.bound link.old }
         ensures same { SameSetup E.Engine self.old self.new }
         ensures stores { IsTrue (D.meaning disk.old).tells → AllStores (setup_of self.old).slot (D.meaning disk.new) }
@@ -124,8 +132,10 @@ impl<E: Engine> Node<E> {
         ensures steps { (n : State) → StandsFor E.Engine self.old n
             → Steps E.Engine D.meaning (is_fixed E.Engine self.old) (code_of E.Engine self.old) (setup_of self.old)
             self.new n (tick ticks) outbox.new ended.old ended.new disk.old disk.new }
-        ensures offered { AddsWhereTold (L.offered link.old) (L.offered link.new) (map offered_as outbox.new) }
+        ensures offered { AddsWhereTold (L.offered link.old) (L.offered link.new)
+            (map (offered_at (L.polled link.old)) outbox.new) }
         ensures polls { L.polls link.new ≡ L.polls link.old }
+        ensures polled { L.polled link.new ≡ L.polled link.old }
         ensures bound { L.bound link.new ≡ L.bound link.old }
         ensures same { SameSetup E.Engine self.old self.new }
         ensures stores { IsTrue (D.meaning disk.old).tells → AllStores (setup_of self.old).slot (D.meaning disk.new) }
@@ -151,8 +161,10 @@ fn first_of(done: u32, first: i64, ticks: i64) -> i64
 
 // Offers each datagram of an outbox.
 fn offer_all<L: Link>(outbox: &Outbox, link: &mut L)
-    ensures offered { AddsWhereTold (L.offered link.old) (L.offered link.new) (map offered_as outbox.now) }
+    ensures offered { AddsWhereTold (L.offered link.old) (L.offered link.new)
+        (map (offered_at (L.polled link.old)) outbox.now) }
     ensures polls { L.polls link.new ≡ L.polls link.old }
+    ensures polled { L.polled link.new ≡ L.polled link.old }
     ensures bound { L.bound link.new ≡ L.bound link.old }
 {
     'offers: for place in 0..outbox.len() {
@@ -165,8 +177,9 @@ fn offer<L: Link>(outbox: &Outbox, place: usize, link: &mut L)
     requires { place < length outbox.now }
     ensures offered { (other : Sent)
         → AddsWhereTold (L.offered link.old) (L.offered link.new)
-        (offered_as (slice_index_or outbox.now place other) ∷ []) }
+        (offered_at (L.polled link.old) (slice_index_or outbox.now place other) ∷ []) }
     ensures polls { L.polls link.new ≡ L.polls link.old }
+    ensures polled { L.polled link.new ≡ L.polled link.old }
     ensures bound { L.bound link.new ≡ L.bound link.old }
 {
     let (to, bytes) = outbox.get(place);

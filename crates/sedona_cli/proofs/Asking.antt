@@ -1,5 +1,5 @@
 -- What is asked of files and of a disk, one behind the other.
-use Rattle.std.proofs.Common.{◌≡◌, ℕ, true, List, [], ◌∷◌, ◌++◌, map, Some, refl, ap, subst, ◌∙◌, inl, inr}
+use Rattle.std.proofs.Common.{◌≡◌, ℕ, true, List, [], ◌∷◌, ◌++◌, Some, None, refl, ap, subst, ◌∙◌, inl, inr}
 use Rattle.std.proofs.lemmas.List.{append-nil}
 use Rattle.std.proofs.lemmas.Grind.{flat_map-append}
 use Rattle.std.specs.Prelude.{Option}
@@ -11,7 +11,7 @@ use Rattle.file_steps.specs.Steps.{Read}
 use Rattle.file_steps.specs.Reads.{HasReads}
 use Rattle.file_steps.proofs.Joining.{same_reads}
 use Rattle.sedona_cli.specs.Writing.{unwritten_in}
-use Rattle.sedona_cli.specs.Outside.{Ask, read_of, reads_in, of_reads, names_in, is_of_files, spares, Spares, AreAsked, AsksDisk, HasAsks}
+use Rattle.sedona_cli.specs.Outside.{Ask, read_of, reads_in, of_reads, is_of_files, spares, Spares, AreAsked, AsksDisk, HasAsks, AttachesIfAny}
 
 -- ---- reads alone
 
@@ -43,9 +43,10 @@ spared_behind : (reads : List Read) (asks : List Ask) → list_all spares (of_re
 spared_behind [] asks = refl
 spared_behind (read ∷ reads) asks = spared_behind reads asks
 
-named_behind : (reads : List Read) (asks : List Ask) → names_in (of_reads reads ++ asks) ≡ names_in asks
-named_behind [] asks = refl
-named_behind (read ∷ reads) asks = named_behind reads asks
+first_behind : (store : Option (List ℕ)) (reads : List Read) (asks : List Ask) → AttachesIfAny store asks → AttachesIfAny store (of_reads reads ++ asks)
+first_behind None reads asks first = absurd first
+first_behind (Some store) [] asks first = first
+first_behind (Some store) (read ∷ reads) asks first = first_behind (Some store) reads asks first
 
 pub read_behind : (reads : List Read) (asks : List Ask) → list_all is_of_files (of_reads reads ++ asks) ≡ list_all is_of_files asks
 read_behind [] asks = refl
@@ -56,7 +57,7 @@ spares_behind store reads asks spared = record {
   unwritten = spared_behind reads asks ∙ spared.unwritten;
   attached = elim spared.attached [
     | inl none ↦ inl (read_behind reads asks ∙ none)
-    | inr one ↦ inr (ap (λ (names : List (List ℕ)). map (λ name. Some name) names) (named_behind reads asks) ∙ one)
+    | inr one ↦ inr (first_behind store reads asks one)
   ];
 }
 

@@ -4,7 +4,7 @@ use Rattle.std.specs.Prelude.{IsTrue, IsErr, IsErrOf, OnOk, OnErr}
 use Rattle.sed_outside.specs.Cause.{HasCause}
 use Rattle.disk_model.specs.declared.disk.Disk.{Ghosts as DiskGhosts}
 use Rattle.disk_model.specs.declared.disk.DiskFault.{DiskFault}
-use Rattle.disk_model.specs.Disk.{Meaning, Attaches as IsAttach, Elapses, During, Keeps, MarksUp, SyncsUp}
+use Rattle.disk_model.specs.Disk.{Meaning, Attaches as IsAttach, Elapses, During, Keeps, MarksUp, SyncsUp, one_more}
 use Rattle.app_save.specs.declared.refusal.SaveRefusal.{SaveRefusal}
 use Rattle.app_save.specs.declared.refusal.SaveRefusal.TheVariants.{Device, NotEmpty as FileNotEmpty}
 use Rattle.app_save.specs.Making.{NoneLonger}
@@ -22,9 +22,9 @@ attach_answer (Ok u) = Ok tt
 attach_answer (Err fault) = Err DeviceFault
 
 pub attach_asked : {T : Type 0} (D : DiskGhosts T) (d e : T) (name : List ℕ) (r : Result (Unit {0}) DiskFault) → Elapses (D.meaning d) (D.meaning e)
-    → IsAttach (D.meaning d).attached (D.meaning e).attached name → (IsTrue (D.meaning d).tells → Keeps (D.meaning d) (D.meaning e)) → MarksUp (D.meaning d) (D.meaning e) 0
-    → SyncsUp (D.meaning d) (D.meaning e) 0 → HasCause (D.meaning d).faults (D.meaning e).faults (IsErr r) → AsksDisk D d e (λ asks. StoreAttached name asks (attach_answer r))
-attach_asked D d e name (Ok u) time attached keeps marks syncs cause = record {
+    → IsAttach (D.meaning d).calls (D.meaning d).attached (D.meaning e).attached name → (IsTrue (D.meaning d).tells → Keeps (D.meaning d) (D.meaning e)) → MarksUp (D.meaning d) (D.meaning e) 0
+    → SyncsUp (D.meaning d) (D.meaning e) 0 → HasCause (D.meaning d).faults (D.meaning e).faults (IsErr r) → (D.meaning e).calls ≡ one_more (D.meaning d).calls → AsksDisk D d e (λ asks. StoreAttached name asks (attach_answer r))
+attach_asked D d e name (Ok u) time attached keeps marks syncs cause calls = record {
   asks = Attaches name true ∷ [];
   unread = refl;
   asked = (
@@ -36,12 +36,13 @@ attach_asked D d e name (Ok u) time attached keeps marks syncs cause = record {
       marks = marks;
       syncs = syncs;
       cause = cause_as _ _ (IsErr {T = Unit {0}} {E = DiskFault} (Ok u)) (true ≡ false) (λ (failed : IsErr {T = Unit {0}} {E = DiskFault} (Ok u)). absurd (cc)) (λ (same : true ≡ false). absurd (cc)) cause;
+      calls = calls;
     },
     refl,
   );
   holds = refl;
 }
-attach_asked D d e name (Err fault) time attached keeps marks syncs cause = record {
+attach_asked D d e name (Err fault) time attached keeps marks syncs cause calls = record {
   asks = Attaches name false ∷ [];
   unread = refl;
   asked = (
@@ -53,6 +54,7 @@ attach_asked D d e name (Err fault) time attached keeps marks syncs cause = reco
       marks = marks;
       syncs = syncs;
       cause = cause_as _ _ (IsErr {T = Unit {0}} {E = DiskFault} (Err fault)) (false ≡ false) (λ (failed : IsErr {T = Unit {0}} {E = DiskFault} (Err fault)). refl) (λ (same : false ≡ false). refl) cause;
+      calls = calls;
     },
     refl,
   );

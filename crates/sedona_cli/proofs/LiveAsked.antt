@@ -98,17 +98,17 @@ last_unbound D store port asks r d e by asked =
     (record { between = rest.0; attached = rest.1; asked = rest.2.1 })
 
 pub unbound_attaches : {T : Type 0} (D : DiskGhosts T) (store : List ℕ) (port : ℕ) (asks : List Ask) (r : Refusal) (d e : T) → Unbound store port asks r → AreAsked D asks d e
-    → IsAttach (D.meaning d).attached (D.meaning e).attached store
+    → IsAttach (D.meaning d).calls (D.meaning d).attached (D.meaning e).attached store
 unbound_attaches D store port asks r d e by asked =
     let last = last_unbound D store port asks r d e by asked in
-    subst (λ now. IsAttach (D.meaning d).attached now store) (sym last.asked.attached) last.attached.attached
+    subst (λ now. IsAttach (D.meaning d).calls (D.meaning d).attached now store) (sym last.asked.attached) last.attached.attached
 
 pub live_attaches : {T : Type 0} (D : DiskGhosts T) (store : List ℕ) (port : ℕ) (asks : List Ask) (d e : T) → LiveBehind store port asks → AreAsked D asks d e
-    → IsAttach (D.meaning d).attached (D.meaning e).attached store
+    → IsAttach (D.meaning d).calls (D.meaning d).attached (D.meaning e).attached store
 live_attaches D store port asks d e by asked =
     let rest = asked_behind D by.reads (Attaches store true ∷ Opens (Found by.payload) ∷ Binds port true ∷ Runs by.ran ∷ []) d e (subst (λ (a : List Ask). AreAsked D a d e) by.asks_are asked) in
     let bound = rest.2.2 in
     let ran = bound.2 in
-    subst (λ t. IsAttach (D.meaning d).attached (D.meaning t).attached store) (sym ran.2)
-    (subst (λ now. IsAttach (D.meaning d).attached now store)
+    subst (λ t. IsAttach (D.meaning d).calls (D.meaning d).attached (D.meaning t).attached store) (sym ran.2)
+    (subst (λ now. IsAttach (D.meaning d).calls (D.meaning d).attached now store)
     (sym (ran.1.attached ∙ ap (λ t. (D.meaning t).attached) bound.1 ∙ rest.2.1.attached)) rest.1.attached)

@@ -5,7 +5,6 @@ use Rattle.sed_outside.specs.Cause.{Rose}
 use Rattle.sed_outside.specs.declared.files.Files.{Ghosts as FileGhosts}
 use Rattle.live_outside.specs.declared.clock.Clock.{Ghosts as ClockGhosts}
 use Rattle.live_outside.specs.declared.link.Link.{Ghosts as LinkGhosts}
-use Rattle.disk_model.specs.Disk.{Meaning}
 use Rattle.disk_model.specs.declared.disk.Disk.{Ghosts as DiskGhosts}
 use Rattle.file_steps.specs.Steps.{Read, stops, goes_on}
 use Rattle.file_steps.proofs.Joining.{same_reads}
@@ -68,17 +67,17 @@ module _ {U V : Type 0} (L : LinkGhosts U) (C : ClockGhosts V) (port status : �
     at_most_once = λ seven. inl (same, still);
     taken = λ at. absurd (not (done_at at));
     untaken = λ ten. absurd (not (inr (inr (inl ten))));
-    silent = λ which. record { polls = ap L.polls same; offered = ap L.offered same; asked = ap C.asked still; moments = inl (ap C.moments still) };
+    silent = λ which. record { polls = ap L.polls same; polled = ap L.polled same; offered = ap L.offered same; asked = ap C.asked still; moments = inl (ap C.moments still, ap C.given still) };
     unasked = λ ten. still;
   }
-  quiet Done (unbound ten bind untaken rose polls offered still) = record {
+  quiet Done (unbound ten bind untaken rose polls polled offered still) = record {
     never = λ before.
         absurd (not_before status 10 ten (λ e. omega (arith, e)) (λ e. omega (arith, e)) (λ e. omega (arith, e)) (λ e. omega (arith, e)) (λ e. omega (arith, e)) (λ e. omega (arith, e)) (λ e. omega (arith, e)) before);
     once = λ at. bind;
     at_most_once = λ seven. absurd (omega (arith, seven, ten));
     taken = λ at. absurd (done_not status 10 ten (λ e. omega (arith, e)) (λ e. omega (arith, e)) at);
     untaken = λ again. untaken;
-    silent = λ which. record { polls = polls; offered = offered; asked = ap C.asked still; moments = inl (ap C.moments still) };
+    silent = λ which. record { polls = polls; polled = polled; offered = offered; asked = ap C.asked still; moments = inl (ap C.moments still, ap C.given still) };
     unasked = λ again. still;
   }
   quiet Done (unready seven bind taken silent) = record {
@@ -108,7 +107,7 @@ module _ {U V : Type 0} (L : LinkGhosts U) (C : ClockGhosts V) (port status : �
 
   rose_live : (Done : Type 0) → AsksLive L C port status link link_now clock clock_now Done → status ≡ 10 → Rose (L.faults link) (L.faults link_now)
   rose_live Done (unasked not same still) ten = absurd (not (inr (inr (inl ten))))
-  rose_live Done (unbound is bind untaken rose polls offered still) ten = rose
+  rose_live Done (unbound is bind untaken rose polls polled offered still) ten = rose
   rose_live Done (unready seven bind taken silent) ten = absurd (omega (arith, seven, ten))
   rose_live Done (all_done at bind taken so) ten = absurd (done_not status 10 ten (λ e. omega (arith, e)) (λ e. omega (arith, e)) at)
 
@@ -116,7 +115,7 @@ module _ {U V : Type 0} (L : LinkGhosts U) (C : ClockGhosts V) (port status : �
   done_live Done (unasked not same still) (inl nought) = absurd (not (inl nought))
   done_live Done (unasked not same still) (inr (inl eight)) = absurd (not (inr (inl eight)))
   done_live Done (unasked not same still) (inr (inr never)) = absurd never
-  done_live Done (unbound ten bind untaken rose polls offered still) at = absurd (done_not status 10 ten (λ e. omega (arith, e)) (λ e. omega (arith, e)) at)
+  done_live Done (unbound ten bind untaken rose polls polled offered still) at = absurd (done_not status 10 ten (λ e. omega (arith, e)) (λ e. omega (arith, e)) at)
   done_live Done (unready seven bind taken silent) at = absurd (done_not status 7 seven (λ e. omega (arith, e)) (λ e. omega (arith, e)) at)
   done_live Done (all_done is bind taken so) at = so
 

@@ -1,18 +1,21 @@
 -- The steps of `run`, put together from what its calls did.
-use Rattle.std.proofs.Common.{◌≡◌, ℕ, ℤ, Bool, true, false, List, [], ◌∷◌, ◌++◌, map, Option, Some, Result, Ok, Err, inl, inr, refl, sym, subst, ◌∙◌, arith}
+use Rattle.std.proofs.Common.{◌≡◌, ℕ, ℤ, Bool, true, false, List, [], ◌∷◌, ◌++◌, Option, Some, Result, Ok, Err, inl, inr, refl, sym, subst, ◌∙◌, arith}
 use Rattle.std.specs.Prelude.{IfSome, IsTrue, MatchBool, is_ok}
 use Rattle.std.specs.Option.{option_map}
 use Rattle.sed_outside.specs.declared.files.Files.{Ghosts as FileGhosts}
 use Rattle.sed_outside.specs.declared.sink.Sink.{Ghosts as Sinks}
 use Rattle.sed_outside.specs.declared.sink.SinkFault.{SinkFault}
 use Rattle.live_outside.specs.Clock.{Moments, later_moments, next_moment}
+use Rattle.live_outside.specs.Counts.{one_more}
 use Rattle.live_outside.specs.Link.{Bound, Binds as IsBind}
+use Rattle.live_outside.specs.Rounds.{polls_at}
 use Rattle.live_outside.specs.Told.{AddsWhereTold, Told}
 use Rattle.live_outside.specs.declared.clock.Clock.{Ghosts as ClockGhosts}
-use Rattle.live_outside.specs.declared.datagram.Datagram.{Datagram as Offered}
 use Rattle.live_outside.specs.declared.link.Link.{Ghosts as LinkGhosts}
+use Rattle.live_outside.specs.declared.offer.Offer.{Offer}
 use Rattle.live_outside.specs.declared.polling.Polling.{Polling}
-use Rattle.disk_model.specs.Disk.{Elapses, Meaning}
+use Rattle.live_outside.specs.declared.sleep.Sleep.{Sleep}
+use Rattle.disk_model.specs.Disk.{Elapses}
 use Rattle.disk_model.specs.declared.disk.Disk.{Ghosts as DiskGhosts}
 use Rattle.app_file.specs.Reading.{IsFile}
 use Rattle.app_save.specs.Saving.{AllStores}
@@ -28,7 +31,7 @@ use Rattle.printed_text.specs.Puts.{Puts as PutsText}
 use Rattle.sed_engine.specs.declared.engine.Engine.{Ghosts}
 use Rattle.sed_engine.specs.Code.{Meaning as Code}
 use Rattle.sed_engine.specs.Program.{meaning_of}
-use Rattle.sed_node.specs.Living.{AreLive, IsLeft, Sleeps, offered_as}
+use Rattle.sed_node.specs.Living.{AreRounds, IsLeft, Sleeps, offers}
 use Rattle.sed_node.specs.Standing.{code_of, is_fixed, setup_of}
 use Rattle.sed_node.specs.declared.node.Node.{Node as Kept}
 use Rattle.sed_typed.specs.declared.program.Program.{Program}
@@ -118,7 +121,7 @@ module _ {E T U V O : Type 0} (g : Ghosts E) (o : Sinks O) (D : DiskGhosts T) (L
   start = opened code (setup_of kept) a users secret moment
 
   abbrev IsLived : Bool → Code → Result (Unit {0}) SinkFault → Type 0
-  IsLived fixed m r = LivedThrough g o D.meaning fixed m (setup_of kept) now start (L.polls link) (C.moments clock) cycles (L.offered link) (L.offered link_now) out out_now d e r
+  IsLived fixed m r = LivedThrough g o D.meaning fixed m (setup_of kept) now start (L.polls link) (C.moments clock) cycles (L.polled link) (L.offered link) (L.offered link_now) out out_now d e r
 
   abbrev IsRunReady : ℕ → Type 0
   IsRunReady status = RunsReady D L C moment turns code users secret a cycles (o.text out) (o.text out_now) (o.faults out) (o.faults out_now) status link link_now clock d e
@@ -139,11 +142,11 @@ module _ {E T U V O : Type 0} (g : Ghosts E) (o : Sinks O) (D : DiskGhosts T) (L
       files = l.runs.files;
       crashes = l.runs.crashes;
     };
-    entries_are = l.entries_are;
+    rounds = l.rounds;
     rounds_are = l.rounds_are;
     puts = put;
-    sent = l.sent;
-    sends = l.runs.sends;
+    sents = l.sents;
+    texts = l.texts;
     offered_are = l.offered_are;
   }
 
@@ -220,12 +223,13 @@ module _ {T U V : Type 0} (D : DiskGhosts T) (L : LinkGhosts U) (C : ClockGhosts
   shows_so (not_put is rose front) = record { front = front; whole = λ nought. absurd (omega (arith, is, nought)) }
 
   -- as it is told of the link and the clock
-  pub asks_run : IsBind (L.bound link) (L.bound bound) asked.port → WasTaken (L.bound bound) true → L.polls bound ≡ L.polls link → L.offered bound ≡ L.offered link → IfSome (C.moments clock) (λ to_come. moment ≡ next_moment to_come)
-      → C.moments begun ≡ option_map later_moments (C.moments clock) → C.asked begun ≡ C.asked clock → L.bound link_now ≡ L.bound bound
-      → Sleeps (C.moments begun) asked.cycles asked.period (C.asked begun) (C.asked clock_now)
+  pub asks_run : IsBind (L.bound link) (L.bound bound) asked.port → WasTaken (L.bound bound) true → L.polls bound ≡ L.polls link → L.polled bound ≡ L.polled link → L.offered bound ≡ L.offered link
+      → IfSome (C.moments clock) (λ to_come. moment ≡ next_moment to_come) → C.moments begun ≡ option_map later_moments (C.moments clock) → C.given begun ≡ one_more (C.given clock) → C.asked begun ≡ C.asked clock
+      → L.bound link_now ≡ L.bound bound
+      → Sleeps (C.moments begun) (C.given begun) asked.cycles asked.period (C.asked begun) (C.asked clock_now)
       → IsLeft asked.cycles (L.polls bound) (L.polls link_now) (C.moments begun) (C.moments clock_now)
       → AsksLive L C asked.port status link link_now clock clock_now (RunsOn D L C asked code users secret a before after status link link_now clock clock_now d e)
-  asks_run bind taken polls offered now later slept kept sleeps left =
+  asks_run bind taken polls polled offered now later given slept kept sleeps left =
       all_done (ends_so r.puts) (subst (λ (b : Option Bound). IsBind (L.bound link) b asked.port) (sym kept) bind)
       (subst (λ (b : Option Bound). WasTaken b true) (sym kept) taken)
       (record {
@@ -235,15 +239,17 @@ module _ {T U V : Type 0} (D : DiskGhosts T) (L : LinkGhosts U) (C : ClockGhosts
           moment = moment;
           moment_is = now;
           is_run = r.is_run;
-          entries_are = subst (λ (m : Option Moments). AreLive (L.polls link) m asked.cycles r.ran.entries) later
-              (subst (λ (p : Option (List Polling)). AreLive p (C.moments begun) asked.cycles r.ran.entries) polls r.entries_are);
-          rounds_are = r.rounds_are;
+          rounds = r.rounds;
+          rounds_are = subst (λ (m : Option Moments). AreRounds (L.polls link) m asked.cycles r.rounds r.ran.entries) later
+              (subst (λ (p : Option (List Polling)). AreRounds p (C.moments begun) asked.cycles r.rounds r.ran.entries) polls r.rounds_are);
           shows = shows_so r.puts;
-          sent = r.sent;
-          sends = r.sends;
-          offered_are = subst (λ (t : Option (Told Offered)). AddsWhereTold t (L.offered link_now) (map offered_as r.sent)) offered r.offered_are;
-          sleeps = subst (λ (m : Option Moments). Sleeps m asked.cycles asked.period (C.asked clock) (C.asked clock_now)) later
-              (subst (λ (t : Option (Told ℤ)). Sleeps (C.moments begun) asked.cycles asked.period t (C.asked clock_now)) slept sleeps);
+          sents = r.sents;
+          texts = r.texts;
+          offered_are = subst (λ (t : Option (Told Offer)). AddsWhereTold t (L.offered link_now) (offers (polls_at (L.polled link) r.rounds) r.sents)) offered
+              (subst (λ (k : ℕ). AddsWhereTold (L.offered bound) (L.offered link_now) (offers (polls_at k r.rounds) r.sents)) polled r.offered_are);
+          sleeps = subst (λ (m : Option Moments). Sleeps m (one_more (C.given clock)) asked.cycles asked.period (C.asked clock) (C.asked clock_now)) later
+              (subst (λ (k : ℕ). Sleeps (C.moments begun) k asked.cycles asked.period (C.asked clock) (C.asked clock_now)) given
+              (subst (λ (t : Option (Told Sleep)). Sleeps (C.moments begun) (C.given begun) asked.cycles asked.period t (C.asked clock_now)) slept sleeps));
           left = subst (λ (m : Option Moments). IsLeft asked.cycles (L.polls link) (L.polls link_now) m (C.moments clock_now)) later
               (subst (λ (p : Option (List Polling)). IsLeft asked.cycles p (L.polls link_now) (C.moments begun) (C.moments clock_now)) polls left);
         };
@@ -267,7 +273,7 @@ joined asked i a reads before after fb fa status front back read opens (was_unre
     spared =
         subst (λ (b : List Ask). Spares (Some asked.node.store) (front ++ b)) (sym asks_are)
         (subst (λ (f : List Ask). Spares (Some asked.node.store) (f ++ Binds asked.port true ∷ [])) (sym (opened_to asked.node.store asked.node.limit i.program front a opens).asks_are)
-        (record { unwritten = refl; attached = inr refl }))
+        (record { unwritten = refl; attached = inr (refl, refl) }))
 
 pub live_answers : {T : Type 0} (D : DiskGhosts T) (d m e : T) (asked : RunAsked) (i : NodeInputs) (a : Application) (reads : List Read) (before after : Option (List ℕ)) (fb fa status : ℕ)
     → RunInputsRead asked.node (of_reads reads) (Ok i) → AsksDisk D d m (λ asks. RunOpened asked.node i asks (Ok a)) → AsksDisk D m e (λ asks. AnswersLive asked i a asks before after fb fa status)
@@ -294,7 +300,7 @@ live_refused D d e asked i reads before after fb fa status refusal read answers 
 pub asks_so : {U V : Type 0} (L : LinkGhosts U) (C : ClockGhosts V) (port status : ℕ) (link link_now : U) (clock clock_now : V) (P Q : Type 0) → (IsOneOf (0 ∷ 8 ∷ []) status → P → Q)
     → AsksLive L C port status link link_now clock clock_now P → AsksLive L C port status link link_now clock clock_now Q
 asks_so L C port status link link_now clock clock_now P Q so (unasked not same still) = unasked not same still
-asks_so L C port status link link_now clock clock_now P Q so (unbound ten bind untaken rose polls offered still) = unbound ten bind untaken rose polls offered still
+asks_so L C port status link link_now clock clock_now P Q so (unbound ten bind untaken rose polls polled offered still) = unbound ten bind untaken rose polls polled offered still
 asks_so L C port status link link_now clock clock_now P Q so (unready seven bind taken silent) = unready seven bind taken silent
 asks_so L C port status link link_now clock clock_now P Q so (all_done at bind taken done_so) = all_done at bind taken (so at done_so)
 

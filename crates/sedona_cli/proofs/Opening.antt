@@ -1,12 +1,12 @@
 -- What a call that opens a store asks of the disk.
-use Rattle.std.proofs.Common.{◌≡◌, ℕ, List, [], ◌∷◌, Result, Ok, Err, refl, subst, inl, inr}
+use Rattle.std.proofs.Common.{◌≡◌, ◌+◌, ◌≤◌, ℕ, List, [], ◌∷◌, Result, Ok, Err, refl, subst, inl, inr}
 use Rattle.std.specs.Prelude.{IfOk, IsTrue, IsErrOf}
 use Rattle.sed_outside.specs.Cause.{HasCause}
 use Rattle.disk_model.specs.declared.disk.Disk.{Ghosts as DiskGhosts}
 use Rattle.disk_model.specs.Disk.{Meaning, Elapses, During, MarksUp}
 use Rattle.app_save.specs.declared.refusal.SaveRefusal.{SaveRefusal}
 use Rattle.app_save.specs.declared.refusal.SaveRefusal.TheVariants.{Device, NotAStore as NoWholeStore, Memory as NoMemory}
-use Rattle.app_save.specs.Saving.{AllOpen, SinceSync}
+use Rattle.app_save.specs.Saving.{AllOpen, SinceSync, SyncsOnce}
 use Rattle.app_save.specs.Store.{IsStore, Opens as IsOpen}
 use Rattle.sedona_cli.specs.declared.refusal.Refusal.TheVariants.{DeviceFault, NoStore, Memory}
 use Rattle.sedona_cli.specs.Outside.{Opens, Found, NotAStore, Unread, Unheld, AsksDisk}
@@ -22,9 +22,11 @@ pub record Openings (payload : List ℕ) (r : Result ℕ SaveRefusal) (d e : Mea
   pub content : IsTrue d.tells → (IsErrOf r Device → ⊥) → e.content ≡ d.content
   pub time : Elapses d e
   pub marks : MarksUp d e 0
+  pub syncs : (IsErrOf r Device → ⊥) → SyncsOnce d e
   pub attached : e.attached ≡ d.attached
   pub not_a_store : IsTrue d.tells → IsErrOf r NoWholeStore → (S : ℕ) → IsStore S d.content → ⊥
   pub cause : HasCause d.faults e.faults (IsErrOf r Device)
+  pub calls : e.calls ≤ d.calls + 5
 
 found_of : (payload bytes : List ℕ) → Found payload ≡ Found bytes → payload ≡ bytes
 found_of payload bytes same = cc
@@ -39,7 +41,9 @@ asked_opened D d e payload S o = record {
       time = o.time;
       attached = o.attached;
       marks = o.marks;
+      syncs = λ not. o.syncs (λ (failed : IsErrOf {T = ℕ} (Ok S) Device). absurd (cc));
       cause = cause_as _ _ (IsErrOf {T = ℕ} (Ok S) Device) (Found payload ≡ Unread) (λ (failed : IsErrOf {T = ℕ} (Ok S) Device). absurd (cc)) (λ (same : Found payload ≡ Unread). absurd (cc)) o.cause;
+      calls = o.calls;
       moments = o.moments;
       since = o.since;
       content = λ told not. o.content told (λ (failed : IsErrOf {T = ℕ} (Ok S) Device). absurd (cc));
@@ -62,7 +66,9 @@ asked_none D d e payload o = record {
       time = o.time;
       attached = o.attached;
       marks = o.marks;
+      syncs = λ not. o.syncs (λ (failed : IsErrOf {T = ℕ} (Err NoWholeStore) Device). absurd (cc));
       cause = cause_as _ _ (IsErrOf {T = ℕ} (Err NoWholeStore) Device) (NotAStore ≡ Unread) (λ (failed : IsErrOf {T = ℕ} (Err NoWholeStore) Device). absurd (cc)) (λ (same : NotAStore ≡ Unread). absurd (cc)) o.cause;
+      calls = o.calls;
       moments = o.moments;
       since = o.since;
       content = λ told not. o.content told (λ (failed : IsErrOf {T = ℕ} (Err NoWholeStore) Device). absurd (cc));
@@ -84,7 +90,9 @@ asked_unread D d e payload o = record {
       time = o.time;
       attached = o.attached;
       marks = o.marks;
+      syncs = λ not. absurd (not refl);
       cause = cause_as _ _ (IsErrOf {T = ℕ} (Err Device) Device) (Unread ≡ Unread) (λ (failed : IsErrOf {T = ℕ} (Err Device) Device). refl) (λ (same : Unread ≡ Unread). refl) o.cause;
+      calls = o.calls;
       moments = o.moments;
       since = o.since;
       content = λ told not. absurd (not refl);
@@ -106,7 +114,9 @@ asked_unheld D d e payload o = record {
       time = o.time;
       attached = o.attached;
       marks = o.marks;
+      syncs = λ not. o.syncs (λ (failed : IsErrOf {T = ℕ} (Err NoMemory) Device). absurd (cc));
       cause = cause_as _ _ (IsErrOf {T = ℕ} (Err NoMemory) Device) (Unheld ≡ Unread) (λ (failed : IsErrOf {T = ℕ} (Err NoMemory) Device). absurd (cc)) (λ (same : Unheld ≡ Unread). absurd (cc)) o.cause;
+      calls = o.calls;
       moments = o.moments;
       since = o.since;
       content = λ told not. o.content told (λ (failed : IsErrOf {T = ℕ} (Err NoMemory) Device). absurd (cc));

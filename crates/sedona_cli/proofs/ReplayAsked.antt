@@ -209,7 +209,7 @@ ran_on D store payload ran asks reads d e is asked =
     }
 
 -- the name is attached
-pub run_attaches : {T : Type 0} (D : DiskGhosts T) (store : List ℕ) (asks : List Ask) (d e : T) → RunBehind store asks → AreAsked D asks d e → IsAttach (D.meaning d).attached (D.meaning e).attached store
+pub run_attaches : {T : Type 0} (D : DiskGhosts T) (store : List ℕ) (asks : List Ask) (d e : T) → RunBehind store asks → AreAsked D asks d e → IsAttach (D.meaning d).calls (D.meaning d).attached (D.meaning e).attached store
 run_attaches D store asks d e by asked =
     let on = ran_on D store by.payload by.ran asks by.reads d e by.asks_are asked in
-    subst (λ now. IsAttach (D.meaning d).attached now store) (sym (on.run.attached ∙ on.last.asked.attached)) on.last.attached.attached
+    subst (λ now. IsAttach (D.meaning d).calls (D.meaning d).attached now store) (sym (on.run.attached ∙ on.last.asked.attached)) on.last.attached.attached

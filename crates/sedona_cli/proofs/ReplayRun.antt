@@ -22,7 +22,7 @@ use Rattle.sedona_cli.specs.Nodes.{Opened}
 use Rattle.sedona_cli.specs.Replay.{HoldsNone, InputsRead, Replayed, ReplayedBy, ReplayComes, ReplayStops, Shows, in_full, in_part}
 use Rattle.sedona_cli.proofs.Agreeing.{OpensOnce}
 use Rattle.sedona_cli.proofs.Alike.{ReadsOne}
-use Rattle.sedona_cli.proofs.Asking.{reads_before}
+use Rattle.sedona_cli.proofs.Asking.{asked_behind, reads_before}
 use Rattle.sedona_cli.proofs.Ends.{err_ok, ok_err, one_refusal}
 use Rattle.sedona_cli.proofs.Ran.{HeldRun, IsLawful, leaves_store}
 use Rattle.sedona_cli.proofs.ReplayAsked.{RanBy, inputs_alone, ran_by, ran_on, ran_until}
@@ -41,7 +41,7 @@ module _ {T : Type 0} (once : OpensOnce) (D : DiskGhosts T) (law : IsLawful D) (
     on = ran_on D node.store by.payload by.ran asks by.reads d e by.asks_are asked;
   }
 
-  pub replayed : (before after : Option (List ℕ)) (status : ℕ) → Shows by.ran by.left before after status → Replayed node by.inputs before after status (D.meaning d) (D.meaning e)
+  pub replayed : (before after : Option (List ℕ)) (status : ℕ) → Shows by.ran by.left before after status → Replayed D node by.inputs before after status d e
   replayed before after status shows = record {
     application = by.application;
     ran = by.ran;
@@ -50,6 +50,8 @@ module _ {T : Type 0} (once : OpensOnce) (D : DiskGhosts T) (law : IsLawful D) (
     entries = by.entries;
     shows = shows;
     store = leaves_store once D law node.store node.limit by.application by.ran d e held;
+    payload = by.payload;
+    asks_are = asked_behind D by.reads (Attaches node.store true ∷ Opens (Found by.payload) ∷ Runs by.ran ∷ []) d e (subst (λ (a : List Ask). AreAsked D a d e) by.asks_are asked);
   }
 
 -- ---- with status 0 and 8
@@ -81,7 +83,7 @@ with_reads node file asks reads by is = subst (λ (r : List Read). InputsRead no
 
 kept_by : {T : Type 0} → OpensOnce → (D : DiskGhosts T) → IsLawful D → (node : NodeAsked) (file : List ℕ) (asks : List Ask) (reads : List Read) (before after : Option (List ℕ)) (fb fa status : ℕ) (d e : T) → reads_in asks ≡ reads
     → AreAsked D asks d e → IsOneOf (0 ∷ 8 ∷ []) status → IsAnswer (Replay node file) asks before after fb fa status
-    → (inputs : Inputs) × InputsRead node file (of_reads reads) (Ok inputs) × Replayed node inputs before after status (D.meaning d) (D.meaning e)
+    → (inputs : Inputs) × InputsRead node file (of_reads reads) (Ok inputs) × Replayed D node inputs before after status d e
 kept_by once D law node file asks reads before after fb fa status d e is asked at (done text came nought put same) =
     let by = ran_by node file asks text came in
     (by.inputs, with_reads node file asks reads by is, replayed once D law node file asks by d e asked before after status (shows_all node file asks text before after status nought put came))
@@ -96,7 +98,7 @@ kept_by once D law node file asks reads before after fb fa status d e is asked a
 
 pub replayed_by : {S T : Type 0} (F : FileGhosts S) (D : DiskGhosts T) → OpensOnce → IsLawful D → (x y : S) (d e : T) (node : NodeAsked) (file : List ℕ) (before after : Option (List ℕ)) (fb fa status : ℕ)
     → IsOneOf (0 ∷ 8 ∷ []) status → HasAsks F D x y d e (λ asks. IsAnswer (Replay node file) asks before after fb fa status)
-    → ReplayedBy F node file x y (D.meaning d) (D.meaning e) before after status
+    → ReplayedBy F D node file x y d e before after status
 replayed_by F D once law x y d e node file before after fb fa status at has =
     same_reads F x y _ _ (λ reads held. kept_by once D law node file held.0 reads before after fb fa status d e held.1 held.2 at held.3) has
 

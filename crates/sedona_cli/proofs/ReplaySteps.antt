@@ -281,7 +281,7 @@ module _ {T : Type 0} (F : FileGhosts T) (node : NodeAsked) (file : List ℕ) (x
 -- the store that opened to it is spared
 pub open_spares : (store : List ℕ) (limit : ℕ) (program : Program) (asks : List Ask) (a : Application) → Opened store limit program asks (Ok a) → Spares (Some store) asks
 open_spares store limit program asks a opened =
-    subst (λ (l : List Ask). Spares (Some store) l) (sym (opened_to store limit program asks a opened).asks_are) (record { unwritten = refl; attached = inr refl })
+    subst (λ (l : List Ask). Spares (Some store) l) (sym (opened_to store limit program asks a opened).asks_are) (record { unwritten = refl; attached = inr (refl, refl) })
 
 pub app_opened : {T X : Type 0} (D : DiskGhosts T) (d e h : T) (store : List ℕ) (limit : ℕ) (program : Program) (payload : List ℕ) (app : X → Application) (r : Result X Refusal)
     → AsksDisk D d e (λ asks. StoreAttached store asks (Ok tt)) → AsksDisk D e h (λ asks. OpenedOrWants asks (Ok payload)) → IfOk r (λ x. IsRead program limit payload (Ok (app x)))

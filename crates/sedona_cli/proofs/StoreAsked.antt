@@ -195,10 +195,10 @@ pub opened_spares : (store : List ℕ) (reads : List Read) (asks : List Ask) (ho
 opened_spares store reads asks how not is = subst (λ (a : List Ask). Spares (Some store) a) (sym is) (spares_behind (Some store) reads (Attaches store true ∷ Opens how ∷ []) (by how not))
   where
     by : (how : Opened) → how ≢ Unread → Spares (Some store) (Attaches store true ∷ Opens how ∷ [])
-    by (Found payload) not = record { unwritten = refl; attached = inr refl }
-    by NotAStore not = record { unwritten = refl; attached = inr refl }
+    by (Found payload) not = record { unwritten = refl; attached = inr (refl, refl) }
+    by NotAStore not = record { unwritten = refl; attached = inr (refl, refl) }
     by Unread not = absurd (not refl)
-    by Unheld not = record { unwritten = refl; attached = inr refl }
+    by Unheld not = record { unwritten = refl; attached = inr (refl, refl) }
 
 found_read : (payload : List ℕ) → Found payload ≢ Unread
 found_read payload same = cc
@@ -258,17 +258,17 @@ keeps_both a b c told one two first second = record {
 }
 
 -- the name is attached
-pub attach_last : {T : Type 0} (D : DiskGhosts T) (store : List ℕ) (ask : Ask) (end : Option Refusal) (d e : T) → EndsBy ask end → Last D store ask d e → IsAttach (D.meaning d).attached (D.meaning e).attached store
+pub attach_last : {T : Type 0} (D : DiskGhosts T) (store : List ℕ) (ask : Ask) (end : Option Refusal) (d e : T) → EndsBy ask end → Last D store ask d e → IsAttach (D.meaning d).calls (D.meaning d).attached (D.meaning e).attached store
 attach_last D store (Reads read) end d e ends last = absurd ends
 attach_last D store (Writes name bytes how) end d e ends last = absurd ends
 attach_last D store (Attaches name done) end d e ends last = absurd ends
-attach_last D store (Makes slot text how) end d e ends last = subst (λ now. IsAttach (D.meaning d).attached now store) (sym last.asked.attached) last.attached.attached
-attach_last D store (Opens how) end d e ends last = subst (λ now. IsAttach (D.meaning d).attached now store) (sym last.asked.attached) last.attached.attached
+attach_last D store (Makes slot text how) end d e ends last = subst (λ now. IsAttach (D.meaning d).calls (D.meaning d).attached now store) (sym last.asked.attached) last.attached.attached
+attach_last D store (Opens how) end d e ends last = subst (λ now. IsAttach (D.meaning d).calls (D.meaning d).attached now store) (sym last.asked.attached) last.attached.attached
 attach_last D store (Binds port done) end d e ends last = absurd ends
 attach_last D store (Runs ran) end d e ends last = absurd ends
 
 pub attach_one : {T : Type 0} (D : DiskGhosts T) (store : List ℕ) (asks : List Ask) (reads : List Read) (d e : T) → asks ≡ of_reads reads ++ Attaches store false ∷ [] → AreAsked D asks d e
-    → IsAttach (D.meaning d).attached (D.meaning e).attached store
+    → IsAttach (D.meaning d).calls (D.meaning d).attached (D.meaning e).attached store
 attach_one D store asks reads d e is asked = (one_behind D store false asks reads d e is asked).attached
 
 -- the disk failed

@@ -1,5 +1,5 @@
 -- What a status tells of the disk.
-use Rattle.std.proofs.Common.{◌≡◌, ◌≢◌, ◌⊎◌, ℕ, true, false, List, [], ◌∷◌, ◌++◌, length, map, Option, Some, None, Result, Ok, Err, refl, sym, ap, subst, ◌∙◌, inl, inr, arith}
+use Rattle.std.proofs.Common.{◌≡◌, ◌≢◌, ◌⊎◌, ℕ, true, false, List, [], ◌∷◌, ◌++◌, length, Option, Some, None, Result, Ok, Err, refl, sym, ap, subst, ◌∙◌, inl, inr, arith}
 use Rattle.std.specs.Prelude.{IsTrue}
 use Rattle.std.specs.List.{list_all}
 use Rattle.sed_outside.specs.Cause.{Rose}
@@ -9,7 +9,7 @@ use Rattle.sedona_cli.proofs.DiskCalls.{no_time, no_marks, now_alone, then_marks
 use Rattle.sedona_cli.specs.declared.refusal.Refusal.{Refusal}
 use Rattle.sedona_cli.specs.declared.refusal.Refusal.TheVariants.{FileFault, Refused, Rule, SlotTooSmall, DeviceFault, StoreExists, NoStore, NoApplication, WrongKits, OverLimit, BadUsers, ShortSecret, BadRecord, LinkFault, Memory}
 use Rattle.sedona_words.specs.Command.{Command, Cycles, Check, Gen, New, Replay, Run, Show, output_of, port_of, store_of}
-use Rattle.sedona_cli.specs.Outside.{Ask, Reads, Writes, Attaches, Makes, Opens, Binds, Runs, Whole, NotEmpty, Failed, Found, NotAStore, Unread, Unheld, Written, Unwritten, Withheld, is_of_files, names_in, of_reads, spares, Spares, AreAsked}
+use Rattle.sedona_cli.specs.Outside.{Ask, Reads, Writes, Attaches, Makes, Opens, Binds, Runs, Whole, NotEmpty, Failed, Found, NotAStore, Unread, Unheld, Written, Unwritten, Withheld, is_of_files, names_in, of_reads, spares, Spares, AreAsked, AttachesFirst, AttachesIfAny}
 use Rattle.sedona_cli.specs.Puts.{IsOneOf}
 use Rattle.sedona_cli.specs.Program.{Comes, ComesUntil, IsAnswer, done, unput, stopped, refused, wanted, before_store, at_store, AttachesBy, AsksStore, SparesDisk, refusal_by}
 use Rattle.sedona_cli.specs.Refusals.{is_of_store}
@@ -18,7 +18,7 @@ use Rattle.file_steps.specs.Steps.{Read}
 use Rattle.sedona_cli.specs.Writing.{written_in}
 use Rattle.sedona_cli.proofs.Asking.{reads_leave}
 use Rattle.sedona_cli.proofs.Comings.{early_alone, of_files_alone, reads_alone}
-use Rattle.sedona_cli.proofs.Agreeing.{AllBound}
+use Rattle.sedona_cli.proofs.Agreeing.{NoneFailed}
 use Rattle.sedona_cli.proofs.Ends.{ok_err, one_refusal, some_refusal, no_refusal}
 use Rattle.sedona_cli.proofs.LiveAsked.{LiveBehind, Unbound, last_unbound, live_attaches, live_behind, run_asked, unbound_attaches}
 use Rattle.sedona_cli.proofs.ReplayAsked.{RunBehind, ran_by, ran_until, replay_asked, run_attaches, run_behind}
@@ -124,29 +124,22 @@ unattached D (Opens how ∷ asks) d e none asked = unattached D asks asked.0 e n
 unattached D (Binds port b ∷ asks) d e none asked = unattached D asks asked.0 e none asked.2 ∙ ap (λ t. (D.meaning t).attached) asked.1
 unattached D (Runs ran ∷ asks) d e none asked = unattached D asks asked.0 e none asked.2 ∙ asked.1.attached
 
-head_of : (name store : List ℕ) (names : List (List ℕ)) → ◌≡◌ {A = List (List ℕ)} (name ∷ names) (store ∷ []) → (name ≡ store) × (names ≡ [])
-head_of name store names same = (cc, cc)
-
--- one name is attached
-pub once_attached : {T : Type 0} (D : DiskGhosts T) (store : List ℕ) (asks : List Ask) (d e : T) → names_in asks ≡ store ∷ [] → AreAsked D asks d e
-    → IsAttach (D.meaning d).attached (D.meaning e).attached store
-once_attached D store [] d e named asked = absurd (cc)
-once_attached D store (Reads read ∷ asks) d e named asked =
-    subst (λ t. IsAttach (D.meaning t).attached (D.meaning e).attached store) asked.1 (once_attached D store asks asked.0 e named asked.2)
-once_attached D store (Writes name bytes how ∷ asks) d e named asked =
-    subst (λ t. IsAttach (D.meaning t).attached (D.meaning e).attached store) asked.1 (once_attached D store asks asked.0 e named asked.2)
-once_attached D store (Attaches name b ∷ asks) d e named asked =
-    let (same, none) = head_of name store (names_in asks) named in
-    subst (λ (n : List ℕ). IsAttach (D.meaning d).attached (D.meaning e).attached n) same
-    (subst (λ now. IsAttach (D.meaning d).attached now name) (sym (unattached D asks asked.0 e none asked.2)) asked.1.attached)
-once_attached D store (Makes slot payload how ∷ asks) d e named asked =
-    subst (λ old. IsAttach old (D.meaning e).attached store) asked.1.attached (once_attached D store asks asked.0 e named asked.2)
-once_attached D store (Opens how ∷ asks) d e named asked =
-    subst (λ old. IsAttach old (D.meaning e).attached store) asked.1.attached (once_attached D store asks asked.0 e named asked.2)
-once_attached D store (Binds port b ∷ asks) d e named asked =
-    subst (λ t. IsAttach (D.meaning t).attached (D.meaning e).attached store) asked.1 (once_attached D store asks asked.0 e named asked.2)
-once_attached D store (Runs ran ∷ asks) d e named asked =
-    subst (λ old. IsAttach old (D.meaning e).attached store) asked.1.attached (once_attached D store asks asked.0 e named asked.2)
+-- the first that is asked is that a name is attached, and no other is behind it
+pub once_attached : {T : Type 0} (D : DiskGhosts T) (store : List ℕ) (asks : List Ask) (d e : T) → AttachesFirst store asks → AreAsked D asks d e
+    → IsAttach (D.meaning d).calls (D.meaning d).attached (D.meaning e).attached store
+once_attached D store [] d e first asked = absurd first
+once_attached D store (Reads read ∷ asks) d e first asked =
+    subst (λ t. IsAttach (D.meaning t).calls (D.meaning t).attached (D.meaning e).attached store) asked.1 (once_attached D store asks asked.0 e first asked.2)
+once_attached D store (Writes name bytes how ∷ asks) d e first asked =
+    subst (λ t. IsAttach (D.meaning t).calls (D.meaning t).attached (D.meaning e).attached store) asked.1 (once_attached D store asks asked.0 e first asked.2)
+once_attached D store (Attaches name b ∷ asks) d e first asked =
+    subst (λ (n : List ℕ). IsAttach (D.meaning d).calls (D.meaning d).attached (D.meaning e).attached n) first.0
+    (subst (λ now. IsAttach (D.meaning d).calls (D.meaning d).attached now name) (sym (unattached D asks asked.0 e first.1 asked.2)) asked.1.attached)
+once_attached D store (Makes slot payload how ∷ asks) d e first asked = absurd first
+once_attached D store (Opens how ∷ asks) d e first asked = absurd first
+once_attached D store (Binds port b ∷ asks) d e first asked =
+    subst (λ t. IsAttach (D.meaning t).calls (D.meaning t).attached (D.meaning e).attached store) asked.1 (once_attached D store asks asked.0 e first asked.2)
+once_attached D store (Runs ran ∷ asks) d e first asked = absurd first
 
 -- ---- a disk that is spared
 
@@ -194,18 +187,9 @@ spared_all D (Runs ran ∷ asks) d e spared asked = absurd (cc)
 
 -- ---- the store is attached where the steps come to it
 
-no_store : (names : List (List ℕ)) → map (λ name. Some name) names ≡ None ∷ [] → ⊥
-no_store [] same = cc
-no_store (name ∷ names) same = cc
-
-some_store : (names : List (List ℕ)) (store : List ℕ) → map (λ name. Some name) names ≡ Some store ∷ [] → names ≡ store ∷ []
-some_store [] store same = absurd (cc)
-some_store (name ∷ []) store same = cc
-some_store (name ∷ other ∷ names) store same = absurd (cc)
-
-no_disk : (asks : List Ask) → (list_all is_of_files asks ≡ true) ⊎ (map (λ name. Some name) (names_in asks) ≡ None ∷ []) → list_all is_of_files asks ≡ true
+no_disk : (asks : List Ask) → (list_all is_of_files asks ≡ true) ⊎ AttachesIfAny None asks → list_all is_of_files asks ≡ true
 no_disk asks (inl none) = none
-no_disk asks (inr one) = absurd (no_store (names_in asks) one)
+no_disk asks (inr one) = absurd one
 
 -- without a store nothing is put piece by piece
 no_until : (command : Command) (asks : List Ask) (put last : List ℕ) → store_of command ≡ None → ComesUntil command asks put last → ⊥
@@ -229,7 +213,7 @@ quiet_alone D command asks before after fb fa status d e none (wanted left is pu
     quiet D asks d e (no_disk asks alone.attached) asked
 
 -- come to it
-come_to : {T : Type 0} (D : DiskGhosts T) (store : List ℕ) (status : ℕ) (d e : T) → (IsOneOf before_store status → ⊥) → IsAttach (D.meaning d).attached (D.meaning e).attached store → AttachesBy D store status d e
+come_to : {T : Type 0} (D : DiskGhosts T) (store : List ℕ) (status : ℕ) (d e : T) → (IsOneOf before_store status → ⊥) → IsAttach (D.meaning d).calls (D.meaning d).attached (D.meaning e).attached store → AttachesBy D store status d e
 come_to D store status d e not attach = record { never = λ before. absurd (not before); once = λ at. attach; at_most_once = λ is. inr attach }
 
 not_done : (status n : ℕ) → status ≡ n → n ≢ 2 → n ≢ 3 → n ≢ 9 → n ≢ 11 → n ≢ 12 → IsOneOf before_store status → ⊥
@@ -284,9 +268,9 @@ attaches_wanted D store status asks d e is spared asked = record {
   at_most_once = λ b. by spared.attached;
 }
   where
-    by : (list_all is_of_files asks ≡ true) ⊎ (map (λ name. Some name) (names_in asks) ≡ Some store ∷ []) → (e ≡ d) ⊎ IsAttach (D.meaning d).attached (D.meaning e).attached store
+    by : (list_all is_of_files asks ≡ true) ⊎ AttachesIfAny (Some store) asks → (e ≡ d) ⊎ IsAttach (D.meaning d).calls (D.meaning d).attached (D.meaning e).attached store
     by (inl none) = inl (quiet D asks d e none asked)
-    by (inr one) = inr (once_attached D store asks d e (some_store (names_in asks) store one) asked)
+    by (inr one) = inr (once_attached D store asks d e one asked)
 
 -- the status of a port that is not taken
 ten_of : (store : List ℕ) (port status : ℕ) (asks : List Ask) (refusal : Refusal) → status ≡ of_refusal refusal → Unbound store port asks refusal → status ≡ 10
@@ -533,16 +517,16 @@ no_link (Show names store limit) asks before after fb fa status none (refused re
 no_link (Replay node file) asks before after fb fa status none (refused refusal came is puts) ten = store_link _ node.store asks refusal (replay_asked node file asks refusal came) (sym is ∙ ten)
 no_link (Run r) asks before after fb fa status none (refused refusal came is puts) ten = absurd (cc)
 
--- ---- every port that was asked for was taken
+-- ---- nothing failed that was asked of the disk and the link
 
-bound_behind : (reads : List Read) (asks : List Ask) → AllBound asks → AllBound (of_reads reads ++ asks)
+bound_behind : (reads : List Read) (asks : List Ask) → NoneFailed asks → NoneFailed (of_reads reads ++ asks)
 bound_behind [] asks bound = bound
 bound_behind (read ∷ reads) asks bound = bound_behind reads asks bound
 
-bound_row : (asks more : List Ask) (reads : List Read) → asks ≡ of_reads reads ++ more → AllBound more → AllBound asks
-bound_row asks more reads is bound = subst AllBound (sym is) (bound_behind reads more bound)
+bound_row : (asks more : List Ask) (reads : List Read) → asks ≡ of_reads reads ++ more → NoneFailed more → NoneFailed asks
+bound_row asks more reads is bound = subst NoneFailed (sym is) (bound_behind reads more bound)
 
-of_files_bound : (asks : List Ask) → list_all is_of_files asks ≡ true → AllBound asks
+of_files_bound : (asks : List Ask) → list_all is_of_files asks ≡ true → NoneFailed asks
 of_files_bound [] none = tt
 of_files_bound (Reads read ∷ asks) none = of_files_bound asks none
 of_files_bound (Writes name bytes how ∷ asks) none = of_files_bound asks none
@@ -552,53 +536,71 @@ of_files_bound (Opens how ∷ asks) none = absurd (cc)
 of_files_bound (Binds port b ∷ asks) none = absurd (cc)
 of_files_bound (Runs ran ∷ asks) none = absurd (cc)
 
-store_bound : (Kind : Ask → Type 0) (store : List ℕ) (asks : List Ask) (end : Option Refusal) → StoreAsked Kind store asks end → AllBound asks
-store_bound Kind store asks end (ends_before reads r all same early) = bound_row asks [] reads (all ∙ sym (append-nil (of_reads reads))) tt
-store_bound Kind store asks end (ends_unattached reads all same) = bound_row asks (Attaches store false ∷ []) reads all tt
-store_bound Kind store asks end (ends_at reads (Reads read) all kind ends) = absurd ends
-store_bound Kind store asks end (ends_at reads (Writes name bytes how) all kind ends) = absurd ends
-store_bound Kind store asks end (ends_at reads (Attaches name b) all kind ends) = absurd ends
-store_bound Kind store asks end (ends_at reads (Makes slot text how) all kind ends) = bound_row asks (Attaches store true ∷ Makes slot text how ∷ []) reads all tt
-store_bound Kind store asks end (ends_at reads (Opens how) all kind ends) = bound_row asks (Attaches store true ∷ Opens how ∷ []) reads all tt
-store_bound Kind store asks end (ends_at reads (Binds port b) all kind ends) = absurd ends
-store_bound Kind store asks end (ends_at reads (Runs ran) all kind ends) = absurd ends
+store_bound : (Kind : Ask → Type 0) (store : List ℕ) (asks : List Ask) (end : Option Refusal) → (end ≡ Some DeviceFault → ⊥) → StoreAsked Kind store asks end → NoneFailed asks
+store_bound Kind store asks end not (ends_before reads r all same early) = bound_row asks [] reads (all ∙ sym (append-nil (of_reads reads))) tt
+store_bound Kind store asks end not (ends_unattached reads all same) = absurd (not same)
+store_bound Kind store asks end not (ends_at reads (Reads read) all kind ends) = absurd ends
+store_bound Kind store asks end not (ends_at reads (Writes name bytes how) all kind ends) = absurd ends
+store_bound Kind store asks end not (ends_at reads (Attaches name b) all kind ends) = absurd ends
+store_bound Kind store asks end not (ends_at reads (Makes slot text Whole) all kind ends) =
+    bound_row asks (Attaches store true ∷ Makes slot text Whole ∷ []) reads all (refl, ((λ same. cc), tt))
+store_bound Kind store asks end not (ends_at reads (Makes slot text NotEmpty) all kind ends) =
+    bound_row asks (Attaches store true ∷ Makes slot text NotEmpty ∷ []) reads all (refl, ((λ same. cc), tt))
+store_bound Kind store asks end not (ends_at reads (Makes slot text Failed) all kind ends) = absurd (not ends)
+store_bound Kind store asks end not (ends_at reads (Opens (Found payload)) all kind ends) =
+    bound_row asks (Attaches store true ∷ Opens (Found payload) ∷ []) reads all (refl, ((λ same. cc), tt))
+store_bound Kind store asks end not (ends_at reads (Opens NotAStore) all kind ends) =
+    bound_row asks (Attaches store true ∷ Opens NotAStore ∷ []) reads all (refl, ((λ same. cc), tt))
+store_bound Kind store asks end not (ends_at reads (Opens Unread) all kind ends) = absurd (not ends)
+store_bound Kind store asks end not (ends_at reads (Opens Unheld) all kind ends) = absurd ends
+store_bound Kind store asks end not (ends_at reads (Binds port b) all kind ends) = absurd ends
+store_bound Kind store asks end not (ends_at reads (Runs ran) all kind ends) = absurd ends
 
--- of what a command comes to, but where it is told that one was not
-comes_bound : (command : Command) (asks : List Ask) (end : Result (List ℕ) Refusal) → (end ≡ Err LinkFault → ⊥) → Comes command asks end → AllBound asks
-comes_bound (Cycles file count) asks end not came = of_files_bound asks (of_files_alone (Cycles file count) asks end refl came)
-comes_bound (Check names) asks end not came = of_files_bound asks (of_files_alone (Check names) asks end refl came)
-comes_bound (Gen g) asks end not came = of_files_bound asks (of_files_alone (Gen g) asks end refl came)
-comes_bound (New names store slot) asks end not came = store_bound _ store asks (refusal_by end) (new_asked names store slot asks end came)
-comes_bound (Show names store limit) asks end not came = store_bound _ store asks (refusal_by end) (show_asked names store limit asks end came)
-comes_bound (Replay node file) asks (Ok text) not came =
+by_device : (end : Result (List ℕ) Refusal) → (end ≡ Err DeviceFault → ⊥) → refusal_by end ≡ Some DeviceFault → ⊥
+by_device (Ok text) not same = no_refusal DeviceFault (sym same)
+by_device (Err r) not same = not (ap Err (some_refusal r DeviceFault same))
+
+-- of what a command comes to, but where it is told that the link or the disk failed
+comes_bound : (command : Command) (asks : List Ask) (end : Result (List ℕ) Refusal) → (end ≡ Err LinkFault → ⊥) → (end ≡ Err DeviceFault → ⊥) → Comes command asks end → NoneFailed asks
+comes_bound (Cycles file count) asks end not four came = of_files_bound asks (of_files_alone (Cycles file count) asks end refl came)
+comes_bound (Check names) asks end not four came = of_files_bound asks (of_files_alone (Check names) asks end refl came)
+comes_bound (Gen g) asks end not four came = of_files_bound asks (of_files_alone (Gen g) asks end refl came)
+comes_bound (New names store slot) asks end not four came = store_bound _ store asks (refusal_by end) (by_device end four) (new_asked names store slot asks end came)
+comes_bound (Show names store limit) asks end not four came = store_bound _ store asks (refusal_by end) (by_device end four) (show_asked names store limit asks end came)
+comes_bound (Replay node file) asks (Ok text) not four came =
     let by = run_behind node file asks (ran_by node file asks text came) in
-    bound_row asks (Attaches node.store true ∷ Opens (Found by.payload) ∷ Runs by.ran ∷ []) by.reads by.asks_are tt
-comes_bound (Replay node file) asks (Err refusal) not came = store_bound _ node.store asks (Some refusal) (replay_asked node file asks refusal came)
-comes_bound (Run r) asks (Ok text) not came =
+    bound_row asks (Attaches node.store true ∷ Opens (Found by.payload) ∷ Runs by.ran ∷ []) by.reads by.asks_are (refl, ((λ same. cc), tt))
+comes_bound (Replay node file) asks (Err refusal) not four came =
+    store_bound _ node.store asks (Some refusal) (by_device (Err refusal) four) (replay_asked node file asks refusal came)
+comes_bound (Run r) asks (Ok text) not four came =
     let by = live_behind r asks text came in
-    bound_row asks (Attaches r.node.store true ∷ Opens (Found by.payload) ∷ Binds r.port true ∷ Runs by.ran ∷ []) by.reads by.asks_are (refl, tt)
-comes_bound (Run r) asks (Err refusal) not came = by (run_asked r asks refusal came)
+    bound_row asks (Attaches r.node.store true ∷ Opens (Found by.payload) ∷ Binds r.port true ∷ Runs by.ran ∷ []) by.reads by.asks_are (refl, ((λ same. cc), (refl, tt)))
+comes_bound (Run r) asks (Err refusal) not four came = by (run_asked r asks refusal came)
   where
-    by : StoreAsked IsOpening r.node.store asks (Some refusal) ⊎ Unbound r.node.store r.port asks refusal → AllBound asks
-    by (inl store) = store_bound _ r.node.store asks (Some refusal) store
+    by : StoreAsked IsOpening r.node.store asks (Some refusal) ⊎ Unbound r.node.store r.port asks refusal → NoneFailed asks
+    by (inl store) = store_bound _ r.node.store asks (Some refusal) (by_device (Err refusal) four) store
     by (inr unbound) = absurd (not (ap Err unbound.is_link))
 
-until_bound : (command : Command) (asks : List Ask) (put last : List ℕ) → ComesUntil command asks put last → AllBound asks
+until_bound : (command : Command) (asks : List Ask) (put last : List ℕ) → ComesUntil command asks put last → NoneFailed asks
 until_bound (Cycles file count) asks put last until = absurd until
 until_bound (Check names) asks put last until = absurd until
 until_bound (New names store slot) asks put last until = absurd until
 until_bound (Show names store limit) asks put last until = absurd until
 until_bound (Replay node file) asks put last until =
     let by = run_behind node file asks (ran_until node file asks put last until) in
-    bound_row asks (Attaches node.store true ∷ Opens (Found by.payload) ∷ Runs by.ran ∷ []) by.reads by.asks_are tt
+    bound_row asks (Attaches node.store true ∷ Opens (Found by.payload) ∷ Runs by.ran ∷ []) by.reads by.asks_are (refl, ((λ same. cc), tt))
 until_bound (Run r) asks put last until = absurd until
 until_bound (Gen g) asks put last until = absurd until
 
--- memory was wanted, or they all were where it is not answered by 10
-pub all_bound : (command : Command) (asks : List Ask) (before after : Option (List ℕ)) (fb fa status : ℕ) → IsAnswer command asks before after fb fa status → (status ≡ 10 → ⊥) → (status ≡ 7) ⊎ AllBound asks
-all_bound command asks before after fb fa status (done text came is put same) not = inr (comes_bound command asks (Ok text) (λ same. ok_err text LinkFault same) came)
-all_bound command asks before after fb fa status (unput text came at_once is rose front) not = inr (comes_bound command asks (Ok text) (λ same. ok_err text LinkFault same) came)
-all_bound command asks before after fb fa status (stopped put last until is rose front) not = inr (until_bound command asks put last until)
-all_bound command asks before after fb fa status (refused refusal came is puts) not =
-    inr (comes_bound command asks (Err refusal) (λ same. not (is ∙ ap of_refusal (one_refusal {X = List ℕ} refusal LinkFault same))) came)
-all_bound command asks before after fb fa status (wanted left is puts) not = inl is
+-- memory was wanted, or nothing failed where it is answered neither by 10 nor by 4
+pub all_bound : (command : Command) (asks : List Ask) (before after : Option (List ℕ)) (fb fa status : ℕ) → IsAnswer command asks before after fb fa status
+    → (status ≡ 10 → ⊥) → (status ≡ 4 → ⊥) → (status ≡ 7) ⊎ NoneFailed asks
+all_bound command asks before after fb fa status (done text came is put same) not four =
+    inr (comes_bound command asks (Ok text) (λ same. ok_err text LinkFault same) (λ same. ok_err text DeviceFault same) came)
+all_bound command asks before after fb fa status (unput text came at_once is rose front) not four =
+    inr (comes_bound command asks (Ok text) (λ same. ok_err text LinkFault same) (λ same. ok_err text DeviceFault same) came)
+all_bound command asks before after fb fa status (stopped put last until is rose front) not four = inr (until_bound command asks put last until)
+all_bound command asks before after fb fa status (refused refusal came is puts) not four =
+    inr (comes_bound command asks (Err refusal) (λ same. not (is ∙ ap of_refusal (one_refusal {X = List ℕ} refusal LinkFault same)))
+    (λ same. four (is ∙ ap of_refusal (one_refusal {X = List ℕ} refusal DeviceFault same))) came)
+all_bound command asks before after fb fa status (wanted left is puts) not four = inl is

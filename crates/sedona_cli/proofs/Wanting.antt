@@ -66,7 +66,7 @@ link_same L C (Some port) status link clock seven = record {
   at_most_once = λ is. inl (refl, refl);
   taken = λ at. absurd (not_done status seven at);
   untaken = λ ten. absurd (omega (arith, seven, ten));
-  silent = λ which. record { polls = refl; offered = refl; asked = refl; moments = inl refl };
+  silent = λ which. record { polls = refl; polled = refl; offered = refl; asked = refl; moments = inl (refl, refl) };
   unasked = λ ten. refl;
 }
 

@@ -17,7 +17,7 @@ WithPayload store N = AndThen (StoreAttached store) (λ (attached : Unit {0}). A
 -- a store that was attached and opened is spared
 pub found_spares : (store payload : List ℕ) (front back : List Ask) → StoreAttached store front (Ok tt) → StoreOpened back (Ok payload) → Spares (Some store) (front ++ back)
 found_spares store payload front back attached opened =
-    subst (λ (f : List Ask). Spares (Some store) (f ++ back)) (sym attached) (subst (λ (b : List Ask). Spares (Some store) (Attaches store true ∷ b)) (sym opened) (record { unwritten = refl; attached = inr refl }))
+    subst (λ (f : List Ask). Spares (Some store) (f ++ back)) (sym attached) (subst (λ (b : List Ask). Spares (Some store) (Attaches store true ∷ b)) (sym opened) (record { unwritten = refl; attached = inr (refl, refl) }))
 
 -- it was not attached
 pub not_attached : {T X : Type 0} (D : DiskGhosts T) (d e : T) (store : List ℕ) (N : List ℕ → List Ask → Result X Refusal → Type 0) (refusal : Refusal) → AsksDisk D d e (λ asks. StoreAttached store asks (Err refusal))
@@ -32,7 +32,7 @@ opened_stops : {X : Type 0} (store : List ℕ) (N : List ℕ → List Ask → Re
 opened_stops store N refusal front back attached held =
     match_both (is_want refusal) (back ≡ Opens Unheld ∷ []) (StoreOpened back (Err refusal)) (Spares (Some store) (front ++ back)) (WithPayload store N (front ++ back) (Err refusal))
     (λ unheld. subst (λ (f : List Ask). Spares (Some store) (f ++ back)) (sym attached)
-    (subst (λ (b : List Ask). Spares (Some store) (Attaches store true ∷ b)) (sym unheld) (record { unwritten = refl; attached = inr refl })))
+    (subst (λ (b : List Ask). Spares (Some store) (Attaches store true ∷ b)) (sym unheld) (record { unwritten = refl; attached = inr (refl, refl) })))
     (λ opened. goes_on front back tt refl attached (stops refusal opened refl)) held
 
 pub not_opened : {T X : Type 0} (D : DiskGhosts T) (d e h : T) (store : List ℕ) (N : List ℕ → List Ask → Result X Refusal → Type 0) (refusal : Refusal) → AsksDisk D d e (λ asks. StoreAttached store asks (Ok tt))

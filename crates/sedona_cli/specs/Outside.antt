@@ -1,19 +1,21 @@
 -- What a command asks of the outside, in order, and how each was answered.
 use Rattle.std.specs.Prelude.{◌≡◌, ◌≢◌, ◌⊎◌, ◌+◌, ◌*◌, ◌≤◌, ℕ, Bool, true, false, IsTrue, List, [], ◌∷◌, length, map}
-use Rattle.std.specs.Prelude.{Option, Some}
+use Rattle.std.specs.Prelude.{Option, Some, None}
 use Rattle.std.specs.List.{flat_map, list_all}
 use Rattle.sed_outside.specs.Cause.{HasCause}
 use Rattle.sed_outside.specs.declared.files.Files.{Ghosts as FileGhosts}
 use Rattle.disk_model.specs.Disk.{Image, Meaning, Elapses, During, Keeps, MarksUp, SyncsUp, Attaches as IsAttach}
+use Rattle.disk_model.specs.Disk.{one_more}
 use Rattle.disk_model.specs.declared.disk.Disk.{Ghosts as DiskGhosts}
 use Rattle.app_save.specs.Making.{NoneLonger}
-use Rattle.app_save.specs.Saving.{AllOpen, AllStores, SinceSync}
+use Rattle.app_save.specs.Saving.{AllOpen, AllStores, SinceSync, SyncsOnce}
 use Rattle.app_save.specs.Store.{IsStore, Opens as IsOpen}
 use Rattle.sed_engine.specs.Code.{Meaning as Code}
 use Rattle.comp_tree.specs.Application.{Application}
 use Rattle.replay_log.specs.Entry.{Entry}
+use Rattle.dasp_session.specs.Letters.{Letter}
 use Rattle.node_events.specs.Node.{Node, Setup}
-use Rattle.node_events.specs.Running.{Event, Reached, run, saves_of}
+use Rattle.node_events.specs.Running.{Event, Reached, run, saves_of, sent_by}
 use Rattle.node_events.specs.Saving.{Save}
 use Rattle.sed_node.specs.Handling.{AreFiles, AreSaved}
 use Rattle.sed_node.specs.Running.{ComesTo, CrashesOpen}
@@ -127,22 +129,40 @@ is_of_files (Opens how) = false
 is_of_files (Binds port done) = false
 is_of_files (Runs ran) = false
 
+-- The first that is asked of the disk is that the store of this name is attached, and no other name is behind it.
+abbrev pub AttachesFirst : List ℕ → List Ask → Type 0
+AttachesFirst store [] = ⊥
+AttachesFirst store (Reads read ∷ asks) = AttachesFirst store asks
+AttachesFirst store (Writes name bytes how ∷ asks) = AttachesFirst store asks
+AttachesFirst store (Attaches name done ∷ asks) = (name ≡ store) × (names_in asks ≡ [])
+AttachesFirst store (Makes slot payload how ∷ asks) = ⊥
+AttachesFirst store (Opens how ∷ asks) = ⊥
+AttachesFirst store (Binds port done ∷ asks) = AttachesFirst store asks
+AttachesFirst store (Runs ran ∷ asks) = ⊥
+
+-- without a store none is attached
+abbrev pub AttachesIfAny : Option (List ℕ) → List Ask → Type 0
+AttachesIfAny None asks = ⊥
+AttachesIfAny (Some store) asks = AttachesFirst store asks
+
 -- Nothing of the store was written, and no file but where that failed or memory was wanted for it; and nothing was
--- asked of the disk, or the store attached, once, and no other name.
+-- asked of the disk, or the store attached, first and once, and no other name.
 pub record Spares (store : Option (List ℕ)) (asks : List Ask) : Type 0 where
   pub unwritten : list_all spares asks ≡ true
-  pub attached : (list_all is_of_files asks ≡ true) ⊎ (map (λ name. Some name) (names_in asks) ≡ store ∷ [])
+  pub attached : (list_all is_of_files asks ≡ true) ⊎ AttachesIfAny store asks
 
 -- ---- what that does to a disk
 
--- A name was attached, or the disk failed: what a read gives and what a crash may leave stay, and no mark is made.
+-- A name was attached, at the count of calls that the disk had then, or the disk failed: what a read gives and what a
+-- crash may leave stay, and no mark is made. That is one call.
 pub record IsAttached (name : List ℕ) (done : Bool) (old new : Meaning) : Type 0 where
   pub time : Elapses old new
-  pub attached : IsAttach old.attached new.attached name
+  pub attached : IsAttach old.calls old.attached new.attached name
   pub keeps : IsTrue old.tells → Keeps old new
   pub marks : MarksUp old new 0
   pub syncs : SyncsUp old new 0
   pub cause : HasCause old.faults new.faults (done ≡ false)
+  pub calls : new.calls ≡ one_more old.calls
 
 -- the marks that the making of a store makes
 abbrev pub marks_by : Made → ℕ
@@ -170,13 +190,15 @@ HoldsPayload payload old new = (S : ℕ) × IsOpen S old.content payload × AllO
 abbrev pub IsNoStore : Image → Type 0
 IsNoStore image = (S : ℕ) → IsStore S image → ⊥
 
--- Nothing was written. Where the disk did not fail what a read gives stays, and from the opening's sync on a crash
--- leaves that.
+-- Nothing was written. Where the disk did not fail what a read gives stays, one sync answered Ok, and from that on a
+-- crash leaves what a read gives. It took at most five calls, whether it failed or not.
 pub record IsOpened (how : Opened) (old new : Meaning) : Type 0 where
   pub time : Elapses old new
   pub attached : new.attached ≡ old.attached
   pub marks : MarksUp old new 0
+  pub syncs : how ≢ Unread → SyncsOnce old new
   pub cause : HasCause old.faults new.faults (how ≡ Unread)
+  pub calls : new.calls ≤ old.calls + 5
   pub moments : IsTrue old.tells → During old new (old.leaves old.now)
   pub since : IsTrue old.tells → IsTrue old.tells_syncs → SinceSync old new (λ image. image ≡ old.content)
   pub content : IsTrue old.tells → how ≢ Unread → new.content ≡ old.content
@@ -186,6 +208,10 @@ pub record IsOpened (how : Opened) (old new : Meaning) : Type 0 where
 -- what a run came to
 abbrev pub reached : Ran → Reached
 reached ran = run ran.code ran.setup ran.start ran.events
+
+-- what each of its events sent
+abbrev pub sent_in : Ran → List (List Letter)
+sent_in ran = sent_by ran.code ran.setup ran.start ran.events
 
 -- the saves of a run: what was opened, which counts as acknowledged, and each save that began
 abbrev pub saves_in : Application → Ran → List Save

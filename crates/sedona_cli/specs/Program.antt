@@ -130,13 +130,15 @@ before_store = 2 ∷ 3 ∷ 9 ∷ 11 ∷ 12 ∷ []
 abbrev pub at_store : List ℕ
 at_store = 0 ∷ 4 ∷ 5 ∷ 8 ∷ 10 ∷ []
 
--- A command with a store attaches its name, once, exactly where the order comes to it; with want of memory once or
--- never.
+-- A command with a store attaches its name, once, exactly where the order comes to it, and before anything else is
+-- asked of the disk: as many calls had been made then as when the command began; with want of memory once or never.
 pub record AttachesBy {T : Type 0} (D : DiskGhosts T) (name : List ℕ) (status : ℕ) (disk disk_now : T) : Type 0 where
   pub never : IsOneOf before_store status → disk_now ≡ disk
-  pub once : IsOneOf at_store status → IsAttach (D.meaning disk).attached (D.meaning disk_now).attached name
+  pub once : IsOneOf at_store status
+      → IsAttach (D.meaning disk).calls (D.meaning disk).attached (D.meaning disk_now).attached name
   pub at_most_once : status ≡ 7
-      → (disk_now ≡ disk) ⊎ IsAttach (D.meaning disk).attached (D.meaning disk_now).attached name
+      → (disk_now ≡ disk)
+      ⊎ IsAttach (D.meaning disk).calls (D.meaning disk).attached (D.meaning disk_now).attached name
 
 -- without a store it leaves the disk
 abbrev pub AsksStore : {T : Type 0} → DiskGhosts T → Option (List ℕ) → ℕ → T → T → Type 0

@@ -1,13 +1,14 @@
 -- What `replay` comes to, and what it leaves.
-use Rattle.std.specs.Prelude.{◌≡◌, ◌⊎◌, ℕ, pos, List, [], ◌∷◌, ◌++◌, Option, Result, Ok}
+use Rattle.std.specs.Prelude.{◌≡◌, ◌⊎◌, ℕ, true, pos, List, [], ◌∷◌, ◌++◌, Option, Result, Ok}
 use Rattle.sed_typed.specs.declared.program.Program.{Program as TheProgram}
 use Rattle.sed_outside.specs.Cause.{Rose}
 use Rattle.sed_outside.specs.Sink.{PutsFront, with_text}
 use Rattle.sed_outside.specs.declared.files.Files.{Ghosts as FileGhosts}
 use Rattle.disk_model.specs.Disk.{Meaning}
+use Rattle.disk_model.specs.declared.disk.Disk.{Ghosts as DiskGhosts}
 use Rattle.sed_engine.specs.Program.{meaning_of}
 use Rattle.comp_tree.specs.Application.{Application}
-use Rattle.app_file.specs.Opens.{Opens}
+use Rattle.app_file.specs.Opens.{Opens as OpensTo}
 use Rattle.dasp_users.specs.declared.user.User.{User}
 use Rattle.dasp_session.specs.Outbox.{AreTexts, Datagram}
 use Rattle.replay_log.specs.Entry.{Entry}
@@ -20,7 +21,7 @@ use Rattle.file_steps.specs.Reads.{HasReads}
 use Rattle.sedona_cli.specs.declared.inputs.Inputs.{Inputs}
 use Rattle.sedona_cli.specs.declared.refusal.Refusal.{Refusal}
 use Rattle.sedona_words.specs.Command.{NodeAsked}
-use Rattle.sedona_cli.specs.Outside.{Ask, Ran, Runs, of_reads, reached}
+use Rattle.sedona_cli.specs.Outside.{Ask, Attaches, Found, Opens, Ran, Runs, AreAsked, of_reads, reached}
 use Rattle.sedona_cli.specs.Nodes.{IsRunFrom, LeavesStore, Opened}
 use Rattle.sedona_cli.specs.Steps.{AfterKits, AfterRecord, AfterSecret, AfterUsers}
 
@@ -132,26 +133,28 @@ pub data Shows (ran : Ran) (left : List Entry) (before after : Option (List ℕ)
       → Shows ran left before after status
 
 -- What a replay shows and leaves: it ran a node over the entries of the record that are not left, of which what was put
--- tells.
-pub record Replayed (asked : NodeAsked) (inputs : Inputs) (before after : Option (List ℕ)) (status : ℕ)
-    (disk disk_now : Meaning) : Type 0 where
+-- tells. Of the disk this run was asked, and nothing but the opening of its store before it.
+pub record Replayed {T : Type 0} (D : DiskGhosts T) (asked : NodeAsked) (inputs : Inputs)
+    (before after : Option (List ℕ)) (status : ℕ) (disk disk_now : T) : Type 0 where
   pub application : Application
   pub ran : Ran
   pub is_run : IsRunOf asked inputs application ran
   pub left : List Entry
   pub entries : IsRecord inputs.text (ran.entries ++ left)
   pub shows : Shows ran left before after status
-  pub store : LeavesStore asked.limit application ran disk disk_now
+  pub store : LeavesStore asked.limit application ran (D.meaning disk) (D.meaning disk_now)
+  pub payload : List ℕ
+  pub asks_are : AreAsked D (Attaches asked.store true ∷ Opens (Found payload) ∷ Runs ran ∷ []) disk disk_now
 
 -- So it is with what the files gave.
-abbrev pub ReplayedBy : {S : Type 0} → FileGhosts S → NodeAsked → List ℕ → S → S → Meaning → Meaning
+abbrev pub ReplayedBy : {S T : Type 0} → FileGhosts S → DiskGhosts T → NodeAsked → List ℕ → S → S → T → T
     → Option (List ℕ) → Option (List ℕ) → ℕ → Type 0
-ReplayedBy F asked file files files_now disk disk_now before after status =
+ReplayedBy F D asked file files files_now disk disk_now before after status =
     HasReads F files files_now (λ reads. (inputs : Inputs) × InputsRead asked file (of_reads reads) (Ok inputs)
-    × Replayed asked inputs before after status disk disk_now)
+    × Replayed D asked inputs before after status disk disk_now)
 
 -- The store's file opens to no application over the program of the kits.
 abbrev pub HoldsNone : {S : Type 0} → FileGhosts S → NodeAsked → List ℕ → S → S → Meaning → Type 0
 HoldsNone F asked file files files_now disk =
     HasReads F files files_now (λ reads. (inputs : Inputs) × InputsRead asked file (of_reads reads) (Ok inputs)
-    × ((a : Application) → Opens (meaning_of inputs.program) asked.limit disk.content a → ⊥))
+    × ((a : Application) → OpensTo (meaning_of inputs.program) asked.limit disk.content a → ⊥))

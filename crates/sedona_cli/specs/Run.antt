@@ -1,5 +1,5 @@
 -- What `run` comes to, and what it leaves.
-use Rattle.std.specs.Prelude.{◌≡◌, ◌⊎◌, ℕ, ℤ, Bool, true, false, List, [], ◌∷◌, map, Option, Some, None, IfSome, Result}
+use Rattle.std.specs.Prelude.{◌≡◌, ◌⊎◌, ℕ, ℤ, Bool, true, false, List, [], ◌∷◌, Option, Some, None, IfSome, Result}
 use Rattle.std.specs.Prelude.{Ok, Err}
 use Rattle.std.specs.Option.{option_map}
 use Rattle.sed_typed.specs.declared.program.Program.{Program as TheProgram}
@@ -7,7 +7,9 @@ use Rattle.sed_outside.specs.Cause.{Rose}
 use Rattle.sed_outside.specs.Sink.{PutsFront, with_text}
 use Rattle.sed_outside.specs.declared.files.Files.{Ghosts as FileGhosts}
 use Rattle.live_outside.specs.Clock.{Moments, later_moments, next_moment}
+use Rattle.live_outside.specs.Counts.{one_more}
 use Rattle.live_outside.specs.Link.{Bound, Binds as IsBind}
+use Rattle.live_outside.specs.Rounds.{LiveCycle, polls_at}
 use Rattle.live_outside.specs.Told.{AddsWhereTold}
 use Rattle.live_outside.specs.declared.clock.Clock.{Ghosts as ClockGhosts}
 use Rattle.live_outside.specs.declared.link.Link.{Ghosts as LinkGhosts}
@@ -18,8 +20,8 @@ use Rattle.sed_engine.specs.Program.{meaning_of}
 use Rattle.comp_tree.specs.Application.{Application}
 use Rattle.app_file.specs.Opens.{Opens as OpensTo}
 use Rattle.dasp_users.specs.declared.user.User.{User}
-use Rattle.dasp_session.specs.Outbox.{AreTexts, Datagram}
-use Rattle.sed_node.specs.Living.{AreLive, AreRounds, IsLeft, Sleeps, offered_as}
+use Rattle.dasp_session.specs.Outbox.{Datagram}
+use Rattle.sed_node.specs.Living.{AreRounds, AreTextsByEvent, IsLeft, Sleeps, offers}
 use Rattle.node_replay.specs.Replaying.{end_text}
 use Rattle.file_steps.specs.Steps.{AndThen, Decides}
 use Rattle.file_steps.specs.Reads.{HasReads}
@@ -30,6 +32,7 @@ use Rattle.sedona_words.specs.Command.{NodeAsked, RunAsked}
 use Rattle.sedona_cli.specs.Lines.{line_of, memory_line}
 use Rattle.sedona_cli.specs.Nodes.{IsRunFrom, LeavesStore, Opened}
 use Rattle.sedona_cli.specs.Outside.{Ask, Attaches, Binds, Found, Opens, Ran, Runs, AreAsked, IsRan, of_reads, reached}
+use Rattle.sedona_cli.specs.Outside.{sent_in}
 use Rattle.sedona_cli.specs.Puts.{IsOneOf, Puts}
 use Rattle.sedona_cli.specs.Steps.{AfterKits, AfterSecret, AfterUsers}
 
@@ -106,13 +109,20 @@ pub data AnswersLive (asked : RunAsked) (inputs : NodeInputs) (a : Application) 
 abbrev pub behind_opening : Option Moments → Option Moments
 behind_opening moments = option_map later_moments moments
 
+-- No moment was asked of a clock, or the opening one, and no more.
+abbrev pub AsksAtMostOne : {V : Type 0} → ClockGhosts V → V → V → Type 0
+AsksAtMostOne C clock clock_now =
+    ((C.moments clock_now ≡ C.moments clock) × (C.given clock_now ≡ C.given clock))
+    ⊎ ((C.moments clock_now ≡ behind_opening (C.moments clock)) × (C.given clock_now ≡ one_more (C.given clock)))
+
 -- No datagram was polled or offered, no sleep was asked, and no moment but at most the opening one.
 pub record KeepsSilent {U V : Type 0} (L : LinkGhosts U) (C : ClockGhosts V) (link link_now : U) (clock clock_now : V)
     : Type 0 where
   pub polls : L.polls link_now ≡ L.polls link
+  pub polled : L.polled link_now ≡ L.polled link
   pub offered : L.offered link_now ≡ L.offered link
   pub asked : C.asked clock_now ≡ C.asked clock
-  pub moments : (C.moments clock_now ≡ C.moments clock) ⊎ (C.moments clock_now ≡ behind_opening (C.moments clock))
+  pub moments : AsksAtMostOne C clock clock_now
 
 -- The statuses of the refusals before the link, and those behind which its port was asked for.
 abbrev pub before_link : List ℕ
@@ -153,7 +163,7 @@ pub data AsksLive {U V : Type 0} (L : LinkGhosts U) (C : ClockGhosts V) (port st
       → AsksLive L C port status link link_now clock clock_now Done
   unbound : status ≡ 10 → IsBind (L.bound link) (L.bound link_now) port → WasTaken (L.bound link_now) false
       → Rose (L.faults link) (L.faults link_now) → L.polls link_now ≡ L.polls link
-      → L.offered link_now ≡ L.offered link → clock_now ≡ clock
+      → L.polled link_now ≡ L.polled link → L.offered link_now ≡ L.offered link → clock_now ≡ clock
       → AsksLive L C port status link link_now clock clock_now Done
   unready : status ≡ 7 → IsBind (L.bound link) (L.bound link_now) port → WasTaken (L.bound link_now) true
       → KeepsSilent L C link link_now clock clock_now
@@ -171,22 +181,24 @@ pub record ShowsEnd (ran : Ran) (before after : Option (List ℕ)) (status : ℕ
 
 -- What a run over a link and a clock hears, offers and shows. The node began, at the next moment of the clock, with
 -- this application. The entries of its run are those of so many cycles, each at most 16 datagrams and then a tick: over
--- the polls of the link and the moments behind the opening one, where these are told, and the ones behind them are
--- still to come. Each datagram that was sent was offered, in their order; behind each cycle it slept until as many
--- periods were over as cycles were done, from the moment of the first tick on.
+-- the polls of the link, where these are told, and over the moments behind the opening one, where these are; and the
+-- ones behind them are still to come. Each datagram that was sent was offered, in their order, and what an event sent
+-- before the next poll; behind each cycle, before the next moment is asked, it slept until as many periods were over as
+-- cycles were done, from the moment of the first tick on.
 pub record RunsLive {U V : Type 0} (L : LinkGhosts U) (C : ClockGhosts V) (asked : RunAsked) (code : Code)
     (users : List User) (secret : List ℕ) (a : Application) (ran : Ran) (before after : Option (List ℕ)) (status : ℕ)
     (link link_now : U) (clock clock_now : V) : Type 0 where
   pub moment : ℤ
   pub moment_is : IfSome (C.moments clock) (λ to_come. moment ≡ next_moment to_come)
   pub is_run : IsRunFrom moment asked.node.turns code users secret a ran
-  pub entries_are : AreLive (L.polls link) (behind_opening (C.moments clock)) asked.cycles ran.entries
-  pub rounds_are : AreRounds asked.cycles ran.entries
+  pub rounds : List LiveCycle
+  pub rounds_are : AreRounds (L.polls link) (behind_opening (C.moments clock)) asked.cycles rounds ran.entries
   pub shows : ShowsEnd ran before after status
-  pub sent : List Datagram
-  pub sends : AreTexts (reached ran).sent sent
-  pub offered_are : AddsWhereTold (L.offered link) (L.offered link_now) (map offered_as sent)
-  pub sleeps : Sleeps (behind_opening (C.moments clock)) asked.cycles asked.period (C.asked clock) (C.asked clock_now)
+  pub sents : List (List Datagram)
+  pub texts : AreTextsByEvent (sent_in ran) sents
+  pub offered_are : AddsWhereTold (L.offered link) (L.offered link_now) (offers (polls_at (L.polled link) rounds) sents)
+  pub sleeps : Sleeps (behind_opening (C.moments clock)) (one_more (C.given clock)) asked.cycles asked.period
+      (C.asked clock) (C.asked clock_now)
   pub left : IsLeft asked.cycles (L.polls link) (L.polls link_now) (behind_opening (C.moments clock))
       (C.moments clock_now)
 
@@ -198,12 +210,12 @@ pub record RunsReady {T U V : Type 0} (D : DiskGhosts T) (L : LinkGhosts U) (C :
   pub ran : Ran
   pub is_run : IsRunFrom moment turns code users secret a ran
   pub is_ran : IsRan D.meaning ran disk disk_now
-  pub entries_are : AreLive (L.polls link) (C.moments clock) cycles ran.entries
-  pub rounds_are : AreRounds cycles ran.entries
+  pub rounds : List LiveCycle
+  pub rounds_are : AreRounds (L.polls link) (C.moments clock) cycles rounds ran.entries
   pub puts : EndsPut (end_text ran.code (reached ran)) before after faults_before faults_after status
-  pub sent : List Datagram
-  pub sends : AreTexts (reached ran).sent sent
-  pub offered_are : AddsWhereTold (L.offered link) (L.offered link_now) (map offered_as sent)
+  pub sents : List (List Datagram)
+  pub texts : AreTextsByEvent (sent_in ran) sents
+  pub offered_are : AddsWhereTold (L.offered link) (L.offered link_now) (offers (polls_at (L.polled link) rounds) sents)
 
 -- So it runs on a disk, with an application that is given.
 pub record RunsOn {T U V : Type 0} (D : DiskGhosts T) (L : LinkGhosts U) (C : ClockGhosts V) (asked : RunAsked)

@@ -57,7 +57,8 @@ fn run_ready<E: Engine, L: Link, C: Clock, D: Disk, O: Sink>(
         → IsReady E.Engine moment turns code users secret a ready.0
         → RunsReady D.Disk L.Link C.Clock moment turns code users secret a cycles (O.text out.old) (O.text out.new)
         (O.faults out.old) (O.faults out.new) (number_of result) link.old link.new clock.old disk.old disk.new }
-    ensures sleeps { Sleeps (C.moments clock.old) cycles period (C.asked clock.old) (C.asked clock.new) }
+    ensures sleeps { Sleeps (C.moments clock.old) (C.given clock.old) cycles period (C.asked clock.old)
+        (C.asked clock.new) }
     ensures left { IsLeft cycles (L.polls link.old) (L.polls link.new) (C.moments clock.old) (C.moments clock.new) }
     ensures bound { L.bound link.new ≡ L.bound link.old }
 {

@@ -111,9 +111,10 @@ fn command<F: Files, L: Link, C: Clock, D: Disk, O: Sink>(
 /// The outside is asked in the order of the steps of a command until one is refused; the first refusal counts. Each
 /// status has a line or a text, which goes to the sink; where the sink fails, a front of it. The status of a refusal
 /// stays where its line could not be put. No file changes but the output file of `gen`, which is written last and may
-/// hold any bytes where that failed; and the store, which a command attaches exactly where its steps come to it, once
-/// and by the name given. A command without a store leaves the disk. `run` asks for its port exactly where its steps
-/// come to the link, once, and runs only where it is taken; no other command asks anything of the link or the clock.
+/// hold any bytes where that failed; and the store, which a command attaches exactly where its steps come to it, once,
+/// by the name given and before anything else is asked of the disk. A command without a store leaves the disk. `run`
+/// asks for its port exactly where its steps come to the link, once, and runs only where it is taken; no other command
+/// asks anything of the link or the clock.
 pub fn sedona<F: Files, L: Link, C: Clock, D: Disk, O: Sink>(
     alloc: Global,
     words: &[String],
@@ -149,12 +150,13 @@ pub fn sedona<F: Files, L: Link, C: Clock, D: Disk, O: Sink>(
         Leaves F.Files D.Disk command files.old files.new disk.old disk.new) }
 
     // What the files and the disk are told to make of a command is what it is answered with, where nothing failed of
-    // which this depends. A port that is not taken is told by status 10.
+    // which this depends. A disk that fails before a node runs is told by status 4, and a port that is not taken by 10.
+    // A save that fails in a run ends nothing: such a run has status 0, 7 or 8.
     ensures comes { OnCommand (texts words.now) (λ command. (asks : List Ask) (end : Result (List ℕ) TheRefusal) →
         AreKnown (F.known files.old) (reads_in asks) → AreToldOf (D.meaning disk.old) asks → Comes command asks end →
         DidNotFail (F.failed_reads files.old) (F.failed_reads files.new) (reads_in asks) →
         DidNotFailToWrite (F.failed_writes files.old) (F.failed_writes files.new) asks →
-        (Rose (D.meaning disk.old).faults (D.meaning disk.new).faults → ⊥) → (result ≡ 10 → ⊥) →
+        (result ≡ 4 → ⊥) → (result ≡ 10 → ⊥) →
         Follows (O.faults out.old) (O.faults out.new) end result) }
 
     // 3: wherever a count of failed reads or of failed writes moved.
@@ -185,14 +187,15 @@ pub fn sedona<F: Files, L: Link, C: Clock, D: Disk, O: Sink>(
     // and to none before the last one acknowledged. 5 comes only where it opens to none.
     ensures replayed { OnCommand (texts words.now) (λ command. (asked : NodeAsked) (file : List ℕ) →
         command ≡ Replay asked file → IsOneOf (0 ∷ 8 ∷ []) result →
-        ReplayedBy F.Files asked file files.old files.new (D.meaning disk.old) (D.meaning disk.new)
+        ReplayedBy F.Files D.Disk asked file files.old files.new disk.old disk.new
         (O.text out.old) (O.text out.new) result) }
     ensures holds_none { OnCommand (texts words.now) (λ command. (asked : NodeAsked) (file : List ℕ) →
         command ≡ Replay asked file → result ≡ 5 → IsTrue (D.meaning disk.old).tells →
         HoldsNone F.Files asked file files.old files.new (D.meaning disk.old)) }
     // What `run` puts is what stands at the end of a run from the application that its store opens to, from the clock's
-    // next moment on, over the polls of the link and the moments behind that one; with 8 a front of it. What was sent
-    // is what was offered, and it slept by its period. Of the store the same holds as of `replay`.
+    // next moment on, over the polls of the link and the moments behind that one; with 8 a front of it. What an event
+    // sent was offered before the next poll, and behind each cycle it slept by its period, before the next moment was
+    // asked. Of the store the same holds as of `replay`.
     ensures ran { OnCommand (texts words.now) (λ command. (asked : RunAsked) →
         command ≡ Run asked → IsOneOf (0 ∷ 8 ∷ []) result →
         RanBy F.Files D.Disk L.Link C.Clock asked files.old files.new link.old link.new clock.old clock.new

@@ -22,12 +22,23 @@ pub fn lives(case: &mut Case) {
         do_call(case, &mut link, &mut clock, call);
     }
     case.put(b"offered ");
-    for datagram in link.offered() {
-        tell_datagram(case, datagram.peer, datagram.bytes.as_bytes());
+    for offer in link.offered() {
+        put_datagram(case, offer.datagram.peer, offer.datagram.bytes.as_bytes());
+        case.put(b"@");
+        case.say(&offer.polled);
+        case.put(b" ");
     }
     tell(case, &link.offered_more());
-    case.put(b"asked ");
-    tell(case, &clock.asked());
+    case.put(b"asked [");
+    let mut behind: &[u8] = b"";
+    for sleep in clock.asked() {
+        case.put(behind);
+        case.say(&sleep.moment);
+        case.put(b"@");
+        case.say(&sleep.given);
+        behind = b", ";
+    }
+    case.put(b"] ");
     case.show(&clock.asked_more());
 }
 
@@ -86,10 +97,14 @@ fn datagram_of(case: &mut Case, text: &str) -> (Addr, Vec<u8>) {
     (here(case.parsed(port)), case.bytes_in(bytes, 0))
 }
 
-fn tell_datagram(case: &mut Case, peer: Addr, bytes: &[u8]) {
+fn put_datagram(case: &mut Case, peer: Addr, bytes: &[u8]) {
     case.show(&peer);
     case.put(b"=");
     case.hex(bytes);
+}
+
+fn tell_datagram(case: &mut Case, peer: Addr, bytes: &[u8]) {
+    put_datagram(case, peer, bytes);
     case.put(b" ");
 }
 

@@ -1,7 +1,7 @@
 use Rattle.std.proofs.Common.{◌∙◌, ◌+◌, ◌*◌, ◌≤◌, sym, subst, ℕ, length, [], ◌∷◌, IsTrue, arith}
 use Rattle.disk_model.specs.Disk.{Image}
 use Rattle.app_save.specs.Making.{IsBlank}
-use Rattle.app_save.proofs.Moments.{then_time, then_during, at_end}
+use Rattle.app_save.proofs.Moments.{then_time, then_during, then_marks, at_end}
 use Rattle.app_save.proofs.Made.{made_done, none_longer}
 use Rattle.app_save.proofs.making.write_store.Goals as goal
 
@@ -48,3 +48,19 @@ returns-clause-bound g c told short =
     (none_longer end 6 c.args.payload.now a b d (omega (arith, fits)) to_b header (c.write_through.ensures.lands told_b).during) in
     then_during a d e (λ (i : Image). length i ≤ end) told to_d c.write_through-2.ensures.time body
     (none_longer end 0 (0xa5 ∷ []) a d e (omega arith) to_d body (c.write_through-2.ensures.lands told_d).during)
+
+pub returns-clause-marks : goal.returns-clause-marks
+returns-clause-marks g c =
+    let a = g.D.Disk.meaning c.args.disk.now in
+    let z0 = g.D.Disk.meaning c.write_zeros.new.disk in
+    let z = g.D.Disk.meaning c.sync.new.self in
+    let b = g.D.Disk.meaning c.write_at.new.self in
+    let d = g.D.Disk.meaning c.write_through.new.disk in
+    let e = g.D.Disk.meaning c.write_through-2.new.disk in
+    let to_z = then_time a z0 z c.write_zeros.ensures.time c.sync.ensures.time in
+    let to_b = then_time a z b to_z c.write_at.ensures.time in
+    let to_d = then_time a b d to_b c.write_through.ensures.time in
+    let zeros = then_marks a z0 z 0 c.write_zeros.ensures.time c.sync.ensures.time c.write_zeros.ensures.marks c.sync.ensures.marks in
+    let header = then_marks a z b 0 to_z c.write_at.ensures.time zeros c.write_at.ensures.marks in
+    let body = then_marks a b d 0 to_b c.write_through.ensures.time header c.write_through.ensures.marks in
+    then_marks a d e 0 to_d c.write_through-2.ensures.time body c.write_through-2.ensures.marks

@@ -2,6 +2,7 @@ use Rattle.std.proofs.Common.{◌≡◌, ◌∙◌, ◌+◌, ◌++◌, ℕ, leng
 use Rattle.std.proofs.lemmas.List.{take_at}
 use Rattle.app_save.specs.Slots.{IsFound}
 use Rattle.app_save.proofs.Entries.{run_begins}
+use Rattle.app_save.proofs.Moments.{then_synced}
 use Rattle.app_save.proofs.Opened.{opened, all_opened}
 use Rattle.app_save.proofs.opening.open.Goals as goal
 
@@ -47,3 +48,7 @@ returns-clause-run g c told =
     let opens = opened c.with_slot.result a.content b.content c.in-Some.found _ (subst (λ o. IfSome o (IsFound a.content)) c.in-Some.is (c.in_ok-found.ensures.found told)) settled.kept c.with_slot.ensures read in
     run_begins c.with_slot.result _ (g.D.Disk.meaning c.read.new.self)
     (all_opened c.with_slot.result _ a.content b (g.D.Disk.meaning c.read.new.self) opens settled.kept settled.rests c.read.ensures.time (c.read.ensures.keeps told_b))
+
+pub returns-clause-syncs : goal.returns-clause-syncs
+returns-clause-syncs g c = λ not.
+    then_synced (g.D.Disk.meaning c.args.disk.now) (g.D.Disk.meaning c.find.new.disk) (g.D.Disk.meaning c.read.new.self) c.find.ensures.time c.in_ok-found.ensures.syncs c.read.ensures.syncs

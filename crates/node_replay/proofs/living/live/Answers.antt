@@ -6,10 +6,11 @@ returns-clause-lived g c = λ n stands.
     let all = c.live-ended.ensures.lives n stands in
     record {
       entries = all.entries;
-      entries_are = all.entries_are;
+      rounds = all.rounds;
       rounds_are = all.rounds_are;
       events = all.events;
-      sent = all.sent;
+      sents = all.sents;
+      texts = all.texts;
       runs = all.runs;
       offered_are = all.offered_are;
       puts = put_behind g.E.Engine g.O.Sink _ _ c.live-ended.new.self n all.events c.live-ended.result c.args.out.now

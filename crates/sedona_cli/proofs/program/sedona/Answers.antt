@@ -44,13 +44,13 @@ returns-in-Some-clause-answered g c = λ command is.
     (subst (λ (k : Command). AsksOf g.F.Files g.D.Disk (output_of k) c.args.files.now c.command.new.files c.args.disk.now c.command.new.disk (λ asks. IsAnswer k asks (g.O.Sink.text c.args.out.now) (g.O.Sink.text c.command.new.out) (g.O.Sink.faults c.args.out.now) (g.O.Sink.faults c.command.new.out) (number_of c.command.result))) same c.command.ensures.answered)
 
 pub returns-in-Some-clause-comes : goal.returns-in-Some-clause-comes
-returns-in-Some-clause-comes g c = λ command is told end known told_disk comes unfailed unwritten steady taken.
+returns-in-Some-clause-comes g c = λ command is told end known told_disk comes unfailed unwritten attached taken.
     let asked = asked_command c.in-Some.asked in
     let same : asked ≡ command = same_command asked command (read_as c.in-Ok.asked c.in-Some.asked (command_asked (texts c.args.words.now)) c.in-Some.is c.in-Ok.ensures.command ∙ is) in
     let all = all_asked g.F.Files g.D.Disk (output_of asked) c.args.files.now c.command.new.files c.args.disk.now c.command.new.disk _ c.command.ensures.answered in
     let here = subst (λ (k : Command). Comes k told end) (sym same) comes in
     subst (λ (n : ℕ). Follows (g.O.Sink.faults c.args.out.now) (g.O.Sink.faults c.command.new.out) end n) (sym c.number.ensures)
-    (elim (all_bound asked all.asks _ _ _ _ _ all.holds (λ ten. taken (c.number.ensures ∙ ten))) [
+    (elim (all_bound asked all.asks _ _ _ _ _ all.holds (λ ten. taken (c.number.ensures ∙ ten)) (λ four. attached (c.number.ensures ∙ four))) [
       | inl seven ↦ seven_follows (g.O.Sink.faults c.args.out.now) (g.O.Sink.faults c.command.new.out) _ end seven
       | inr bound ↦
           answer_follows asked all.asks told _ _ _ _ _ end (c.one_end.ensures asked) here
@@ -58,7 +58,7 @@ returns-in-Some-clause-comes g c = λ command is told end known told_disk comes 
             reads = known_agree (g.F.Files.known c.args.files.now) (g.F.Files.failed_reads c.args.files.now) (g.F.Files.failed_reads c.command.new.files) (reads_in all.asks) (reads_in told) all.given all.counts.rose known unfailed;
             rest = disk_agrees (record { slot = c.stores_open_to_one.ensures.slot; payload = c.stores_open_to_one.ensures.payload }) g.D.Disk (g.D.Disk.meaning c.args.disk.now) all.asks told c.args.disk.now c.command.new.disk
                 (writes_known g.F.Files (output_of asked) c.args.files.now c.command.new.files all.asks told (λ none. nothing_written asked told end none here) all.writes unwritten)
-                bound all.asked told_disk (record { told = refl; content = λ tells. refl }) steady;
+                bound all.asked told_disk (record { told = refl; content = λ tells. refl });
           }) all.holds
     ])
 
@@ -152,7 +152,7 @@ pub returns-in-Some-clause-replayed : goal.returns-in-Some-clause-replayed
 returns-in-Some-clause-replayed g c = λ command is node file replay at.
     let asked = asked_command c.in-Some.asked in
     let same : asked ≡ command = same_command asked command (read_as c.in-Ok.asked c.in-Some.asked (command_asked (texts c.args.words.now)) c.in-Some.is c.in-Ok.ensures.command ∙ is) in
-    subst (λ (n : ℕ). ReplayedBy g.F.Files node file c.args.files.now c.command.new.files (g.D.Disk.meaning c.args.disk.now) (g.D.Disk.meaning c.command.new.disk) (g.O.Sink.text c.args.out.now) (g.O.Sink.text c.command.new.out) n) (sym c.number.ensures)
+    subst (λ (n : ℕ). ReplayedBy g.F.Files g.D.Disk node file c.args.files.now c.command.new.files c.args.disk.now c.command.new.disk (g.O.Sink.text c.args.out.now) (g.O.Sink.text c.command.new.out) n) (sym c.number.ensures)
     (replayed_by g.F.Files g.D.Disk (record { slot = c.stores_open_to_one.ensures.slot; payload = c.stores_open_to_one.ensures.payload }) (λ x. g.met.D.Disk.is_disk x)
     c.args.files.now c.command.new.files c.args.disk.now c.command.new.disk node file _ _ (g.O.Sink.faults c.args.out.now) (g.O.Sink.faults c.command.new.out) _
     (subst (λ (n : ℕ). IsOneOf (0 ∷ 8 ∷ []) n) c.number.ensures at)

@@ -20,9 +20,11 @@ returns-in-Ok-clause-asks g c =
       content = c.open.ensures.content;
       time = c.open.ensures.time;
       marks = c.open.ensures.marks;
+      syncs = c.open.ensures.syncs;
       attached = c.open.ensures.attached;
       not_a_store = c.open.ensures.not_a_store;
       cause = c.open.ensures.cause;
+      calls = c.open.ensures.calls;
     })))
 
 pub returns-in-Err-NotAStore-clause-asks : goal.returns-in-Err-NotAStore-clause-asks
@@ -36,9 +38,11 @@ returns-in-Err-NotAStore-clause-asks g c =
       content = c.open.ensures.content;
       time = c.open.ensures.time;
       marks = c.open.ensures.marks;
+      syncs = c.open.ensures.syncs;
       attached = c.open.ensures.attached;
       not_a_store = c.open.ensures.not_a_store;
       cause = c.open.ensures.cause;
+      calls = c.open.ensures.calls;
     }))
 
 pub returns-in-Err-Device-clause-asks : goal.returns-in-Err-Device-clause-asks
@@ -52,9 +56,11 @@ returns-in-Err-Device-clause-asks g c =
       content = c.open.ensures.content;
       time = c.open.ensures.time;
       marks = c.open.ensures.marks;
+      syncs = c.open.ensures.syncs;
       attached = c.open.ensures.attached;
       not_a_store = c.open.ensures.not_a_store;
       cause = c.open.ensures.cause;
+      calls = c.open.ensures.calls;
     }))
 
 pub returns-in-Err-Memory-clause-asks : goal.returns-in-Err-Memory-clause-asks
@@ -68,9 +74,11 @@ returns-in-Err-Memory-clause-asks g c =
       content = c.open.ensures.content;
       time = c.open.ensures.time;
       marks = c.open.ensures.marks;
+      syncs = c.open.ensures.syncs;
       attached = c.open.ensures.attached;
       not_a_store = c.open.ensures.not_a_store;
       cause = c.open.ensures.cause;
+      calls = c.open.ensures.calls;
     }))
 
 pub returns-in-Ok-clause-slots : goal.returns-in-Ok-clause-slots

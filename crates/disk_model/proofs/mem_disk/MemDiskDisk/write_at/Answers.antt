@@ -1,10 +1,9 @@
-use Rattle.std.proofs.Common.{ap, refl, sym, subst}
+use Rattle.std.proofs.Common.{ap, refl}
 use Rattle.disk_model.specs.Replay.{wrote}
 use Rattle.disk_model.specs.Recorded.{calls_of}
 use Rattle.disk_model.proofs.Entries.{write_entry, unwritten}
 use Rattle.disk_model.proofs.Steps.{call_time, call_marks, call_syncs, call_writes, failed_write}
 use Rattle.disk_model.proofs.Tried.{history, idle_tried, recorded_write}
-use Rattle.sed_outside.specs.Failing.{FailsNow}
 use Rattle.disk_model.proofs.Fits.{has_room, has_bytes}
 use Rattle.disk_model.proofs.mem_disk.MemDiskDisk.write_at.Goals as goal
 
