@@ -1,16 +1,19 @@
 //! The rows of the program: what `sedona` answers over a world in memory, what it leaves of the disk and asks of the
-//! link and the clock; what crashes within saves leave; and a child process that runs a node, to which a client speaks.
+//! link and the clock; images that are written; what crashes within saves leave; and a child process that runs a node,
+//! to which a client speaks.
 //!
 //! With words this program is that child, and does what they ask for over the system's files, link, clock and disk.
 #![tactic(auto)]
 
 mod child;
 mod crashes;
+mod images;
 mod watched;
 mod world;
 
 use crate::child::child;
 use crate::crashes::crashes;
+use crate::images::images;
 use crate::world::{World, door};
 use disk_model::FileDisk;
 use live_outside::{RealClock, UdpLink};
@@ -72,12 +75,13 @@ fn generated(case: &mut Case) {
 }
 
 // The tables, in the order in which they run.
-const TABLES: [&str; 7] = [
+const TABLES: [&str; 8] = [
     "commands",
     "stores",
     "replays",
     "lives",
     "generated",
+    "images",
     "crashes",
     "children",
 ];
@@ -85,6 +89,7 @@ const TABLES: [&str; 7] = [
 fn outcome(rt: &HostRuntime, name: &str, case: &mut Case) {
     match name {
         "generated" => generated(case),
+        "images" => images(case),
         "crashes" => crashes(case),
         "children" => child(rt, case),
         _ => commands(case),

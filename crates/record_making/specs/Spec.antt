@@ -1,8 +1,7 @@
--- What a record is generated of, for a program.
+-- What a record is generated of, for a code.
 use Rattle.std.specs.Prelude.{ℕ, ◌≤◌, List, [], ◌∷◌, Option, IsSomeAnd}
 use Rattle.std.specs.Option.{option_map}
-use Rattle.sed_typed.specs.declared.program.Program.{Program}
-use Rattle.sed_engine.specs.Program.{meaning_of}
+use Rattle.sed_engine.specs.Code.{Meaning}
 use Rattle.dasp_users.specs.declared.user.User.{User}
 use Rattle.dasp_users.specs.Digest.{nonce_of, digest_of}
 use Rattle.dasp_users.specs.UsersFile.{credential_of}
@@ -41,13 +40,13 @@ spec_with asked user digests types = record {
   types = types;
 }
 
--- what the record is generated of: the types are the program's, and there is none for a user who is not among the users
-abbrev pub spec_of : Program → List User → List ℕ → List ℕ → GenAsked → Option GenSpec
-spec_of program users user secret asked =
-    option_map (λ credential. spec_with asked user (wanted_digests secret credential)
-    (drawn_types (meaning_of program))) (credential_of users user)
+-- what the record is generated of: the types are the code's, and there is none for a user who is not among the users
+abbrev pub spec_of : Meaning → List User → List ℕ → List ℕ → GenAsked → Option GenSpec
+spec_of m users user secret asked =
+    option_map (λ credential. spec_with asked user (wanted_digests secret credential) (drawn_types m))
+    (credential_of users user)
 
--- the bytes are the record that is generated for a program, as a user
-abbrev pub IsRecordOf : Program → List User → List ℕ → List ℕ → GenAsked → List ℕ → Type 0
-IsRecordOf program users user secret asked bytes =
-    IsSomeAnd (spec_of program users user secret asked) (λ spec. IsGenerated spec bytes)
+-- the bytes are the record that is generated for a code, as a user
+abbrev pub IsRecordOf : Meaning → List User → List ℕ → List ℕ → GenAsked → List ℕ → Type 0
+IsRecordOf m users user secret asked bytes =
+    IsSomeAnd (spec_of m users user secret asked) (λ spec. IsGenerated spec bytes)

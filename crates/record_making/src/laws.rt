@@ -1,6 +1,6 @@
-//! Laws of the records that are generated for programs. Each is the contract of a function that does nothing.
+//! Laws of the records that are generated for codes. Each is the contract of a function that does nothing.
 ghost use Rattle.std.specs.Prelude.{◌≡◌, ℕ, List, Some, IsTrue};
-ghost use Rattle.sed_typed.specs.declared.program.Program.{Program};
+ghost use Rattle.sed_engine.specs.Code.{Meaning};
 ghost use Rattle.dasp_users.specs.declared.user.User.{User};
 ghost use Rattle.dasp_users.specs.Digest.{nonce_of};
 ghost use Rattle.dasp_users.specs.UsersFile.{credential_of};
@@ -11,10 +11,10 @@ ghost use Rattle.record_making.specs.Spec.{IsRecordOf, wanted_digest};
 
 use replay_log::generated_records_are_one;
 
-/// One record at most is generated for a program, its users, a user, a secret and what is asked.
-pub fn generated_records_of_programs_are_one()
-    ensures { (program : Program) (users : List User) (user secret : List ℕ) (asked : GenAsked) (bytes others : List ℕ)
-        → IsRecordOf program users user secret asked bytes → IsRecordOf program users user secret asked others
+/// One record at most is generated for a code, for users, a user, a secret and what is asked.
+pub fn generated_records_of_codes_are_one()
+    ensures { (m : Meaning) (users : List User) (user secret : List ℕ) (asked : GenAsked) (bytes others : List ℕ)
+        → IsRecordOf m users user secret asked bytes → IsRecordOf m users user secret asked others
         → bytes ≡ others }
 {
     generated_records_are_one();

@@ -1,10 +1,10 @@
-//! The record that is generated for a program.
+//! The record that is generated for a code.
 //!
-//! `generated` makes a record of two sessions that build and edit an application of a program, as a user of a node.
-//! What `replay_log` generates it of is fixed by the program and by what is asked: the types of which components are
-//! added are the program's, with the values that their properties begin with, and the digests are those that a node
-//! with the secret and the users wants of the first two sessions that it makes. So a record is one, which is a law
-//! here. The values are read off new objects of an engine. What writes such a record into a file stands on this crate.
+//! `generated` makes a record of two sessions that build and edit an application of a code, as a user of a node. What
+//! `replay_log` generates it of is fixed by the code and by what is asked: the types of which components are added are
+//! the code's, with the values that their properties begin with, and the digests are those that a node with the secret
+//! and the users wants of the first two sessions that it makes. So a record is one, which is a law here. The values are
+//! read off new objects of an engine, whichever that is. What writes such a record into a file stands on this crate.
 #![tactic(auto)]
 
 mod asked;
@@ -16,6 +16,6 @@ mod refusal;
 mod types;
 
 pub use asked::GenAsked;
-pub use laws::{digests_are_proofs, generated_records_of_programs_are_one};
+pub use laws::{digests_are_proofs, generated_records_of_codes_are_one};
 pub use making::generated;
 pub use refusal::RecordRefusal;

@@ -1,10 +1,7 @@
--- What is printed of the first class of a program after its cycles.
-use Rattle.std.specs.Prelude.{ℕ, List, []}
+-- What is printed of the first class of a code after its cycles.
+use Rattle.std.specs.Prelude.{ℕ, IsSomeAnd, IsTrue, List, []}
 use Rattle.std.specs.Option.{option_map_or}
-use Rattle.sed_typed.specs.declared.program.Program.{Program}
-use Rattle.sed_typed.specs.Initial.{initial_statics}
-use Rattle.sed_engine.specs.Code.{Meaning}
-use Rattle.sed_engine.specs.Program.{meaning_of}
+use Rattle.sed_engine.specs.Code.{Meaning, is_creatable}
 use Rattle.sed_engine.specs.Runnable.{first_class}
 use Rattle.component_run.specs.Alone.{Alone, after_cycles, begun, component_text}
 
@@ -12,16 +9,17 @@ use Rattle.component_run.specs.Alone.{Alone, after_cycles, begun, component_text
 abbrev pub turns : ℕ
 turns = 10000
 
+-- The first class of a code is there, and there may be objects of it.
+abbrev pub CanRun : Meaning → Type 0
+CanRun m = IsSomeAnd (first_class m.schema) (λ class. IsTrue (is_creatable m class))
+
 -- a component of a class after so many cycles
-abbrev pub component_after : Program → ℕ → ℕ → Alone
-component_after program cycles class =
-    after_cycles (meaning_of program) turns cycles (begun (meaning_of program) class (initial_statics program))
+abbrev pub component_after : Meaning → ℕ → ℕ → Alone
+component_after m cycles class = after_cycles m turns cycles (begun m class m.initial_statics)
 
 abbrev pub printed : Meaning → Alone → List ℕ
 printed m a = component_text m a.object a.fault
 
 -- the component of the first class, as it is printed after so many cycles
-abbrev pub text_after : Program → ℕ → List ℕ
-text_after program cycles =
-    option_map_or (λ class. printed (meaning_of program) (component_after program cycles class))
-    (first_class program.schema) []
+abbrev pub text_after : Meaning → ℕ → List ℕ
+text_after m cycles = option_map_or (λ class. printed m (component_after m cycles class)) (first_class m.schema) []

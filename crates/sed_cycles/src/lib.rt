@@ -1,6 +1,6 @@
-//! The cycles of the first class of a program, as they are printed.
+//! The cycles of the first class of a code, as they are printed.
 //!
-//! The program is walked; a component of its first class stands alone and is executed once a cycle.
+//! A component of the first class stands alone in an engine, and is executed once a cycle.
 #![tactic(auto)]
 
 mod cycles;

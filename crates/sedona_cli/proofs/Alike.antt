@@ -10,12 +10,13 @@ use Rattle.comp_tree.specs.Application.{Application}
 use Rattle.app_file.specs.Reading.{CanBeTold, IsReadAs, Reading}
 use Rattle.file_steps.specs.Steps.{Read, AndThen, Decides, stops, goes_on, Agree}
 use Rattle.file_steps.proofs.One.{agree_back, agree_front}
+use Rattle.sed_kits.specs.Loading.{Told}
 use Rattle.sed_kits.specs.Refusals.{AreAlike}
 use Rattle.sedona_cli.specs.declared.refusal.Refusal.{Refusal}
 use Rattle.sedona_cli.specs.Agree.{AgreeOn, OpensAs, Pointwise}
 use Rattle.sedona_cli.specs.Outside.{Ask, Attaches, Opens, Opened, Found, NotAStore, Unread, read_of, reads_in, of_reads}
 use Rattle.sedona_cli.specs.Program.{refusal_by}
-use Rattle.sedona_cli.specs.Steps.{OfFiles}
+use Rattle.sedona_cli.specs.Steps.{OfFiles, OfReads}
 use Rattle.sedona_cli.specs.Store.{AppRead, IsRead, StoreAttached, StoreOpened, application_in}
 use Rattle.sedona_cli.proofs.AlikeFiles.{programs_read_alike}
 use Rattle.sedona_cli.proofs.Asking.{reads_of_reads}
@@ -226,15 +227,19 @@ agree_behind reads back rest agree = record {
     parts : (b : List Ask) → reads_in (of_reads reads ++ b) ≡ reads ++ reads_in b
     parts b = flat_map-append read_of (of_reads reads) b ∙ ap (λ (l : List Read). l ++ reads_in b) (reads_of_reads reads)
 
-pub files_alike : {E X : Type 0} (told : E → Refusal) (step : List Read → Result X E → Type 0) (A : X → X → Type 0) → FilesOne told step A → EndsAlike (OfFiles told step) (OfFiles told step) A
-files_alike {E} {X} told step A one = record {
+-- a step of reads whose refusals are the command's own
+abbrev pub ReadsAlike : {X : Type 0} → (List Read → Result X Refusal → Type 0) → (X → X → Type 0) → Type 0
+ReadsAlike step A = FilesOne (λ (r : Refusal). r) step A
+
+pub reads_alike : {X : Type 0} (step : List Read → Result X Refusal → Type 0) (A : X → X → Type 0) → ReadsAlike step A → EndsAlike (OfReads step) (OfReads step) A
+reads_alike {X} step A one = record {
   stop = λ asks others r s h k agree.
       let agrees = agree_fronts h.0 k.0 [] [] asks others (alone asks h.0 h.1) (alone others k.0 k.1) agree.reads in
-      h.2.2 ∙ (one h.0 k.0 (Err h.2.0) (Err k.2.0) h.2.1 k.2.1 agrees).1 ∙ sym k.2.2;
+      (one h.0 k.0 (Err r) (Err s) h.2 k.2 agrees).1;
   stop_go = λ asks front back r y h k agree.
-      (one h.0 k.0 (Err h.2.0) (Ok y) h.2.1 k.2 (agree_fronts h.0 k.0 [] back asks (front ++ back) (alone asks h.0 h.1) (behind_reads front back k.0 k.1) agree.reads)).1;
+      (one h.0 k.0 (Err r) (Ok y) h.2 k.2 (agree_fronts h.0 k.0 [] back asks (front ++ back) (alone asks h.0 h.1) (behind_reads front back k.0 k.1) agree.reads)).1;
   go_stop = λ front back others x s h k agree.
-      (one h.0 k.0 (Ok x) (Err k.2.0) h.2 k.2.1 (agree_fronts h.0 k.0 back [] (front ++ back) others (behind_reads front back h.0 h.1) (alone others k.0 k.1) agree.reads)).1;
+      (one h.0 k.0 (Ok x) (Err s) h.2 k.2 (agree_fronts h.0 k.0 back [] (front ++ back) others (behind_reads front back h.0 h.1) (alone others k.0 k.1) agree.reads)).1;
   go = λ front back others rest x y h k agree.
       let is = behind_reads front back h.0 h.1 in
       let are = behind_reads others rest k.0 k.1 in
@@ -245,6 +250,18 @@ files_alike {E} {X} told step A one = record {
             (agree_left (front ++ back) (of_reads h.0 ++ back) (others ++ rest) is agree)),
       );
 }
+
+-- those of a step of files, as the command tells them
+told_one : {E X : Type 0} (told : E → Refusal) (step : List Read → Result X E → Type 0) (A : X → X → Type 0) → FilesOne told step A → ReadsAlike (Told told step) A
+told_one {E} {X} told step A one reads others (Ok x) (Ok y) h k agree = one reads others (Ok x) (Ok y) h k agree
+told_one {E} {X} told step A one reads others (Err r) (Err s) h k agree =
+    let same = one reads others (Err h.0) (Err k.0) h.1 k.1 agree in
+    (same.0, h.2 ∙ same.1 ∙ sym k.2)
+told_one {E} {X} told step A one reads others (Ok x) (Err s) h k agree = absurd (one reads others (Ok x) (Err k.0) h k.1 agree).1
+told_one {E} {X} told step A one reads others (Err r) (Ok y) h k agree = absurd (one reads others (Err h.0) (Ok y) h.1 k agree).1
+
+pub files_alike : {E X : Type 0} (told : E → Refusal) (step : List Read → Result X E → Type 0) (A : X → X → Type 0) → FilesOne told step A → EndsAlike (OfFiles told step) (OfFiles told step) A
+files_alike told step A one = reads_alike (Told told step) A (told_one told step A one)
 
 -- ---- a store
 

@@ -13,7 +13,7 @@ use Rattle.sed_engine.specs.Program.{meaning_of}
 use Rattle.sed_typed.specs.declared.program.Program.{Program}
 use Rattle.sed_kits.specs.declared.refusal.KitsRefusal.{KitsRefusal}
 use Rattle.sed_kits.specs.declared.refusal.KitsRefusal.TheVariants as kits
-use Rattle.sed_kits.specs.Loading.{KitsLoaded, Told}
+use Rattle.sed_kits.specs.Loading.{KitsLoaded}
 use Rattle.sed_kits.specs.Refusals.{is_want as kits_want}
 use Rattle.new_store.specs.Alone.{AllNew}
 use Rattle.sedona_cli.specs.declared.refusal.Refusal.{Refusal}
@@ -23,10 +23,11 @@ use Rattle.sedona_cli.specs.New.{LeavesNew, NewComes, NewOf, most_data, text_of}
 use Rattle.sedona_cli.specs.Outside.{Ask, Attaches, Makes, Whole, reads_in, of_reads, Spares, AreAsked, AsksDisk, HasAsks}
 use Rattle.sedona_cli.specs.Program.{ComesOrWants, OrWants}
 use Rattle.sedona_cli.specs.Refusals.{is_want, of_kits}
-use Rattle.sedona_cli.specs.Steps.{OfFiles, Prints, done_text}
+use Rattle.sedona_cli.specs.Steps.{Generates, IsGenerated, KitsGenerated, OfReads, Prints, done_text}
 use Rattle.sedona_cli.specs.Store.{StoreAttached, StoreMade}
 use Rattle.sedona_cli.proofs.Asking.{reads_spare, spares_behind, then_disk, both_disk, same_disk}
 use Rattle.sedona_cli.proofs.Ends.{ok_err, one_refusal}
+use Rattle.sedona_cli.proofs.Generated.{done_by, generates, unloaded}
 use Rattle.sedona_cli.proofs.StoreAsked.{Last, last_behind, marks_made}
 
 -- ---- want of memory or not
@@ -48,39 +49,55 @@ nothing_spared store = record { unwritten = refl; attached = inl refl }
 
 -- ---- loading
 
-told_end : (step : List Read → Result Program KitsRefusal → Type 0) (reads : List Read) (inner : KitsRefusal) → UnlessFree kits_want (step reads) (Err inner)
-    → UnlessFree is_want (Told of_kits step reads) (Err (of_kits inner))
-told_end step reads (kits.FileFault file) held = (kits.FileFault file, held, refl)
-told_end step reads (kits.Refused file why) held = (kits.Refused file why, held, refl)
-told_end step reads (kits.Rule file at rule) held = (kits.Rule file at rule, held, refl)
-told_end step reads kits.Memory held = tt
+-- why a program is not loaded, or is not compiled
+unloaded_end : (step : List Read → Result Program KitsRefusal → Type 0) (reads : List Read) (inner : KitsRefusal) → UnlessFree kits_want (step reads) (Err inner)
+    → UnlessFree is_want (Generates step reads) (Err (of_kits inner))
+unloaded_end step reads (kits.FileFault file) held = unloaded step reads (kits.FileFault file) held
+unloaded_end step reads (kits.Refused file why) held = unloaded step reads (kits.Refused file why) held
+unloaded_end step reads (kits.Rule file at rule) held = unloaded step reads (kits.Rule file at rule) held
+unloaded_end step reads kits.Memory held = tt
 
-pub loads : {T : Type 0} (F : FileGhosts T) (a b : T) (step : List Read → Result Program KitsRefusal → Type 0) (program : Program) (r : Result Program KitsRefusal) → r ≡ Ok program
-    → HasReads F a b (λ reads. UnlessFree kits_want (step reads) r) → HasReads F a b (λ reads. UnlessFree is_want (Told of_kits step reads) (Ok program))
-loads F a b step program r is loaded = subst (λ (e : Result Program KitsRefusal). HasReads F a b (λ reads. UnlessFree kits_want (step reads) e)) is loaded
+pub not_loaded : {T : Type 0} (F : FileGhosts T) (a b : T) (step : List Read → Result Program KitsRefusal → Type 0) (r : Result Program KitsRefusal) (inner : KitsRefusal) (refusal : Refusal) → r ≡ Err inner → refusal ≡ of_kits inner
+    → HasReads F a b (λ reads. UnlessFree kits_want (step reads) r) → HasReads F a b (λ reads. UnlessFree is_want (Generates step reads) (Err refusal))
+not_loaded F a b step r inner refusal is same has =
+    subst (λ (e : Refusal). HasReads F a b (λ reads. UnlessFree is_want (Generates step reads) (Err e))) (sym same)
+    (same_reads F a b (λ reads. UnlessFree kits_want (step reads) (Err inner)) (λ reads. UnlessFree is_want (Generates step reads) (Err (of_kits inner))) (λ reads held. unloaded_end step reads inner held)
+    (subst (λ (e : Result Program KitsRefusal). HasReads F a b (λ reads. UnlessFree kits_want (step reads) e)) is has))
+
+generated_end : (step : List Read → Result Program KitsRefusal → Type 0) (reads : List Read) (program : Program) (end : Result Program Refusal) → step reads (Ok program) → UnlessFree is_want (IsGenerated program) end
+    → UnlessFree is_want (Generates step reads) end
+generated_end step reads program (Ok p) loaded held = generates step reads program (Ok p) loaded held
+generated_end step reads program (Err r) loaded held =
+    match_both (is_want r) (Unit {0}) (IsGenerated program (Err r)) (Unit {0}) (Generates step reads (Err r)) (λ any. tt) (λ is. generates step reads program (Err r) loaded is) held
+
+pub is_compiled : {T : Type 0} (F : FileGhosts T) (a b : T) (step : List Read → Result Program KitsRefusal → Type 0) (r : Result Program KitsRefusal) (program : Program) (end : Result Program Refusal) → r ≡ Ok program
+    → HasReads F a b (λ reads. UnlessFree kits_want (step reads) r) → UnlessFree is_want (IsGenerated program) end → HasReads F a b (λ reads. UnlessFree is_want (Generates step reads) end)
+is_compiled F a b step r program end is has held =
+    same_reads F a b (λ reads. UnlessFree kits_want (step reads) (Ok program)) (λ reads. UnlessFree is_want (Generates step reads) end) (λ reads loaded. generated_end step reads program end loaded held)
+    (subst (λ (e : Result Program KitsRefusal). HasReads F a b (λ reads. UnlessFree kits_want (step reads) e)) is has)
 
 -- ---- commands that read alone
 
 -- its text is made
-pub comes_done : {T : Type 0} (F : FileGhosts T) (a b : T) (step : List Read → Result Program KitsRefusal → Type 0) (text : Program → List ℕ) (program : Program)
-    (r : Result Program Refusal) (printed : List ℕ) → r ≡ Ok program → HasReads F a b (λ reads. UnlessFree is_want (Told of_kits step reads) r) → printed ≡ text program
-    → HasReads F a b (λ reads. AndThen (OfFiles of_kits step) (λ p. Prints (text p)) (of_reads reads) (Ok printed))
+pub comes_done : {T : Type 0} (F : FileGhosts T) (a b : T) (step : List Read → Result Program Refusal → Type 0) (text : Program → List ℕ) (program : Program)
+    (r : Result Program Refusal) (printed : List ℕ) → r ≡ Ok program → HasReads F a b (λ reads. UnlessFree is_want (step reads) r) → printed ≡ text program
+    → HasReads F a b (λ reads. AndThen (OfReads step) (λ p. Prints (text p)) (of_reads reads) (Ok printed))
 comes_done F a b step text program r printed is loaded made =
-    same_reads F a b (λ reads. UnlessFree is_want (Told of_kits step reads) r) (λ reads. AndThen (OfFiles of_kits step) (λ p. Prints (text p)) (of_reads reads) (Ok printed))
+    same_reads F a b (λ reads. UnlessFree is_want (step reads) r) (λ reads. AndThen (OfReads step) (λ p. Prints (text p)) (of_reads reads) (Ok printed))
     (λ reads held.
-    let done : step reads (Ok program) = subst (λ (e : Result Program Refusal). UnlessFree is_want (Told of_kits step reads) e) is held in
+    let done : step reads (Ok program) = subst (λ (e : Result Program Refusal). UnlessFree is_want (step reads) e) is held in
     goes_on (of_reads reads) [] program (sym (append-nil (of_reads reads))) (reads, refl, done) (record { none = refl; holds = ap Ok made })) loaded
 
 -- it is refused as it is loaded
-pub comes_refused : {T : Type 0} (F : FileGhosts T) (a b : T) (store : Option (List ℕ)) (step : List Read → Result Program KitsRefusal → Type 0) (next : Program → List Ask → Result (List ℕ) Refusal → Type 0)
-    (r : Result Program Refusal) (refusal : Refusal) → r ≡ Err refusal → HasReads F a b (λ reads. UnlessFree is_want (Told of_kits step reads) r)
-    → HasReads F a b (λ reads. OrWants store (AndThen (OfFiles of_kits step) next) (of_reads reads) (Err refusal))
+pub comes_refused : {T : Type 0} (F : FileGhosts T) (a b : T) (store : Option (List ℕ)) (step : List Read → Result Program Refusal → Type 0) (next : Program → List Ask → Result (List ℕ) Refusal → Type 0)
+    (r : Result Program Refusal) (refusal : Refusal) → r ≡ Err refusal → HasReads F a b (λ reads. UnlessFree is_want (step reads) r)
+    → HasReads F a b (λ reads. OrWants store (AndThen (OfReads step) next) (of_reads reads) (Err refusal))
 comes_refused F a b store step next r refusal is loaded =
-    same_reads F a b (λ reads. UnlessFree is_want (Told of_kits step reads) r) (λ reads. OrWants store (AndThen (OfFiles of_kits step) next) (of_reads reads) (Err refusal))
+    same_reads F a b (λ reads. UnlessFree is_want (step reads) r) (λ reads. OrWants store (AndThen (OfReads step) next) (of_reads reads) (Err refusal))
     (λ reads held.
-    match_both (is_want refusal) (Unit {0}) (Told of_kits step reads (Err refusal)) (Spares store (of_reads reads)) (AndThen (OfFiles of_kits step) next (of_reads reads) (Err refusal))
+    match_both (is_want refusal) (Unit {0}) (step reads (Err refusal)) (Spares store (of_reads reads)) (AndThen (OfReads step) next (of_reads reads) (Err refusal))
     (λ any. reads_spare store reads) (λ told. stops refusal (reads, refl, told) refl)
-    (subst (λ (e : Result Program Refusal). UnlessFree is_want (Told of_kits step reads) e) is held)) loaded
+    (subst (λ (e : Result Program Refusal). UnlessFree is_want (step reads) e) is held)) loaded
 
 -- memory was wanted behind the reads
 pub comes_wanting : {T : Type 0} (F : FileGhosts T) (a b : T) (store : Option (List ℕ)) (P : List Read → Type 0) → HasReads F a b P → HasReads F a b (λ reads. Spares store (of_reads reads))
@@ -180,26 +197,26 @@ made_opens D d e store slot text has told =
 -- ---- the kits, and then that
 
 joined : (names : List (List ℕ)) (store : List ℕ) (slot : ℕ) (program : Program) (end : Result (List ℕ) Refusal) (reads : List Read) (asks : List Ask)
-    → KitsLoaded names reads (Ok program) → OrWants (Some store) (NewOf store slot program) asks end → ComesOrWants (New names store slot) (of_reads reads ++ asks) end
+    → KitsGenerated names reads (Ok program) → OrWants (Some store) (NewOf store slot program) asks end → ComesOrWants (New names store slot) (of_reads reads ++ asks) end
 joined names store slot program (Ok text) reads asks loaded rest = goes_on (of_reads reads) asks program refl (reads, refl, loaded) rest
 joined names store slot program (Err refusal) reads asks loaded rest =
     match_both (is_want refusal) (Spares (Some store) asks) (NewOf store slot program asks (Err refusal)) (Spares (Some store) (of_reads reads ++ asks)) (NewComes names store slot (of_reads reads ++ asks) (Err refusal))
     (λ spared. spares_behind (Some store) reads asks spared) (λ came. goes_on (of_reads reads) asks program refl (reads, refl, loaded) came) rest
 
 pub new_goes : {S T : Type 0} (F : FileGhosts S) (D : DiskGhosts T) (a b : S) (d e : T) (names : List (List ℕ)) (store : List ℕ) (slot : ℕ) (program : Program) (end : Result (List ℕ) Refusal)
-    → HasReads F a b (λ reads. KitsLoaded names reads (Ok program)) → AsksDisk D d e (λ asks. OrWants (Some store) (NewOf store slot program) asks end)
+    → HasReads F a b (λ reads. KitsGenerated names reads (Ok program)) → AsksDisk D d e (λ asks. OrWants (Some store) (NewOf store slot program) asks end)
     → HasAsks F D a b d e (λ asks. ComesOrWants (New names store slot) asks end)
 new_goes F D a b d e names store slot program end loaded rest =
-    then_disk F D a b d e (λ reads. KitsLoaded names reads (Ok program)) (λ asks. OrWants (Some store) (NewOf store slot program) asks end) (λ asks. ComesOrWants (New names store slot) asks end)
+    then_disk F D a b d e (λ reads. KitsGenerated names reads (Ok program)) (λ asks. OrWants (Some store) (NewOf store slot program) asks end) (λ asks. ComesOrWants (New names store slot) asks end)
     (λ reads asks held more. joined names store slot program end reads asks held more) loaded rest
 
 pub new_leaves : {S : Type 0} (F : FileGhosts S) (a b : S) (d e : Meaning) (names : List (List ℕ)) (slot : ℕ) (program : Program) {X : Type 0} (end : Result X Refusal)
-    → HasReads F a b (λ reads. KitsLoaded names reads (Ok program)) → OnOk end (MarksUp d e 1) → (IsTrue d.tells → OnOk end (AllNew slot (meaning_of program) most_data e))
+    → HasReads F a b (λ reads. KitsGenerated names reads (Ok program)) → OnOk end (MarksUp d e 1) → (IsTrue d.tells → OnOk end (AllNew slot (meaning_of program) most_data e))
     → OnOk end (LeavesNew F names slot a b d e)
 new_leaves F a b d e names slot program (Ok x) loaded mark opens = record {
   mark = mark;
-  store = λ told. same_reads F a b (λ reads. KitsLoaded names reads (Ok program))
-      (λ reads. (p : Program) × KitsLoaded names reads (Ok p) × AllNew slot (meaning_of p) most_data e) (λ reads held. (program, held, opens told)) loaded;
+  store = λ told. same_reads F a b (λ reads. KitsGenerated names reads (Ok program))
+      (λ reads. (p : Program) × KitsLoaded names reads (Ok p) × AllNew slot (meaning_of p) most_data e) (λ reads held. (program, (done_by (KitsLoaded names) reads program held).loaded, opens told)) loaded;
 }
 new_leaves F a b d e names slot program (Err refusal) loaded mark opens = tt
 

@@ -8,78 +8,49 @@ use Rattle.comp_tree.specs.Application.{Application}
 use Rattle.printed_app.specs.Application.{application_text}
 use Rattle.file_steps.specs.Steps.{Read, AndThen, stops, goes_on, Agree}
 use Rattle.file_steps.specs.Reads.{failed_names}
-use Rattle.sed_kits.specs.declared.refusal.KitsRefusal.{KitsRefusal}
 use Rattle.sed_kits.specs.Loading.{KitsLoaded, TextLoaded}
 use Rattle.sed_kits.specs.Refusals.{AreAlike}
 use Rattle.sedona_cli.specs.declared.refusal.Refusal.{Refusal}
 use Rattle.sedona_cli.specs.declared.refusal.Refusal.TheVariants.{SlotTooSmall}
 use Rattle.sedona_cli.specs.Agree.{AgreeOn, Pointwise, failed_by, failed_calls}
-use Rattle.sedona_words.specs.Command.{Command, Cycles, Check, Gen, New, Replay, Run, Show, output_of, store_of}
+use Rattle.sedona_words.specs.Command.{Command, Cycles, Check, Compile, Gen, New, Replay, Run, Show, output_of, store_of}
 use Rattle.sedona_cli.specs.New.{NewOf, text_of}
 use Rattle.sedona_cli.specs.Outside.{Ask, Attaches, Makes, Opens, Made, Whole, NotEmpty, Failed, Found, is_of_files, reads_in, of_reads, Spares}
 use Rattle.sedona_cli.specs.Program.{Comes, ComesUntil, refusal_by}
-use Rattle.sedona_cli.specs.Refusals.{failed_of, is_of_store, is_worded, of_kits}
-use Rattle.sedona_cli.specs.Steps.{OfFiles, Prints, done_text}
+use Rattle.sedona_cli.specs.Refusals.{failed_of, is_of_store, is_worded}
+use Rattle.sedona_cli.specs.Steps.{KitsGenerated, OfReads, Prints, TextGenerated, done_text}
 use Rattle.sedona_cli.specs.Show.{ShowOf}
 use Rattle.sedona_cli.specs.Store.{StoreAttached, StoreMade}
 use Rattle.sed_cycles.specs.Cycles.{text_after}
-use Rattle.sedona_cli.proofs.Alike.{NeverRefused, ReadsOne, agree_fronts, agree_sym, attached_alike, attached_ends, heads, never_stops, opened_ends, read_ends, stops_once, then_stops, true_false}
-use Rattle.sedona_cli.proofs.Asking.{read_reads, reads_before, reads_of_reads, reads_spare}
+use Rattle.sedona_cli.proofs.Alike.{NeverRefused, ReadsOne, attached_alike, attached_ends, heads, never_stops, opened_ends, read_ends, reads_alike, stops_once, then_stops, true_false}
+use Rattle.sedona_cli.proofs.Asking.{read_reads, reads_before, reads_spare}
+use Rattle.sedona_cli.proofs.Generated.{generates_early}
+use Rattle.sedona_cli.proofs.Imaging.{compile_early, compile_of_files, compile_one_end, compile_spares, compile_tells}
 use Rattle.sedona_cli.proofs.Recording.{gen_early, gen_of_files, gen_one_end, gen_spares, gen_tells}
 use Rattle.sedona_cli.proofs.Ends.{err_ok, not_both, one_refusal}
-use Rattle.sedona_cli.proofs.Loadings.{HasOneEnd, InputsOne, InputsTell, LoadTells, LoadsAlike, LoadsOne, TellsFailed, failed_kits, no_kits, some_kits}
+use Rattle.sedona_cli.proofs.Loadings.{HasOneEnd, InputsOne, InputsTell, LoadTells, LoadsEarly, LoadsOne, TellsFailed}
 use Rattle.sedona_cli.proofs.LiveAsked.{Unbound, run_asked}
 use Rattle.sedona_cli.proofs.LiveEnds.{run_one_end, run_tells}
 use Rattle.sedona_cli.proofs.ReplayAsked.{replay_asked}
-use Rattle.sedona_cli.proofs.ReplayEnds.{replay_one_end, replay_tells, stops_start}
-use Rattle.sedona_cli.proofs.StoreAsked.{IsOpening, StoreAsked, early_kits, new_asked, of_payload, show_asked, spares_worded}
-
--- ---- loadings
-
--- two loadings whose reads agree, as steps of a command: they stop alike, or both go on
-pub both_stop : (step : List Read → Result Program KitsRefusal → Type 0) → LoadsOne step → (asks others : List Ask) (r s : Refusal)
-    → OfFiles of_kits step asks (Err r) → OfFiles of_kits step others (Err s) → Agree (reads_in asks) (reads_in others) → r ≡ s
-both_stop step one asks others r s first second agree =
-    let agrees : Agree first.0 second.0 = agree_of first.0 second.0 asks others first.1 second.1 agree in
-    let same = (one first.0 second.0 (Err first.2.0) (Err second.2.0) first.2.1 second.2.1 agrees).1 in
-    first.2.2 ∙ ap of_kits (sym (some_kits second.2.0 first.2.0 same)) ∙ sym second.2.2
-  where
-    agree_of : (reads more : List Read) (a b : List Ask) → a ≡ of_reads reads → b ≡ of_reads more → Agree (reads_in a) (reads_in b) → Agree reads more
-    agree_of reads more a b is are agrees =
-        subst (λ (l : List Read). Agree reads l) (ap reads_in are ∙ reads_of_reads more)
-        (subst (λ (l : List Read). Agree l (reads_in b)) (ap reads_in is ∙ reads_of_reads reads) agrees)
-
--- one stops and the other goes on
-stop_and_go : (step : List Read → Result Program KitsRefusal → Type 0) → LoadsOne step → (asks others front back : List Ask) (r : Refusal) (p : Program)
-    → OfFiles of_kits step asks (Err r) → OfFiles of_kits step front (Ok p) → others ≡ front ++ back → Agree (reads_in asks) (reads_in others) → ⊥
-stop_and_go step one asks others front back r p stop go parts agree =
-    let agrees = agree_fronts stop.0 go.0 [] back asks others (stop.1 ∙ sym (append-nil (of_reads stop.0))) (parts ∙ ap (λ (f : List Ask). f ++ back) go.1) agree in
-    no_kits stop.2.0 (sym (one stop.0 go.0 (Err stop.2.0) (Ok p) stop.2.1 go.2 agrees).1)
+use Rattle.sedona_cli.proofs.ReplayEnds.{reads_tell, replay_one_end, replay_tells, stops_start}
+use Rattle.sedona_cli.proofs.StoreAsked.{IsOpening, StoreAsked, new_asked, of_payload, show_asked, spares_worded}
 
 -- ---- one end
 
 -- a loading, and then steps that have one end for programs that are alike
-one_loaded : (step : List Read → Result Program KitsRefusal → Type 0) (next : Program → List Ask → Result (List ℕ) Refusal → Type 0) → LoadsOne step
-    → ((reads others : List Read) (p q : Program) (asks rest : List Ask) (end other : Result (List ℕ) Refusal) → step reads (Ok p) → step others (Ok q) → Agree reads others → Pointwise asks rest
-    → next p asks end → next q rest other → refusal_by end ≡ refusal_by other)
-    → HasOneEnd (AndThen (OfFiles of_kits step) next)
+one_loaded : (step : List Read → Result Program Refusal → Type 0) (next : Program → List Ask → Result (List ℕ) Refusal → Type 0) → LoadsOne step
+    → ((p q : Program) (asks rest : List Ask) (end other : Result (List ℕ) Refusal) → AreAlike p q → AgreeOn asks rest → next p asks end → next q rest other → refusal_by end ≡ refusal_by other)
+    → HasOneEnd (AndThen (OfReads step) next)
 one_loaded step next one more asks others end other agree (stops r h e) (stops s k d) =
-    ap refusal_by e ∙ ap (λ (x : Refusal). Some x) (both_stop step one asks others r s h k agree.reads) ∙ sym (ap refusal_by d)
+    ap refusal_by e ∙ ap (λ (x : Refusal). Some x) ((reads_alike step AreAlike one).stop asks others r s h k agree) ∙ sym (ap refusal_by d)
 one_loaded step next one more asks others end other agree (stops r h e) (goes_on g d q parts k n) =
-    absurd (stop_and_go step one asks others g d r q h k parts agree.reads)
+    absurd ((reads_alike step AreAlike one).stop_go asks g d r q h k (subst (λ (l : List Ask). AgreeOn asks l) parts agree))
 one_loaded step next one more asks others end other agree (goes_on f b p parts h n) (stops s k d) =
-    absurd (stop_and_go step one others asks f b s p k h parts (agree_sym (reads_in asks) (reads_in others) agree.reads))
+    absurd ((reads_alike step AreAlike one).go_stop f b others p s h k (subst (λ (l : List Ask). AgreeOn l others) parts agree))
 one_loaded step next one more asks others end other agree (goes_on f b p parts h n) (goes_on g d q others_parts k m) =
-    let is : asks ≡ of_reads h.0 ++ b = parts ∙ ap (λ (a : List Ask). a ++ b) h.1 in
-    let are : others ≡ of_reads k.0 ++ d = others_parts ∙ ap (λ (a : List Ask). a ++ d) k.1 in
-    let agrees = agree_fronts h.0 k.0 b d asks others is are agree.reads in
-    let same = (one h.0 k.0 (Ok p) (Ok q) h.2 k.2 agrees).0 in
-    more h.0 k.0 p q b d end other h.2 k.2 agrees
-    (pointwise_back h.0 b d (subst (λ (a : List Ask). Pointwise (of_reads h.0 ++ b) a) (are ∙ ap (λ (l : List Read). of_reads l ++ d) (sym same)) (subst (λ (a : List Ask). Pointwise a others) is agree.rest))) n m
-  where
-    pointwise_back : (reads : List Read) (back rest : List Ask) → Pointwise (of_reads reads ++ back) (of_reads reads ++ rest) → Pointwise back rest
-    pointwise_back [] back rest agrees = agrees
-    pointwise_back (read ∷ reads) back rest agrees = pointwise_back reads back rest (agrees.1 refl)
+    let both = (reads_alike step AreAlike one).go f b g d p q h k
+    (subst (λ (l : List Ask). AgreeOn (f ++ b) l) others_parts (subst (λ (l : List Ask). AgreeOn l others) parts agree)) in
+    more p q b d end other both.0 both.1 n m
 
 one_print : (text : Program → List ℕ) (p q : Program) (asks rest : List Ask) (end other : Result (List ℕ) Refusal) → Prints (text p) asks end → Prints (text q) rest other → refusal_by end ≡ refusal_by other
 one_print text p q asks rest end other n m = ap refusal_by n.holds ∙ sym (ap refusal_by m.holds)
@@ -186,37 +157,44 @@ one_show one store limit p q alike asks rest end other agree n m =
     (λ (a b : Application) any. never_stops (Prints (application_text (meaning_of p) a)) (Prints (application_text (meaning_of q) b)) (prints_done (application_text (meaning_of p) a)) (prints_done (application_text (meaning_of q) b))))))
     asks rest end other (reads_none asks rest (show_reads store limit p asks end n).0 agree) n m
 
+-- what the laws of loadings, of compiling and of input files say
+pub record OneEnds : Type 0 where
+  pub reads : ReadsOne
+  pub kits : (names : List (List ℕ)) → LoadsOne (KitsGenerated names)
+  pub text : (file : List ℕ) → LoadsOne (TextGenerated file)
+  pub inputs : InputsOne
+  pub texts : (p q : Program) → AreAlike p q → text_of p ≡ text_of q
+
 -- every command has one end
-pub one_comes : ReadsOne → ((names : List (List ℕ)) → LoadsOne (KitsLoaded names)) → ((file : List ℕ) → LoadsOne (TextLoaded file)) → ((names : List (List ℕ)) → LoadsAlike (KitsLoaded names)) → InputsOne
-    → ((p q : Program) → AreAlike p q → text_of p ≡ text_of q) → (command : Command) → HasOneEnd (Comes command)
-one_comes one kits text alike inputs texts (Cycles file count) =
-    one_loaded (TextLoaded file) (λ p. Prints (text_after p count)) (text file)
-    (λ reads others p q asks rest end other h k agrees agree n m. one_print (λ p. text_after p count) p q asks rest end other n m)
-one_comes one kits text alike inputs texts (Check names) =
-    one_loaded (KitsLoaded names) (λ p. Prints done_text) (kits names)
-    (λ reads others p q asks rest end other h k agrees agree n m. one_print (λ p. done_text) p q asks rest end other n m)
-one_comes one kits text alike inputs texts (New names store slot) =
-    one_loaded (KitsLoaded names) (NewOf store slot) (kits names)
-    (λ reads others p q asks rest end other h k agrees agree n m. one_new store slot p q (texts p q (alike names reads others p q h k agrees)) asks rest end other agree n m)
-one_comes one kits text alike inputs texts (Show names store limit) =
-    one_loaded (KitsLoaded names) (ShowOf store limit) (kits names)
-    (λ reads others p q asks rest end other h k agrees agree n m. one_show one store limit p q (alike names reads others p q h k agrees) asks rest end other agree n m)
-one_comes one kits text alike inputs texts (Replay node file) = replay_one_end one node file (kits node.kits) (alike node.kits) (inputs.users node.users) (inputs.secret node.secret) (inputs.record_text file)
-one_comes one kits text alike inputs texts (Run r) = run_one_end one r (kits r.node.kits) (alike r.node.kits) (inputs.users r.node.users) (inputs.secret r.node.secret)
-one_comes one kits text alike inputs texts (Gen g) = gen_one_end g (kits g.kits) (alike g.kits) (inputs.users g.users) (inputs.secret g.secret)
+pub one_comes : OneEnds → (command : Command) → HasOneEnd (Comes command)
+one_comes one (Cycles file count) =
+    one_loaded (TextGenerated file) (λ p. Prints (text_after (meaning_of p) count)) (one.text file)
+    (λ p q asks rest end other same agree n m. one_print (λ p. text_after (meaning_of p) count) p q asks rest end other n m)
+one_comes one (Check names) =
+    one_loaded (KitsGenerated names) (λ p. Prints done_text) (one.kits names)
+    (λ p q asks rest end other same agree n m. one_print (λ p. done_text) p q asks rest end other n m)
+one_comes one (Compile out names) = compile_one_end out names (one.kits names)
+one_comes one (New names store slot) =
+    one_loaded (KitsGenerated names) (NewOf store slot) (one.kits names)
+    (λ p q asks rest end other same agree n m. one_new store slot p q (one.texts p q same) asks rest end other agree.rest n m)
+one_comes one (Show names store limit) =
+    one_loaded (KitsGenerated names) (ShowOf store limit) (one.kits names)
+    (λ p q asks rest end other same agree n m. one_show one.reads store limit p q same asks rest end other agree.rest n m)
+one_comes one (Replay node file) = replay_one_end one.reads node file (one.kits node.kits) (one.inputs.users node.users) (one.inputs.secret node.secret) (one.inputs.record_text file)
+one_comes one (Run r) = run_one_end one.reads r (one.kits r.node.kits) (one.inputs.users r.node.users) (one.inputs.secret r.node.secret)
+one_comes one (Gen g) = gen_one_end g (one.kits g.kits) (one.inputs.users g.users) (one.inputs.secret g.secret)
 
 -- ---- the reads that failed
 
-stop_tells : (step : List Read → Result Program KitsRefusal → Type 0) → LoadTells step → (asks : List Ask) (r : Refusal) → OfFiles of_kits step asks (Err r) → failed_names (reads_in asks) ≡ failed_of r
-stop_tells step tells asks r h =
-    ap failed_names (ap reads_in h.1 ∙ reads_of_reads h.0) ∙ tells h.0 (Err h.2.0) h.2.1 ∙ failed_kits h.2.0 ∙ sym (ap failed_of h.2.2)
+stop_tells : (step : List Read → Result Program Refusal → Type 0) → LoadTells step → (asks : List Ask) (r : Refusal) → OfReads step asks (Err r) → failed_names (reads_in asks) ≡ failed_of r
+stop_tells step tells asks r h = reads_tell step tells asks (Err r) h
 
-go_tells : (step : List Read → Result Program KitsRefusal → Type 0) → LoadTells step → (asks front back : List Ask) (p : Program) → asks ≡ front ++ back → OfFiles of_kits step front (Ok p) → reads_in back ≡ []
+go_tells : (step : List Read → Result Program Refusal → Type 0) → LoadTells step → (asks front back : List Ask) (p : Program) → asks ≡ front ++ back → OfReads step front (Ok p) → reads_in back ≡ []
     → failed_names (reads_in asks) ≡ []
 go_tells step tells asks front back p parts h none =
     ap failed_names (ap reads_in (parts ∙ ap (λ (a : List Ask). a ++ back) h.1) ∙ reads_before h.0 back none) ∙ tells h.0 (Ok p) h.2
 
-tells_prints : (step : List Read → Result Program KitsRefusal → Type 0) (text : Program → List ℕ) → LoadTells step → TellsFailed (AndThen (OfFiles of_kits step) (λ p. Prints (text p)))
+tells_prints : (step : List Read → Result Program Refusal → Type 0) (text : Program → List ℕ) → LoadTells step → TellsFailed (AndThen (OfReads step) (λ p. Prints (text p)))
 tells_prints step text tells asks end (stops r h e) = stop_tells step tells asks r h ∙ sym (ap failed_by e)
 tells_prints step text tells asks end (goes_on f b p parts h n) = go_tells step tells asks f b p parts h (ap reads_in n.none) ∙ sym (ap failed_by n.holds)
 
@@ -235,25 +213,26 @@ new_reads store slot p asks end (goes_on f b u parts m (goes_on g d v more h (go
   ap failed_by n.holds,
 )
 
-tells_new : (names : List (List ℕ)) (store : List ℕ) (slot : ℕ) → LoadTells (KitsLoaded names) → TellsFailed (AndThen (OfFiles of_kits (KitsLoaded names)) (NewOf store slot))
-tells_new names store slot tells asks end (stops r h e) = stop_tells (KitsLoaded names) tells asks r h ∙ sym (ap failed_by e)
+tells_new : (names : List (List ℕ)) (store : List ℕ) (slot : ℕ) → LoadTells (KitsGenerated names) → TellsFailed (AndThen (OfReads (KitsGenerated names)) (NewOf store slot))
+tells_new names store slot tells asks end (stops r h e) = stop_tells (KitsGenerated names) tells asks r h ∙ sym (ap failed_by e)
 tells_new names store slot tells asks end (goes_on f b p parts h n) =
     let (none, unnamed) = new_reads store slot p b end n in
-    go_tells (KitsLoaded names) tells asks f b p parts h none ∙ sym unnamed
+    go_tells (KitsGenerated names) tells asks f b p parts h none ∙ sym unnamed
 
-tells_show : (names : List (List ℕ)) (store : List ℕ) (limit : ℕ) → LoadTells (KitsLoaded names) → TellsFailed (AndThen (OfFiles of_kits (KitsLoaded names)) (ShowOf store limit))
-tells_show names store limit tells asks end (stops r h e) = stop_tells (KitsLoaded names) tells asks r h ∙ sym (ap failed_by e)
+tells_show : (names : List (List ℕ)) (store : List ℕ) (limit : ℕ) → LoadTells (KitsGenerated names) → TellsFailed (AndThen (OfReads (KitsGenerated names)) (ShowOf store limit))
+tells_show names store limit tells asks end (stops r h e) = stop_tells (KitsGenerated names) tells asks r h ∙ sym (ap failed_by e)
 tells_show names store limit tells asks end (goes_on f b p parts h n) =
     let (none, unnamed) = show_reads store limit p b end n in
-    go_tells (KitsLoaded names) tells asks f b p parts h none ∙ sym unnamed
+    go_tells (KitsGenerated names) tells asks f b p parts h none ∙ sym unnamed
 
 -- the calls that failed are those that its end tells
 abbrev pub TellsCalls : Command → Type 0
 TellsCalls command = (asks : List Ask) (end : Result (List ℕ) Refusal) → Comes command asks end → failed_calls (output_of command) asks ≡ failed_by end
 
-pub tells_comes : ((names : List (List ℕ)) → LoadTells (KitsLoaded names)) → ((file : List ℕ) → LoadTells (TextLoaded file)) → InputsTell → (command : Command) → TellsCalls command
-tells_comes kits text inputs (Cycles file count) = tells_prints (TextLoaded file) (λ p. text_after p count) (text file)
-tells_comes kits text inputs (Check names) = tells_prints (KitsLoaded names) (λ p. done_text) (kits names)
+pub tells_comes : ((names : List (List ℕ)) → LoadTells (KitsGenerated names)) → ((file : List ℕ) → LoadTells (TextGenerated file)) → InputsTell → (command : Command) → TellsCalls command
+tells_comes kits text inputs (Cycles file count) = tells_prints (TextGenerated file) (λ p. text_after (meaning_of p) count) (text file)
+tells_comes kits text inputs (Check names) = tells_prints (KitsGenerated names) (λ p. done_text) (kits names)
+tells_comes kits text inputs (Compile out names) = compile_tells out names (kits names)
 tells_comes kits text inputs (New names store slot) = tells_new names store slot (kits names)
 tells_comes kits text inputs (Show names store limit) = tells_show names store limit (kits names)
 tells_comes kits text inputs (Replay node file) = replay_tells node file (kits node.kits) (inputs.users node.users) (inputs.secret node.secret) (inputs.record_text file)
@@ -262,7 +241,7 @@ tells_comes kits text inputs (Gen g) = gen_tells g (kits g.kits) (inputs.users g
 
 -- ---- what is asked until a refusal
 
-prints_read : (step : List Read → Result Program KitsRefusal → Type 0) (text : Program → List ℕ) (asks : List Ask) (end : Result (List ℕ) Refusal) → AndThen (OfFiles of_kits step) (λ p. Prints (text p)) asks end
+prints_read : (step : List Read → Result Program Refusal → Type 0) (text : Program → List ℕ) (asks : List Ask) (end : Result (List ℕ) Refusal) → AndThen (OfReads step) (λ p. Prints (text p)) asks end
     → (reads : List Read) × (asks ≡ of_reads reads)
 prints_read step text asks end (stops r h e) = (h.0, h.1)
 prints_read step text asks end (goes_on f b p parts h n) = (h.0, parts ∙ ap (λ (a : List Ask). a ++ b) h.1 ∙ ap (λ (l : List Ask). of_reads h.0 ++ l) n.none ∙ append-nil (of_reads h.0))
@@ -271,6 +250,7 @@ prints_read step text asks end (goes_on f b p parts h n) = (h.0, parts ∙ ap (�
 abbrev pub ReadsAlone : Command → Type 0
 ReadsAlone (Cycles file count) = Unit {0}
 ReadsAlone (Check names) = Unit {0}
+ReadsAlone (Compile out names) = ⊥
 ReadsAlone (New names store slot) = ⊥
 ReadsAlone (Show names store limit) = ⊥
 ReadsAlone (Replay node file) = ⊥
@@ -278,8 +258,9 @@ ReadsAlone (Run r) = ⊥
 ReadsAlone (Gen g) = ⊥
 
 pub reads_alone : (command : Command) (asks : List Ask) (end : Result (List ℕ) Refusal) → ReadsAlone command → Comes command asks end → (reads : List Read) × (asks ≡ of_reads reads)
-reads_alone (Cycles file count) asks end alone comes = prints_read (TextLoaded file) (λ p. text_after p count) asks end comes
-reads_alone (Check names) asks end alone comes = prints_read (KitsLoaded names) (λ p. done_text) asks end comes
+reads_alone (Cycles file count) asks end alone comes = prints_read (TextGenerated file) (λ p. text_after (meaning_of p) count) asks end comes
+reads_alone (Check names) asks end alone comes = prints_read (KitsGenerated names) (λ p. done_text) asks end comes
+reads_alone (Compile out names) asks end alone comes = absurd alone
 reads_alone (New names store slot) asks end alone comes = absurd alone
 reads_alone (Show names store limit) asks end alone comes = absurd alone
 reads_alone (Replay node file) asks end alone comes = absurd alone
@@ -292,21 +273,24 @@ of_files_alone (Cycles file count) asks end none comes =
     let (reads, is) = reads_alone (Cycles file count) asks end tt comes in ap (list_all is_of_files) is ∙ read_reads reads
 of_files_alone (Check names) asks end none comes =
     let (reads, is) = reads_alone (Check names) asks end tt comes in ap (list_all is_of_files) is ∙ read_reads reads
+of_files_alone (Compile out names) asks end none comes = compile_of_files out names asks end comes
 of_files_alone (New names store slot) asks end none comes = absurd (cc)
 of_files_alone (Show names store limit) asks end none comes = absurd (cc)
 of_files_alone (Replay node file) asks end none comes = absurd (cc)
 of_files_alone (Run r) asks end none comes = absurd (cc)
 of_files_alone (Gen g) asks end none comes = gen_of_files g asks end comes
 
-refused_early : (step : List Read → Result Program KitsRefusal → Type 0) (text : Program → List ℕ) (asks : List Ask) (refusal : Refusal) → AndThen (OfFiles of_kits step) (λ p. Prints (text p)) asks (Err refusal)
-    → is_of_store refusal ≡ false
-refused_early step text asks refusal (stops r h e) = ap is_of_store (one_refusal refusal r e ∙ h.2.2) ∙ early_kits h.2.0
-refused_early step text asks refusal (goes_on f b p parts h n) = absurd (err_ok refusal (text p) n.holds)
+refused_early : (step : List Read → Result Program Refusal → Type 0) (text : Program → List ℕ) → LoadsEarly step → (asks : List Ask) (refusal : Refusal)
+    → AndThen (OfReads step) (λ p. Prints (text p)) asks (Err refusal) → is_of_store refusal ≡ false
+refused_early step text early asks refusal (stops r h e) = ap is_of_store (one_refusal refusal r e) ∙ early h.0 r h.2
+refused_early step text early asks refusal (goes_on f b p parts h n) = absurd (err_ok refusal (text p) n.holds)
 
 -- its refusals are those of the loading
 pub early_alone : (command : Command) (asks : List Ask) (refusal : Refusal) → store_of command ≡ None → Comes command asks (Err refusal) → is_of_store refusal ≡ false
-early_alone (Cycles file count) asks refusal none comes = refused_early (TextLoaded file) (λ p. text_after p count) asks refusal comes
-early_alone (Check names) asks refusal none comes = refused_early (KitsLoaded names) (λ p. done_text) asks refusal comes
+early_alone (Cycles file count) asks refusal none comes =
+    refused_early (TextGenerated file) (λ p. text_after (meaning_of p) count) (generates_early (TextLoaded file)) asks refusal comes
+early_alone (Check names) asks refusal none comes = refused_early (KitsGenerated names) (λ p. done_text) (generates_early (KitsLoaded names)) asks refusal comes
+early_alone (Compile out names) asks refusal none comes = compile_early out names asks refusal comes
 early_alone (Gen g) asks refusal none comes = gen_early g asks refusal comes
 early_alone (New names store slot) asks refusal none comes = absurd (cc)
 early_alone (Show names store limit) asks refusal none comes = absurd (cc)
@@ -330,6 +314,7 @@ reads_spared command asks end alone comes =
 pub spares_early : (command : Command) (asks : List Ask) (refusal : Refusal) → is_worded refusal ≡ true → Comes command asks (Err refusal) → Spares (store_of command) asks
 spares_early (Cycles file count) asks refusal worded comes = reads_spared (Cycles file count) asks (Err refusal) tt comes
 spares_early (Check names) asks refusal worded comes = reads_spared (Check names) asks (Err refusal) tt comes
+spares_early (Compile out names) asks refusal worded comes = compile_spares out names asks refusal comes
 spares_early (Gen g) asks refusal worded comes = gen_spares g asks refusal comes
 spares_early (New names store slot) asks refusal worded comes = spares_worded _ store asks refusal worded (new_asked names store slot asks (Err refusal) comes)
 spares_early (Show names store limit) asks refusal worded comes = spares_worded _ store asks refusal worded (show_asked names store limit asks (Err refusal) comes)
@@ -349,6 +334,7 @@ pub record ComesOtherwise (command : Command) (asks : List Ask) : Type 0 where
 pub until_comes : (command : Command) (asks : List Ask) (put last : List ℕ) → ComesUntil command asks put last → ComesOtherwise command asks
 until_comes (Cycles file count) asks put last until = absurd until
 until_comes (Check names) asks put last until = absurd until
+until_comes (Compile out names) asks put last until = absurd until
 until_comes (New names store slot) asks put last until = absurd until
 until_comes (Show names store limit) asks put last until = absurd until
 until_comes (Gen g) asks put last until = absurd until

@@ -6,11 +6,14 @@ pub mod StoreAsked
 pub mod AlikeFiles
 pub mod Alike
 pub mod Loadings
+pub mod Generated
 pub mod ReplayAsked
 pub mod ReplayEnds
 pub mod LiveAsked
 pub mod LiveEnds
+pub mod WritingLast
 pub mod Recording
+pub mod Imaging
 pub mod Comings
 pub mod Answering
 pub mod Agreeing
@@ -26,7 +29,9 @@ pub mod ReplayRun
 pub mod LiveRun
 pub mod ReplaySteps
 pub mod LiveSteps
+pub mod WriteSteps
 pub mod GenSteps
+pub mod CompileSteps
 pub mod Outputs
 pub mod Wanting
 pub mod Playing

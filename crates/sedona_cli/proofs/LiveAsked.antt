@@ -12,16 +12,18 @@ use Rattle.sedona_cli.specs.declared.refusal.Refusal.TheVariants.{LinkFault}
 use Rattle.sedona_words.specs.Command.{NodeAsked, RunAsked}
 use Rattle.sedona_cli.specs.Nodes.{Opened}
 use Rattle.sedona_cli.specs.Outside.{Ask, Attaches, Binds, Opens, Runs, Ran, Found, of_reads, AreAsked}
-use Rattle.sedona_cli.specs.Refusals.{of_inputs, of_kits}
+use Rattle.sedona_cli.specs.Refusals.{of_inputs}
+use Rattle.sedona_cli.specs.Steps.{KitsGenerated}
 use Rattle.sedona_cli.specs.Run.{RunComes, RunInputsRead}
 use Rattle.sedona_cli.proofs.Asking.{asked_behind}
 use Rattle.sedona_cli.proofs.Ends.{err_ok, ok_err, one_refusal}
-use Rattle.sedona_cli.proofs.ReplayAsked.{FilesAlone, early_inputs, files_alone, gives_alone, of_open, opened_to, then_alone}
-use Rattle.sedona_cli.proofs.StoreAsked.{IsOpening, Last, StoreAsked, behind, early_kits, ends_before}
+use Rattle.sedona_cli.proofs.Generated.{generates_early}
+use Rattle.sedona_cli.proofs.ReplayAsked.{FilesAlone, early_inputs, files_alone, gives_alone, of_open, opened_to, reads_alone, then_alone}
+use Rattle.sedona_cli.proofs.StoreAsked.{IsOpening, Last, StoreAsked, behind, ends_before}
 
 pub run_inputs_alone : (node : NodeAsked) → FilesAlone (RunInputsRead node)
 run_inputs_alone node =
-    then_alone _ _ (files_alone of_kits (KitsLoaded node.kits) early_kits)
+    then_alone _ _ (reads_alone (KitsGenerated node.kits) (generates_early (KitsLoaded node.kits)))
     (λ (p : Program). then_alone _ _ (files_alone of_inputs (UsersRead node.users) early_inputs)
     (λ (u : List User). then_alone _ _ (files_alone of_inputs (SecretRead node.secret) early_inputs) (λ (s : List ℕ). gives_alone _)))
 

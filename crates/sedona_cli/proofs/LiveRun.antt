@@ -9,7 +9,7 @@ use Rattle.disk_model.specs.declared.disk.Disk.{Ghosts as DiskGhosts}
 use Rattle.file_steps.specs.Steps.{Read, stops, goes_on}
 use Rattle.file_steps.proofs.Joining.{same_reads}
 use Rattle.sedona_cli.specs.declared.inputs.NodeInputs.{NodeInputs}
-use Rattle.sedona_words.specs.Command.{Command, Cycles, Check, Gen, New, Replay, Run, RunAsked, Show, port_of}
+use Rattle.sedona_words.specs.Command.{Command, Cycles, Check, Compile, Gen, New, Replay, Run, RunAsked, Show, port_of}
 use Rattle.sedona_cli.specs.Outside.{Ask, of_reads, reads_in, AreAsked, HasAsks}
 use Rattle.sedona_cli.specs.Program.{AsksLiveOf, IsAnswer, done, unput, stopped, refused, wanted}
 use Rattle.sedona_cli.specs.Puts.{IsOneOf}
@@ -127,6 +127,7 @@ asks_link F D L C (New names store slot) x y link link_now clock clock_now disk 
 asks_link F D L C (Show names store limit) x y link link_now clock clock_now disk disk_now before after status live = live
 asks_link F D L C (Replay node file) x y link link_now clock clock_now disk disk_now before after status live = live
 asks_link F D L C (Run r) x y link link_now clock clock_now disk disk_now before after status live = quiet L C r.port status link link_now clock clock_now _ live
+asks_link F D L C (Compile image names) x y link link_now clock clock_now disk disk_now before after status live = live
 asks_link F D L C (Gen g) x y link link_now clock clock_now disk disk_now before after status live = live
 
 -- 10 only where the link failed
@@ -139,6 +140,7 @@ link_fault F D L C (Check names) asks x y link link_now clock clock_now disk dis
 link_fault F D L C (New names store slot) asks x y link link_now clock clock_now disk disk_now before after fb fa status live answer ten = absurd (no_link (New names store slot) asks before after fb fa status refl answer ten)
 link_fault F D L C (Show names store limit) asks x y link link_now clock clock_now disk disk_now before after fb fa status live answer ten = absurd (no_link (Show names store limit) asks before after fb fa status refl answer ten)
 link_fault F D L C (Replay node file) asks x y link link_now clock clock_now disk disk_now before after fb fa status live answer ten = absurd (no_link (Replay node file) asks before after fb fa status refl answer ten)
+link_fault F D L C (Compile image names) asks x y link link_now clock clock_now disk disk_now before after fb fa status live answer ten = absurd (no_link (Compile image names) asks before after fb fa status refl answer ten)
 link_fault F D L C (Gen g) asks x y link link_now clock clock_now disk disk_now before after fb fa status live answer ten = absurd (no_link (Gen g) asks before after fb fa status refl answer ten)
 
 -- ---- with status 5

@@ -37,7 +37,7 @@ use Rattle.sed_node.specs.declared.node.Node.{Node as Kept}
 use Rattle.sed_typed.specs.declared.program.Program.{Program}
 use Rattle.sedona_cli.specs.declared.inputs.NodeInputs.{NodeInputs}
 use Rattle.sedona_cli.specs.declared.refusal.Refusal.{Refusal}
-use Rattle.sedona_cli.specs.declared.refusal.Refusal.TheVariants.{FileFault, Refused, Rule, SlotTooSmall, DeviceFault, StoreExists, NoStore, NoApplication, WrongKits, OverLimit, BadUsers, ShortSecret, BadRecord, LinkFault, Memory}
+use Rattle.sedona_cli.specs.declared.refusal.Refusal.TheVariants.{FileFault, MethodTooLong, Refused, Rule, SlotTooSmall, DeviceFault, StoreExists, NoStore, NoApplication, WrongKits, OverLimit, BadUsers, ShortSecret, BadRecord, LinkFault, Memory}
 use Rattle.sedona_words.specs.Command.{NodeAsked, Run, RunAsked}
 use Rattle.sedona_cli.specs.Lines.{line_of, memory_line}
 use Rattle.sedona_cli.specs.Nodes.{IsReady, IsRunFrom, Opened}
@@ -126,7 +126,7 @@ module _ {E T U V O : Type 0} (g : Ghosts E) (o : Sinks O) (D : DiskGhosts T) (L
   abbrev IsRunReady : ℕ → Type 0
   IsRunReady status = RunsReady D L C moment turns code users secret a cycles (o.text out) (o.text out_now) (o.faults out) (o.faults out_now) status link link_now clock d e
 
-  runs_ready : (status : ℕ) (r : Result (Unit {0}) SinkFault) → (l : IsLived false code r)
+  runs_ready : (status : ℕ) (r : Result (Unit {0}) SinkFault) → (l : IsLived true code r)
       → EndsPut (end_text code (reached (record { code = code; setup = setup_of kept; start = start; entries = l.entries; events = l.events }))) (o.text out) (o.text out_now) (o.faults out) (o.faults out_now) status
       → IsRunReady status
   runs_ready status r l put = record {
@@ -150,8 +150,8 @@ module _ {E T U V O : Type 0} (g : Ghosts E) (o : Sinks O) (D : DiskGhosts T) (L
     offered_are = l.offered_are;
   }
 
-  as_ready : (r : Result (Unit {0}) SinkFault) → IsLived (is_fixed g kept) (code_of g kept) r → IsLived false code r
-  as_ready r l = subst (λ (b : Bool). IsLived b code r) ready.is_free (subst (λ (m : Code). IsLived (is_fixed g kept) m r) ready.code_is l)
+  as_ready : (r : Result (Unit {0}) SinkFault) → IsLived (is_fixed g kept) (code_of g kept) r → IsLived true code r
+  as_ready r l = subst (λ (b : Bool). IsLived b code r) ready.fixed (subst (λ (m : Code). IsLived (is_fixed g kept) m r) ready.code_is l)
 
   pub runs_done : (r : Result (Unit {0}) SinkFault) (u : Unit {0}) → r ≡ Ok u → IsLived (is_fixed g kept) (code_of g kept) r → IsRunReady 0
   runs_done r u is l = let lived = as_ready r l in runs_ready 0 r lived (end_put o out out_now _ r u is lived.puts)
@@ -338,6 +338,7 @@ seven_of Memory is = refl
 seven_of (FileFault file) is = absurd (cc)
 seven_of (Refused file why) is = absurd (cc)
 seven_of (Rule file at rule) is = absurd (cc)
+seven_of (MethodTooLong n) is = absurd (cc)
 seven_of (SlotTooSmall needs has) is = absurd (cc)
 seven_of DeviceFault is = absurd (cc)
 seven_of StoreExists is = absurd (cc)

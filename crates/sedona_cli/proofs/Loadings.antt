@@ -1,5 +1,5 @@
 -- What the laws of loadings and of input files say of the steps of a command.
-use Rattle.std.proofs.Common.{◌≡◌, ℕ, List, Option, Some, None, Result, Ok, Err, refl, sym, ap}
+use Rattle.std.proofs.Common.{◌≡◌, ℕ, false, List, [], Result, Ok, Err, refl, ap, sym}
 use Rattle.sed_typed.specs.declared.program.Program.{Program}
 use Rattle.dasp_users.specs.declared.user.User.{User}
 use Rattle.file_steps.specs.Steps.{Read, Agree}
@@ -8,15 +8,13 @@ use Rattle.input_files.specs.Inputs.{RecordRead, SecretRead, UsersRead}
 use Rattle.input_files.specs.Refusals.{failed_in as inputs_failed_in, failed_of as inputs_failed}
 use Rattle.input_files.specs.declared.refusal.InputRefusal.{InputRefusal}
 use Rattle.input_files.specs.declared.refusal.InputRefusal.TheVariants as inputs
-use Rattle.sed_kits.specs.declared.refusal.KitsRefusal.{KitsRefusal}
-use Rattle.sed_kits.specs.declared.refusal.KitsRefusal.TheVariants as kits
-use Rattle.sed_kits.specs.Refusals.{AreAlike, failed_in, refusal_of, failed_of as kits_failed}
+use Rattle.sed_kits.specs.Refusals.{AreAlike}
 use Rattle.sedona_cli.specs.declared.refusal.Refusal.{Refusal}
 use Rattle.sedona_cli.specs.Agree.{AgreeOn, failed_by}
 use Rattle.sedona_cli.specs.Outside.{Ask, reads_in}
 use Rattle.sedona_cli.specs.Program.{refusal_by}
-use Rattle.sedona_cli.specs.Refusals.{failed_of, of_inputs, of_kits}
-use Rattle.sedona_cli.proofs.Alike.{FilesOne}
+use Rattle.sedona_cli.specs.Refusals.{failed_of, is_of_store, of_inputs}
+use Rattle.sedona_cli.proofs.Alike.{FilesOne, ReadsAlike}
 
 -- ---- commands
 
@@ -31,38 +29,21 @@ TellsFailed step = (asks : List Ask) (end : Result (List ℕ) Refusal) → step 
 
 -- ---- loadings
 
--- a loading has one end, and tells the reads that failed
-abbrev pub LoadsOne : (List Read → Result Program KitsRefusal → Type 0) → Type 0
-LoadsOne step = (reads others : List Read) (end other : Result Program KitsRefusal) → step reads end → step others other → Agree reads others
-    → (reads ≡ others) × (refusal_of other ≡ refusal_of end)
+-- a loading has one end, and the programs that it ends with are alike
+abbrev pub LoadsOne : (List Read → Result Program Refusal → Type 0) → Type 0
+LoadsOne step = ReadsAlike step AreAlike
 
-abbrev pub LoadTells : (List Read → Result Program KitsRefusal → Type 0) → Type 0
-LoadTells step = (reads : List Read) (end : Result Program KitsRefusal) → step reads end → failed_names reads ≡ failed_in end
+-- it tells the reads that failed
+abbrev pub failed_load : Result Program Refusal → List (List ℕ)
+failed_load (Ok program) = []
+failed_load (Err refusal) = failed_of refusal
 
--- the programs of one are alike
-abbrev pub LoadsAlike : (List Read → Result Program KitsRefusal → Type 0) → Type 0
-LoadsAlike step = (reads others : List Read) (p q : Program) → step reads (Ok p) → step others (Ok q) → Agree reads others → AreAlike p q
+abbrev pub LoadTells : (List Read → Result Program Refusal → Type 0) → Type 0
+LoadTells step = (reads : List Read) (end : Result Program Refusal) → step reads end → failed_names reads ≡ failed_load end
 
-pub some_kits : (a b : KitsRefusal) → ◌≡◌ {A = Option KitsRefusal} (Some a) (Some b) → a ≡ b
-some_kits a b same = cc
-
-pub no_kits : (a : KitsRefusal) → ◌≡◌ {A = Option KitsRefusal} (Some a) None → ⊥
-no_kits a same = cc
-
-pub failed_kits : (r : KitsRefusal) → kits_failed r ≡ failed_of (of_kits r)
-failed_kits (kits.FileFault file) = refl
-failed_kits (kits.Refused file why) = refl
-failed_kits (kits.Rule file at rule) = refl
-failed_kits kits.Memory = refl
-
--- as a step of a command
-pub kits_one : (step : List Read → Result Program KitsRefusal → Type 0) → LoadsOne step → LoadsAlike step → FilesOne of_kits step AreAlike
-kits_one step one alike reads others (Ok p) (Ok q) h k agree = ((one reads others (Ok p) (Ok q) h k agree).0, alike reads others p q h k agree)
-kits_one step one alike reads others (Err a) (Err b) h k agree =
-    let same = one reads others (Err a) (Err b) h k agree in
-    (same.0, ap of_kits (sym (some_kits b a same.1)))
-kits_one step one alike reads others (Ok p) (Err b) h k agree = absurd (no_kits b (one reads others (Ok p) (Err b) h k agree).1)
-kits_one step one alike reads others (Err a) (Ok q) h k agree = absurd (no_kits a (sym (one reads others (Err a) (Ok q) h k agree).1))
+-- its refusals come before a store is
+abbrev pub LoadsEarly : (List Read → Result Program Refusal → Type 0) → Type 0
+LoadsEarly step = (reads : List Read) (refusal : Refusal) → step reads (Err refusal) → is_of_store refusal ≡ false
 
 -- ---- input files
 

@@ -20,20 +20,20 @@ module _ (program : Program) (limit : ℕ) (payload : List ℕ) (tables : HasTab
   unprinted_here (app.OverLimit which) is = record { tables = tables; told = told; reading = over_limit which; is_read = is; end_is = refl }
   unprinted_here app.Memory is = tt
 
-  pub unprinted : (p : Program) (most : ℕ) (refusal : AppRefusal) → p ≡ program → most ≡ limit → IsRefusedFor (meaning_of p) most payload refusal → PrintedOrWants program limit payload (Err (of_app refusal))
-  unprinted p most refusal same is_most is =
-      unprinted_here refusal (subst (λ (q : Program). IsRefusedFor (meaning_of q) limit payload refusal) same (subst (λ (n : ℕ). IsRefusedFor (meaning_of p) n payload refusal) is_most is))
+  pub unprinted : (m : Meaning) (most : ℕ) (refusal : AppRefusal) → m ≡ meaning_of program → most ≡ limit → IsRefusedFor m most payload refusal → PrintedOrWants program limit payload (Err (of_app refusal))
+  unprinted m most refusal same is_most is =
+      unprinted_here refusal (subst (λ (n : Meaning). IsRefusedFor n limit payload refusal) same (subst (λ (n : ℕ). IsRefusedFor m n payload refusal) is_most is))
 
-  pub is_printed : (p : Program) (most : ℕ) (m : Meaning) (a : Application) (text : List ℕ) → p ≡ program → most ≡ limit → m ≡ meaning_of p → IsFile (meaning_of p) most payload a → text ≡ application_text m a
+  pub is_printed : (m : Meaning) (most : ℕ) (n : Meaning) (a : Application) (text : List ℕ) → m ≡ meaning_of program → most ≡ limit → n ≡ m → IsFile m most payload a → text ≡ application_text n a
       → PrintedOrWants program limit payload (Ok text)
-  is_printed p most m a text same is_most is_of is print = (
+  is_printed m most n a text same is_most is_of is print = (
     a,
     record {
       tables = tables;
       told = told;
       reading = file a;
-      is_read = subst (λ (q : Program). IsFile (meaning_of q) limit payload a) same (subst (λ (n : ℕ). IsFile (meaning_of p) n payload a) is_most is);
+      is_read = subst (λ (o : Meaning). IsFile o limit payload a) same (subst (λ (k : ℕ). IsFile m k payload a) is_most is);
       end_is = refl;
     },
-    print ∙ ap (λ (n : Meaning). application_text n a) (is_of ∙ ap meaning_of same),
+    print ∙ ap (λ (o : Meaning). application_text o a) (is_of ∙ same),
   )

@@ -1,5 +1,5 @@
 -- A run of a node, as what is asked of a disk.
-use Rattle.std.proofs.Common.{◌≡◌, ℕ, Bool, false, List, [], ◌∷◌, ◌++◌, Option, Result, Ok, Err, OnErr, OnOk, IsErr, inl, inr, refl, sym, subst}
+use Rattle.std.proofs.Common.{◌≡◌, ℕ, Bool, true, List, [], ◌∷◌, ◌++◌, Option, Result, Ok, Err, OnErr, OnOk, IsErr, inl, inr, refl, sym, subst}
 use Rattle.std.specs.Prelude.{IsOkAnd, IsTrue, pos}
 use Rattle.std.proofs.lemmas.List.{append-nil}
 use Rattle.sed_outside.specs.Cause.{HasCause, Rose}
@@ -38,7 +38,7 @@ module _ {E T : Type 0} (g : Ghosts E) (D : DiskGhosts T) (node : NodeAsked) (i 
   run_of first events = record { code = meaning_of i.program; setup = setup_of kept; start = start; entries = first; events = events }
 
   abbrev IsRun : List Entry → List Event → List Datagram → Type 0
-  IsRun first events sent = NodeRuns g D.meaning false (meaning_of i.program) (setup_of kept) now start first events sent d e
+  IsRun first events sent = NodeRuns g D.meaning true (meaning_of i.program) (setup_of kept) now start first events sent d e
 
   is_ran : (first : List Entry) (events : List Event) (sent : List Datagram) → IsRun first events sent → IsRan D.meaning (run_of first events) d e
   is_ran first events sent r = record { time = time; attached = attached; slots = slots; stores = stores; comes = r.comes; saved = r.disk; files = r.files; crashes = r.crashes }
@@ -54,13 +54,13 @@ module _ {E T : Type 0} (g : Ghosts E) (D : DiskGhosts T) (node : NodeAsked) (i 
   replays events sent r = record { ran = run_of entries events; is_run = is_run_of entries events; asks_are = refl; entries = is_record; sent = sent; sends = r.sends; end_is = refl }
 
   -- all was put
-  pub played : (before after : Option (List ℕ)) (fb fa : ℕ) → fa ≡ fb → NodeReplayed g D.meaning false (meaning_of i.program) (setup_of kept) now start entries before after d e
+  pub played : (before after : Option (List ℕ)) (fb fa : ℕ) → fa ≡ fb → NodeReplayed g D.meaning true (meaning_of i.program) (setup_of kept) now start entries before after d e
       → AsksDisk D d e (λ asks. Plays node i a asks before after fb fa 0)
   played before after fb fa steady r =
       asked_of entries r.events r.sent (λ asks. Plays node i a asks before after fb fa 0) r.runs (all_put _ (replays r.events r.sent r.runs) refl r.text_is steady)
 
   -- the sink failed
-  pub stopped_play : (before after : Option (List ℕ)) (fb fa : ℕ) → Rose fb fa → Stopped g D.meaning false (meaning_of i.program) (setup_of kept) now start entries before after d e
+  pub stopped_play : (before after : Option (List ℕ)) (fb fa : ℕ) → Rose fb fa → Stopped g D.meaning true (meaning_of i.program) (setup_of kept) now start entries before after d e
       → AsksDisk D d e (λ asks. Plays node i a asks before after fb fa 8)
   stopped_play before after fb fa rose (in_the_run u) =
       asked_of u.done (u.earlier ++ u.last ∷ []) (u.sent ++ u.sent_last) (λ asks. Plays node i a asks before after fb fa 8) u.runs
@@ -100,7 +100,7 @@ module _ {E T : Type 0} (g : Ghosts E) (D : DiskGhosts T) (node : NodeAsked) (i 
       → OnOk r (NodeReplayed g D.meaning (is_fixed g kept) (code_of g kept) (setup_of kept) now start entries before after d e) → AsksDisk D d e (λ asks. Plays node i a asks before after fb fa 0)
   plays_done before after fb fa (Ok v) u is cause held =
       played before after fb fa (put_steady fb fa (Ok v) u is cause)
-      (subst (λ (b : Bool). NodeReplayed g D.meaning b (meaning_of i.program) (setup_of kept) now start entries before after d e) ready.is_free
+      (subst (λ (b : Bool). NodeReplayed g D.meaning b (meaning_of i.program) (setup_of kept) now start entries before after d e) ready.fixed
       (subst (λ (m : Code). NodeReplayed g D.meaning (is_fixed g kept) m (setup_of kept) now start entries before after d e) ready.code_is held))
   plays_done before after fb fa (Err fault) u is cause held = absurd (cc)
 
@@ -109,7 +109,7 @@ module _ {E T : Type 0} (g : Ghosts E) (D : DiskGhosts T) (node : NodeAsked) (i 
   plays_stopped before after fb fa (Ok v) f is cause held = absurd (cc)
   plays_stopped before after fb fa (Err fault) f is cause held =
       stopped_play before after fb fa (put_rose fb fa (Err fault) f is cause)
-      (subst (λ (b : Bool). Stopped g D.meaning b (meaning_of i.program) (setup_of kept) now start entries before after d e) ready.is_free
+      (subst (λ (b : Bool). Stopped g D.meaning b (meaning_of i.program) (setup_of kept) now start entries before after d e) ready.fixed
       (subst (λ (m : Code). Stopped g D.meaning (is_fixed g kept) m (setup_of kept) now start entries before after d e) ready.code_is held))
 
 -- bytes that are a record are not refused

@@ -1,5 +1,5 @@
 -- What a run of a node leaves of its store.
-use Rattle.std.proofs.Common.{◌≡◌, ◌≤◌, ◌<◌, ◌+◌, ◌-◌, ℕ, true, false, List, [], ◌∷◌, refl, sym, ap, subst, ◌∙◌, inl, inr, arith}
+use Rattle.std.proofs.Common.{◌≡◌, ◌≤◌, ◌<◌, ◌+◌, ◌-◌, ℕ, true, List, [], ◌∷◌, refl, sym, ap, subst, ◌∙◌, inl, inr, arith}
 use Rattle.std.specs.Prelude.{IsTrue}
 use Rattle.std.proofs.lemmas.Bool.{cases_lt}
 use Rattle.disk_model.specs.Disk.{Image, IsDisk, Meaning}
@@ -129,9 +129,9 @@ module _ {T : Type 0} (once : OpensOnce) (D : DiskGhosts T) (law : IsLawful D) (
   ]
 
   -- the count of the disk's faults stays while the store is attached and opened
-  comes_from_first : ComesTo false ran.entries (D.meaning d).faults (D.meaning e).faults ran.events
+  comes_from_first : ComesTo true ran.entries (D.meaning d).faults (D.meaning e).faults ran.events
   comes_from_first =
-      subst (λ (n : ℕ). ComesTo false ran.entries n (D.meaning e).faults ran.events)
+      subst (λ (n : ℕ). ComesTo true ran.entries n (D.meaning e).faults ran.events)
       (held.on.last.asked.cause.steady (λ same. cc) ∙ held.on.last.attached.cause.steady (λ same. cc)) held.on.run.comes
 
   -- what is opened stands in slots of the run's size

@@ -19,13 +19,14 @@ use Rattle.sedona_cli.specs.declared.inputs.Inputs.{Inputs}
 use Rattle.sedona_cli.specs.declared.refusal.Refusal.{Refusal}
 use Rattle.sedona_words.specs.Command.{NodeAsked}
 use Rattle.sedona_cli.specs.Outside.{Ask, Reads, Attaches, Opens, Runs, Ran, Found, NotAStore, Unread, of_reads, AreAsked, IsRan}
-use Rattle.sedona_cli.specs.Refusals.{is_of_store, of_inputs, of_kits}
+use Rattle.sedona_cli.specs.Refusals.{is_of_store, of_inputs}
 use Rattle.sedona_cli.specs.Nodes.{Opened}
 use Rattle.sedona_cli.specs.Replay.{InputsRead, IsRunOf, ReplayComes, ReplayStops}
-use Rattle.sedona_cli.specs.Steps.{OfFiles}
+use Rattle.sedona_cli.specs.Steps.{KitsGenerated, OfFiles, OfReads}
+use Rattle.sedona_cli.proofs.Generated.{generates_early}
 use Rattle.sedona_cli.proofs.Asking.{asked_behind}
 use Rattle.sedona_cli.proofs.Ends.{err_ok, ok_err, one_refusal}
-use Rattle.sedona_cli.proofs.StoreAsked.{IsOpening, Last, StoreAsked, behind, early_kits, ends_at, ends_before, ends_unattached, file_of, of_payload, two, two_stop}
+use Rattle.sedona_cli.proofs.StoreAsked.{IsOpening, Last, StoreAsked, behind, ends_at, ends_before, ends_unattached, file_of, of_payload, two, two_stop}
 
 -- ---- steps that ask files alone
 
@@ -54,6 +55,9 @@ then_early S N one next asks r (goes_on f b x parts h n) = (next x).early b r n
 pub then_alone : {X Y : Type 0} (S : List Ask → Result X Refusal → Type 0) (N : X → List Ask → Result Y Refusal → Type 0) → FilesAlone S → ((x : X) → FilesAlone (N x)) → FilesAlone (AndThen S N)
 then_alone S N one next = record { reads = then_reads S N one next; early = then_early S N one next }
 
+pub reads_alone : {X : Type 0} (step : List Read → Result X Refusal → Type 0) → ((reads : List Read) (r : Refusal) → step reads (Err r) → is_of_store r ≡ false) → FilesAlone (OfReads step)
+reads_alone step early = record { reads = λ asks end h. (h.0, h.1); early = λ asks r h. early h.0 r h.2 }
+
 pub files_alone : {E X : Type 0} (told : E → Refusal) (step : List Read → Result X E → Type 0) → ((e : E) → is_of_store (told e) ≡ false) → FilesAlone (OfFiles told step)
 files_alone told step early = record { reads = λ asks end h. (h.0, h.1); early = λ asks r h. ap is_of_store h.2.2 ∙ early h.2.0 }
 
@@ -69,7 +73,7 @@ early_inputs inputs.Memory = refl
 
 pub inputs_alone : (node : NodeAsked) (file : List ℕ) → FilesAlone (InputsRead node file)
 inputs_alone node file =
-    then_alone _ _ (files_alone of_kits (KitsLoaded node.kits) early_kits)
+    then_alone _ _ (reads_alone (KitsGenerated node.kits) (generates_early (KitsLoaded node.kits)))
     (λ (p : Program). then_alone _ _ (files_alone of_inputs (UsersRead node.users) early_inputs)
     (λ (u : List User). then_alone _ _ (files_alone of_inputs (SecretRead node.secret) early_inputs)
     (λ (s : List ℕ). then_alone _ _ (files_alone of_inputs (RecordRead file) early_inputs) (λ (t : List ℕ). gives_alone _))))

@@ -9,24 +9,22 @@ use Rattle.node_replay.specs.Replaying.{replay_text}
 use Rattle.file_steps.specs.Steps.{Read, AndThen, Decides, stops, goes_on, Agree}
 use Rattle.file_steps.specs.Reads.{failed_name, failed_names}
 use Rattle.input_files.specs.Inputs.{RecordRead, SecretRead, UsersRead}
-use Rattle.sed_kits.specs.Loading.{KitsLoaded}
 use Rattle.sed_kits.specs.Refusals.{AreAlike}
-use Rattle.sed_kits.specs.declared.refusal.KitsRefusal.{KitsRefusal}
 use Rattle.input_files.specs.declared.refusal.InputRefusal.{InputRefusal}
 use Rattle.sedona_cli.specs.declared.inputs.Inputs.{Inputs}
 use Rattle.sedona_cli.specs.declared.refusal.Refusal.{Refusal}
 use Rattle.sedona_cli.specs.Agree.{AgreeOn, Pointwise, failed_by}
 use Rattle.sedona_words.specs.Command.{NodeAsked}
 use Rattle.sedona_cli.specs.Outside.{Ask, Attaches, Opens, Runs, Ran, Found, read_of, reads_in}
-use Rattle.sedona_cli.specs.Refusals.{failed_of, of_inputs, of_kits}
+use Rattle.sedona_cli.specs.Refusals.{failed_of, of_inputs}
 use Rattle.sedona_cli.specs.Nodes.{Opened}
 use Rattle.sedona_cli.specs.Replay.{InputsRead, ReplayComes, ReplayStops, Replays}
-use Rattle.sedona_cli.specs.Steps.{OfFiles}
+use Rattle.sedona_cli.specs.Steps.{KitsGenerated, OfFiles, OfReads}
 use Rattle.sedona_cli.specs.Store.{AppRead, StoreAttached, StoreOpened}
-use Rattle.sedona_cli.proofs.Alike.{EndsAlike, NeverRefused, ReadsOne, attached_ends, decides_alike, files_alike, never_stops, opened_ends, read_ends, stops_once, then_alike, then_stops}
+use Rattle.sedona_cli.proofs.Alike.{EndsAlike, NeverRefused, ReadsOne, attached_ends, decides_alike, files_alike, never_stops, opened_ends, read_ends, reads_alike, stops_once, then_alike, then_stops}
 use Rattle.sedona_cli.proofs.Asking.{reads_of_reads}
 use Rattle.sedona_cli.proofs.Ends.{err_ok}
-use Rattle.sedona_cli.proofs.Loadings.{HasOneEnd, InputOne, InputTells, LoadTells, LoadsAlike, LoadsOne, TellsFailed, failed_inputs, failed_kits, input_one, kits_one}
+use Rattle.sedona_cli.proofs.Loadings.{HasOneEnd, InputOne, InputTells, LoadTells, LoadsOne, TellsFailed, failed_inputs, input_one}
 use Rattle.sedona_cli.proofs.StoreAsked.{of_payload}
 
 -- ---- one end
@@ -43,10 +41,10 @@ gives_alike i j alike =
     decides_alike (λ end. end ≡ Ok i) (λ end. end ≡ Ok j) InputsAlike (λ r s h k. absurd (err_ok r i h)) (λ r y h k. err_ok r i h) (λ x s h k. err_ok s j k)
     (λ x y h k. subst (λ (l : Inputs). InputsAlike l y) (sym (same_inputs x i h)) (subst (λ (l : Inputs). InputsAlike i l) (sym (same_inputs y j k)) alike))
 
-inputs_alike : (node : NodeAsked) (file : List ℕ) → LoadsOne (KitsLoaded node.kits) → LoadsAlike (KitsLoaded node.kits) → InputOne {X = List User} (UsersRead node.users) → InputOne {X = List ℕ} (SecretRead node.secret)
+inputs_alike : (node : NodeAsked) (file : List ℕ) → LoadsOne (KitsGenerated node.kits) → InputOne {X = List User} (UsersRead node.users) → InputOne {X = List ℕ} (SecretRead node.secret)
     → InputOne {X = List ℕ} (RecordRead file) → EndsAlike (InputsRead node file) (InputsRead node file) InputsAlike
-inputs_alike node file kits alike users secret text =
-    then_alike _ _ AreAlike _ _ InputsAlike (files_alike of_kits (KitsLoaded node.kits) AreAlike (kits_one (KitsLoaded node.kits) kits alike))
+inputs_alike node file kits users secret text =
+    then_alike _ _ AreAlike _ _ InputsAlike (reads_alike (KitsGenerated node.kits) AreAlike kits)
     (λ (p q : Program) same_kits. then_alike _ _ (λ (u v : List User). u ≡ v) _ _ InputsAlike (files_alike of_inputs (UsersRead node.users) (λ (u v : List User). u ≡ v) (input_one (UsersRead node.users) users))
     (λ (u v : List User) same_users. then_alike _ _ (λ (s t : List ℕ). s ≡ t) _ _ InputsAlike (files_alike of_inputs (SecretRead node.secret) (λ (s t : List ℕ). s ≡ t) (input_one (SecretRead node.secret) secret))
     (λ (s t : List ℕ) same_secret. then_alike _ _ (λ (x y : List ℕ). x ≡ y) _ _ InputsAlike (files_alike of_inputs (RecordRead file) (λ (x y : List ℕ). x ≡ y) (input_one (RecordRead file) text))
@@ -62,11 +60,11 @@ opened_ends_alike one store limit p q alike =
 never_refused : (node : NodeAsked) (i : Inputs) (a : Application) → NeverRefused (Replays node i a)
 never_refused node i a asks r replays = err_ok r _ replays.end_is
 
-pub replay_one_end : ReadsOne → (node : NodeAsked) (file : List ℕ) → LoadsOne (KitsLoaded node.kits) → LoadsAlike (KitsLoaded node.kits) → InputOne {X = List User} (UsersRead node.users)
+pub replay_one_end : ReadsOne → (node : NodeAsked) (file : List ℕ) → LoadsOne (KitsGenerated node.kits) → InputOne {X = List User} (UsersRead node.users)
     → InputOne {X = List ℕ} (SecretRead node.secret) → InputOne {X = List ℕ} (RecordRead file) → HasOneEnd (ReplayComes node file)
-replay_one_end one node file kits alike users secret text asks others end other agree h k =
+replay_one_end one node file kits users secret text asks others end other agree h k =
     stops_once (ReplayComes node file) (ReplayComes node file)
-    (then_stops _ _ InputsAlike _ _ (inputs_alike node file kits alike users secret text)
+    (then_stops _ _ InputsAlike _ _ (inputs_alike node file kits users secret text)
     (λ (i j : Inputs) same. then_stops _ _ (λ (a b : Application). Unit {0}) _ _ (opened_ends_alike one node.store node.limit i.program j.program same)
     (λ (a b : Application) any. never_stops (Replays node i a) (Replays node j b) (never_refused node i a) (never_refused node j b))))
     asks others end other agree h k
@@ -98,9 +96,9 @@ pub files_tell : {E X : Type 0} (told : E → Refusal) (step : List Read → Res
 files_tell told step tells asks (Ok x) h = ap failed_names (ap reads_in h.1 ∙ reads_of_reads h.0) ∙ tells h.0 (Ok x) h.2
 files_tell told step tells asks (Err r) h = ap failed_names (ap reads_in h.1 ∙ reads_of_reads h.0) ∙ tells h.0 (Err h.2.0) h.2.1 ∙ sym (ap failed_of h.2.2)
 
-pub kits_tell : (step : List Read → Result Program KitsRefusal → Type 0) → LoadTells step → (reads : List Read) (end : Result Program KitsRefusal) → step reads end → failed_names reads ≡ failed_as of_kits end
-kits_tell step tells reads (Ok p) h = tells reads (Ok p) h
-kits_tell step tells reads (Err e) h = tells reads (Err e) h ∙ failed_kits e
+pub reads_tell : (step : List Read → Result Program Refusal → Type 0) → LoadTells step → Tells (OfReads step)
+reads_tell step tells asks (Ok p) h = ap failed_names (ap reads_in h.1 ∙ reads_of_reads h.0) ∙ tells h.0 (Ok p) h.2
+reads_tell step tells asks (Err r) h = ap failed_names (ap reads_in h.1 ∙ reads_of_reads h.0) ∙ tells h.0 (Err r) h.2
 
 pub input_tells : {X : Type 0} (step : List Read → Result X InputRefusal → Type 0) → InputTells step → (reads : List Read) (end : Result X InputRefusal) → step reads end → failed_names reads ≡ failed_as of_inputs end
 input_tells step tells reads (Ok p) h = tells reads (Ok p) h
@@ -139,10 +137,10 @@ open_reads store limit program asks end (goes_on g d v more h (goes_on i j paylo
 run_tells : (node : NodeAsked) (i : Inputs) (a : Application) → Tells (Replays node i a)
 run_tells node i a asks end replays = ap (λ (l : List Ask). failed_names (reads_in l)) replays.asks_are ∙ sym (ap failed_end replays.end_is)
 
-inputs_tell : (node : NodeAsked) (file : List ℕ) → LoadTells (KitsLoaded node.kits) → InputTells {X = List User} (UsersRead node.users) → InputTells {X = List ℕ} (SecretRead node.secret)
+inputs_tell : (node : NodeAsked) (file : List ℕ) → LoadTells (KitsGenerated node.kits) → InputTells {X = List User} (UsersRead node.users) → InputTells {X = List ℕ} (SecretRead node.secret)
     → InputTells {X = List ℕ} (RecordRead file) → Tells (InputsRead node file)
 inputs_tell node file kits users secret text =
-    then_tells _ _ (files_tell of_kits (KitsLoaded node.kits) (kits_tell (KitsLoaded node.kits) kits))
+    then_tells _ _ (reads_tell (KitsGenerated node.kits) kits)
     (λ (p : Program). then_tells _ _ (files_tell of_inputs (UsersRead node.users) (input_tells (UsersRead node.users) users))
     (λ (u : List User). then_tells _ _ (files_tell of_inputs (SecretRead node.secret) (input_tells (SecretRead node.secret) secret))
     (λ (s : List ℕ). then_tells _ _ (files_tell of_inputs (RecordRead file) (input_tells (RecordRead file) text)) (λ (t : List ℕ). gives_tells _))))
@@ -151,7 +149,7 @@ pub as_told : (end : Result (List ℕ) Refusal) → failed_end end ≡ failed_by
 as_told (Ok text) = refl
 as_told (Err r) = refl
 
-pub replay_tells : (node : NodeAsked) (file : List ℕ) → LoadTells (KitsLoaded node.kits) → InputTells {X = List User} (UsersRead node.users) → InputTells {X = List ℕ} (SecretRead node.secret)
+pub replay_tells : (node : NodeAsked) (file : List ℕ) → LoadTells (KitsGenerated node.kits) → InputTells {X = List User} (UsersRead node.users) → InputTells {X = List ℕ} (SecretRead node.secret)
     → InputTells {X = List ℕ} (RecordRead file) → TellsFailed (ReplayComes node file)
 replay_tells node file kits users secret text asks end h =
     then_tells (InputsRead node file) _ (inputs_tell node file kits users secret text)

@@ -34,7 +34,7 @@ use Rattle.sedona_cli.specs.Program.{ComesOrWants, IsAnswer, done, stopped, OrWa
 use Rattle.sedona_cli.specs.Refusals.{is_want, of_inputs}
 use Rattle.sedona_cli.specs.Nodes.{IsReady, Opened}
 use Rattle.sedona_cli.specs.Replay.{InputsRead, OpenedBy, Plays, all_put, not_put, ReplayComes}
-use Rattle.sedona_cli.specs.Steps.{AfterKits, AfterRecord, AfterSecret, AfterUsers, OfFiles}
+use Rattle.sedona_cli.specs.Steps.{AfterKits, AfterRecord, AfterSecret, AfterUsers, OfFiles, OfReads}
 use Rattle.sedona_cli.specs.Store.{AppRead, IsRead, OpenedOrWants, StoreAttached, StoreOpened}
 use Rattle.sedona_cli.proofs.Asking.{both_asked, both_disk, only_reads, reads_asked, reads_before, reads_spare, same_disk, spares_behind}
 use Rattle.sedona_cli.proofs.Building.{either_way, match_both}
@@ -43,14 +43,19 @@ use Rattle.sedona_cli.proofs.WithPayload.{found_spares, not_attached, not_opened
 
 -- ---- files
 
--- a step of files, as one of what is asked
+-- a step of reads, as one of what is asked
+pub as_read : {T X : Type 0} (F : FileGhosts T) (a b : T) (step : List Read → Result X Refusal → Type 0) (end : Result X Refusal)
+    → HasReads F a b (λ reads. UnlessFree is_want (step reads) end) → HasReads F a b (λ reads. UnlessFree is_want (OfReads step (of_reads reads)) end)
+as_read F a b step (Ok x) has =
+    same_reads F a b (λ reads. UnlessFree is_want (step reads) (Ok x)) (λ reads. UnlessFree is_want (OfReads step (of_reads reads)) (Ok x)) (λ reads held. (reads, refl, held)) has
+as_read F a b step (Err r) has =
+    same_reads F a b (λ reads. UnlessFree is_want (step reads) (Err r)) (λ reads. UnlessFree is_want (OfReads step (of_reads reads)) (Err r))
+    (λ reads held. unless_map (is_want r) (step reads (Err r)) (OfReads step (of_reads reads) (Err r)) (λ h. (reads, refl, h)) held) has
+
+-- a step of files
 pub as_asked : {T E X : Type 0} (F : FileGhosts T) (a b : T) (told : E → Refusal) (step : List Read → Result X E → Type 0) (end : Result X Refusal)
     → HasReads F a b (λ reads. UnlessFree is_want (Told told step reads) end) → HasReads F a b (λ reads. UnlessFree is_want (OfFiles told step (of_reads reads)) end)
-as_asked F a b told step (Ok x) has =
-    same_reads F a b (λ reads. UnlessFree is_want (Told told step reads) (Ok x)) (λ reads. UnlessFree is_want (OfFiles told step (of_reads reads)) (Ok x)) (λ reads held. (reads, refl, held)) has
-as_asked F a b told step (Err r) has =
-    same_reads F a b (λ reads. UnlessFree is_want (Told told step reads) (Err r)) (λ reads. UnlessFree is_want (OfFiles told step (of_reads reads)) (Err r))
-    (λ reads held. unless_map (is_want r) (Told told step reads (Err r)) (OfFiles told step (of_reads reads) (Err r)) (λ h. (reads, refl, h)) held) has
+as_asked F a b told step end has = as_read F a b (Told told step) end has
 
 -- an input file
 pub input_given : {T X : Type 0} (F : FileGhosts T) (a b : T) (step : List Read → Result X InputRefusal → Type 0) (r : Result X InputRefusal) (x : X) → r ≡ Ok x
@@ -104,13 +109,13 @@ pub certainly : (b : Bool) (S P : Type 0) → MatchBool b S P → b ≡ false �
 certainly true S P held is = absurd (cc)
 certainly false S P held is = held
 
-pub is_read_as : (program : Program) (limit : ℕ) (payload : List ℕ) → HasTables (meaning_of program) → CanBeTold program.schema → (p : Program) (most : ℕ) (a : Application) → p ≡ program → most ≡ limit
-    → IsFile (meaning_of p) most payload a → IsRead program limit payload (Ok a)
-is_read_as program limit payload tables told p most a same is_most is = record {
+pub is_read_as : (program : Program) (limit : ℕ) (payload : List ℕ) → HasTables (meaning_of program) → CanBeTold program.schema → (m : Code) (most : ℕ) (a : Application) → m ≡ meaning_of program → most ≡ limit
+    → IsFile m most payload a → IsRead program limit payload (Ok a)
+is_read_as program limit payload tables told m most a same is_most is = record {
   tables = tables;
   told = told;
   reading = payload_read.file a;
-  is_read = subst (λ (q : Program). IsFile (meaning_of q) limit payload a) same (subst (λ (n : ℕ). IsFile (meaning_of p) n payload a) is_most is);
+  is_read = subst (λ (n : Code). IsFile n limit payload a) same (subst (λ (n : ℕ). IsFile m n payload a) is_most is);
   end_is = refl;
 }
 
@@ -305,12 +310,12 @@ same_slots (Err refusal) slot m stores same = tt
 -- ---- a node that is ready
 
 pub is_ready : {E : Type 0} (g : Ghosts E) (given moment : ℤ) (turns slot : ℕ) (code : Code) (users : List User) (secret : List ℕ) (a : Application) (node : Kept E) → given ≡ moment → code_of g node ≡ code
-    → setup_of node ≡ (let s : Setup = record { turns = turns; slot = slot } in s) → is_fixed g node ≡ false
+    → setup_of node ≡ (let s : Setup = record { turns = turns; slot = slot } in s) → is_fixed g node ≡ true
     → StandsFor g node (opened code (let s : Setup = record { turns = turns; slot = slot } in s) a users secret given) → IsReady g moment turns code users secret a node
-is_ready g given moment turns slot code users secret a node same is_code setup free stands = record {
+is_ready g given moment turns slot code users secret a node same is_code setup fixed stands = record {
   code_is = is_code;
   turns_are = ap (λ (s : Setup). s.turns) setup;
-  is_free = free;
+  fixed = fixed;
   stands = subst (λ (t : ℤ). StandsFor g node (opened code (setup_of node) a users secret t)) same
       (subst (λ (s : Setup). StandsFor g node (opened code s a users secret given)) (sym setup) stands);
 }

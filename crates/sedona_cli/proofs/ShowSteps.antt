@@ -19,13 +19,15 @@ use Rattle.app_file.specs.Opens.{Opens as OpensTo}
 use Rattle.app_file.specs.Reading.{IsFile, file}
 use Rattle.printed_app.specs.Application.{application_text}
 use Rattle.sed_kits.specs.Loading.{KitsLoaded}
+use Rattle.sedona_cli.specs.Steps.{KitsGenerated}
+use Rattle.sedona_cli.proofs.Generated.{done_by, generates_early}
 use Rattle.sedona_cli.specs.declared.refusal.Refusal.{Refusal}
-use Rattle.sedona_cli.specs.declared.refusal.Refusal.TheVariants.{FileFault, Refused, Rule, SlotTooSmall, DeviceFault, StoreExists, NoStore, NoApplication, WrongKits, OverLimit, BadUsers, ShortSecret, BadRecord, LinkFault, Memory}
+use Rattle.sedona_cli.specs.declared.refusal.Refusal.TheVariants.{FileFault, MethodTooLong, Refused, Rule, SlotTooSmall, DeviceFault, StoreExists, NoStore, NoApplication, WrongKits, OverLimit, BadUsers, ShortSecret, BadRecord, LinkFault, Memory}
 use Rattle.sedona_words.specs.Command.{Show}
 use Rattle.sedona_cli.specs.Outside.{Ask, Attaches, Opens, Found, NotAStore, of_reads, reads_in, Spares, AreAsked, AsksDisk, HasAsks, HoldsPayload}
 use Rattle.sedona_cli.specs.Puts.{IsOneOf}
 use Rattle.sedona_cli.specs.Program.{ComesOrWants, IsAnswer, done, unput, stopped, refused, wanted, OrWants, SparesDisk}
-use Rattle.sedona_cli.specs.Refusals.{is_of_store, is_want}
+use Rattle.sedona_cli.specs.Refusals.{is_want}
 use Rattle.sedona_cli.specs.Show.{OpensToNone, PrintedOrWants, ShowComes, ShowOf, Shows, ShowsKept}
 use Rattle.sedona_cli.specs.Steps.{Prints}
 use Rattle.sedona_cli.specs.Store.{AppRead, IsRead, OpenedOrWants, StoreAttached, StoreOpened, application_in}
@@ -36,7 +38,7 @@ use Rattle.sedona_cli.proofs.Alike.{ReadsOne}
 use Rattle.sedona_cli.proofs.Comings.{show_reads}
 use Rattle.sedona_cli.proofs.Ends.{err_ok, ok_err, one_refusal}
 use Rattle.sedona_cli.proofs.Puts.{whole_front}
-use Rattle.sedona_cli.proofs.StoreAsked.{Last, behind, early_kits, file_of, found_disk, last_behind, none_before, of_refusal, two, two_stop}
+use Rattle.sedona_cli.proofs.StoreAsked.{Last, behind, file_of, found_disk, last_behind, none_before, of_refusal, two, two_stop}
 use Rattle.sedona_cli.proofs.Storing.{five}
 use Rattle.sedona_cli.proofs.WithPayload.{found_spares, not_attached, not_opened}
 
@@ -85,17 +87,17 @@ all_shown D d e h store limit program payload end first second printed =
 -- ---- the kits, and then that
 
 joined : (names : List (List ℕ)) (store : List ℕ) (limit : ℕ) (program : Program) (end : Result (List ℕ) Refusal) (reads : List Read) (asks : List Ask)
-    → KitsLoaded names reads (Ok program) → OrWants (Some store) (ShowOf store limit program) asks end → ComesOrWants (Show names store limit) (of_reads reads ++ asks) end
+    → KitsGenerated names reads (Ok program) → OrWants (Some store) (ShowOf store limit program) asks end → ComesOrWants (Show names store limit) (of_reads reads ++ asks) end
 joined names store limit program (Ok text) reads asks loaded rest = goes_on (of_reads reads) asks program refl (reads, refl, loaded) rest
 joined names store limit program (Err refusal) reads asks loaded rest =
     match_both (is_want refusal) (Spares (Some store) asks) (ShowOf store limit program asks (Err refusal)) (Spares (Some store) (of_reads reads ++ asks)) (ShowComes names store limit (of_reads reads ++ asks) (Err refusal))
     (λ spared. spares_behind (Some store) reads asks spared) (λ came. goes_on (of_reads reads) asks program refl (reads, refl, loaded) came) rest
 
 pub show_goes : {S T : Type 0} (F : FileGhosts S) (D : DiskGhosts T) (a b : S) (d e : T) (names : List (List ℕ)) (store : List ℕ) (limit : ℕ) (program : Program) (end : Result (List ℕ) Refusal)
-    → HasReads F a b (λ reads. KitsLoaded names reads (Ok program)) → AsksDisk D d e (λ asks. OrWants (Some store) (ShowOf store limit program) asks end)
+    → HasReads F a b (λ reads. KitsGenerated names reads (Ok program)) → AsksDisk D d e (λ asks. OrWants (Some store) (ShowOf store limit program) asks end)
     → HasAsks F D a b d e (λ asks. ComesOrWants (Show names store limit) asks end)
 show_goes F D a b d e names store limit program end loaded rest =
-    then_disk F D a b d e (λ reads. KitsLoaded names reads (Ok program)) (λ asks. OrWants (Some store) (ShowOf store limit program) asks end) (λ asks. ComesOrWants (Show names store limit) asks end)
+    then_disk F D a b d e (λ reads. KitsGenerated names reads (Ok program)) (λ asks. OrWants (Some store) (ShowOf store limit program) asks end) (λ asks. ComesOrWants (Show names store limit) asks end)
     (λ reads asks held more. joined names store limit program end reads asks held more) loaded rest
 
 -- ---- what was shown
@@ -123,7 +125,7 @@ shown_by names store limit asks text (goes_on front back program parts loaded (g
 shown_by names store limit asks text (goes_on front back program parts loaded (goes_on g d v second attached (goes_on h k payload third opened (goes_on i j a fourth told prints)))) = record {
   reads = loaded.0;
   program = program;
-  loaded = loaded.2;
+  loaded = (done_by (KitsLoaded names) loaded.0 program loaded.2).loaded;
   payload = payload;
   asked = behind asks front back loaded.0 (Attaches store true ∷ Opens (Found payload) ∷ []) parts loaded.1
       (two back g d h k (Attaches store true) (Opens (Found payload)) second attached third opened (none_before k i j fourth told.none ∙ prints.none));
@@ -182,6 +184,7 @@ pub undone : (r : Refusal) → IsOneOf (0 ∷ 8 ∷ []) (of_refusal r) → ⊥
 undone (FileFault name) = neither _ (λ e. omega (arith, e)) (λ e. omega (arith, e))
 undone (Refused name why) = neither _ (λ e. omega (arith, e)) (λ e. omega (arith, e))
 undone (Rule name at rule) = neither _ (λ e. omega (arith, e)) (λ e. omega (arith, e))
+undone (MethodTooLong n) = neither _ (λ e. omega (arith, e)) (λ e. omega (arith, e))
 undone (SlotTooSmall needs has) = neither _ (λ e. omega (arith, e)) (λ e. omega (arith, e))
 undone DeviceFault = neither _ (λ e. omega (arith, e)) (λ e. omega (arith, e))
 undone StoreExists = neither _ (λ e. omega (arith, e)) (λ e. omega (arith, e))
@@ -279,7 +282,7 @@ none_by one once D names store limit asks reads before after fb fa status d e is
 none_by one once D names store limit asks reads before after fb fa status d e is asked five_is told (stopped put last never eight rose front) = absurd never
 none_by one once D names store limit asks reads before after fb fa status d e is asked five_is told (wanted spared seven puts) = absurd (omega (arith, seven, five_is))
 none_by one once D names store limit asks reads before after fb fa status d e is asked five_is told (refused refusal (stops r loaded same) number puts) =
-    absurd (five r (ap is_of_store loaded.2.2 ∙ early_kits loaded.2.0) (ap of_refusal (sym (one_refusal refusal r same)) ∙ sym number ∙ five_is))
+    absurd (five r (generates_early (KitsLoaded names) loaded.0 r loaded.2) (ap of_refusal (sym (one_refusal refusal r same)) ∙ sym number ∙ five_is))
 none_by one once D names store limit asks reads before after fb fa status d e is asked five_is told (refused refusal (goes_on front back program parts loaded rest) number puts) =
     let none = none_of one once D store limit program asks front back loaded.0 refusal d e parts loaded.1 (sym number ∙ five_is) told asked rest in
     let same : loaded.0 ≡ reads =
@@ -288,7 +291,7 @@ none_by one once D names store limit asks reads before after fb fa status d e is
     ∙ ap reads_in (sym parts)
     ∙ is
     in
-    (program, subst (λ (l : List Read). KitsLoaded names l (Ok program)) same loaded.2, none)
+    (program, subst (λ (l : List Read). KitsLoaded names l (Ok program)) same (done_by (KitsLoaded names) loaded.0 program loaded.2).loaded, none)
 
 pub opens_to_none : {S T : Type 0} (F : FileGhosts S) (D : DiskGhosts T) → ReadsOne → OpensOnce → (x y : S) (d e : T) (names : List (List ℕ)) (store : List ℕ) (limit : ℕ) (before after : Option (List ℕ)) (fb fa status : ℕ)
     → status ≡ 5 → IsTrue (D.meaning d).tells → HasAsks F D x y d e (λ asks. IsAnswer (Show names store limit) asks before after fb fa status)

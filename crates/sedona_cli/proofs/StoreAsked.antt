@@ -13,14 +13,14 @@ use Rattle.sedona_cli.proofs.DiskCalls.{at_end, then_during, then_marks}
 use Rattle.file_steps.specs.Steps.{Read, stops, goes_on}
 use Rattle.sedona_cli.specs.declared.refusal.Refusal.{Refusal}
 use Rattle.sedona_cli.specs.declared.refusal.Refusal.TheVariants.{DeviceFault, StoreExists, NoStore, NoApplication, WrongKits, OverLimit}
-use Rattle.sed_kits.specs.declared.refusal.KitsRefusal.{KitsRefusal}
-use Rattle.sed_kits.specs.declared.refusal.KitsRefusal.TheVariants as kits
+use Rattle.sed_kits.specs.Loading.{KitsLoaded}
 use Rattle.sedona_cli.specs.New.{NewOf, NewComes, text_of}
 use Rattle.sedona_cli.specs.Show.{ShowOf, ShowComes}
 use Rattle.sedona_cli.specs.Store.{application_in}
 use Rattle.sedona_cli.specs.Outside.{Ask, Reads, Writes, Attaches, Makes, Opens, Binds, Runs, Whole, NotEmpty, Failed, Opened, Found, NotAStore, Unread, Unheld, of_reads, Spares, AreAsked, IsAsked, IsAttached, IsOpened}
 use Rattle.sedona_cli.specs.Program.{refusal_by, SparesDisk}
-use Rattle.sedona_cli.specs.Refusals.{failed_of, is_of_store, is_want, is_worded, of_kits}
+use Rattle.sedona_cli.specs.Refusals.{failed_of, is_of_store, is_want, is_worded}
+use Rattle.sedona_cli.proofs.Generated.{generates_early}
 use Rattle.sedona_cli.specs.Status.{number_of, status_of}
 use Rattle.sedona_cli.proofs.Asking.{asked_behind, reads_spare, spares_behind}
 use Rattle.sedona_cli.proofs.Ends.{ok_err, one_refusal, some_refusal, no_refusal, not_both, err_ok}
@@ -70,12 +70,6 @@ pub data StoreAsked (Kind : Ask → Type 0) (store : List ℕ) (asks : List Ask)
   ends_unattached : (reads : List Read) → asks ≡ of_reads reads ++ Attaches store false ∷ [] → end ≡ Some DeviceFault → StoreAsked Kind store asks end
   ends_at : (reads : List Read) (ask : Ask) → asks ≡ of_reads reads ++ Attaches store true ∷ ask ∷ [] → Kind ask → EndsBy ask end → StoreAsked Kind store asks end
 
-pub early_kits : (r : KitsRefusal) → is_of_store (of_kits r) ≡ false
-early_kits (kits.FileFault name) = refl
-early_kits (kits.Refused name why) = refl
-early_kits (kits.Rule name at rule) = refl
-early_kits kits.Memory = refl
-
 -- reads, and then one thing and nothing more
 pub behind : (asks front back : List Ask) (reads : List Read) (one : List Ask) → asks ≡ front ++ back → front ≡ of_reads reads → back ≡ one → asks ≡ of_reads reads ++ one
 behind asks front back reads one parts is rest = parts ∙ ap (λ (f : List Ask). f ++ back) is ∙ ap (λ (b : List Ask). of_reads reads ++ b) rest
@@ -121,7 +115,7 @@ of_new store slot program asks front back reads end parts is (goes_on f b u firs
 
 pub new_asked : (names : List (List ℕ)) (store : List ℕ) (slot : ℕ) (asks : List Ask) (end : Result (List ℕ) Refusal) → NewComes names store slot asks end → StoreAsked IsMaking store asks (refusal_by end)
 new_asked names store slot asks end (stops r loaded e) =
-    ends_before loaded.0 r loaded.1 (ap refusal_by e) (ap is_of_store loaded.2.2 ∙ early_kits loaded.2.0)
+    ends_before loaded.0 r loaded.1 (ap refusal_by e) (generates_early (KitsLoaded names) loaded.0 r loaded.2)
 new_asked names store slot asks end (goes_on front back program parts loaded rest) =
     of_new store slot program asks front back loaded.0 end parts loaded.1 rest
 
@@ -181,7 +175,7 @@ of_show store limit program asks front back reads end parts is (goes_on g d v se
 
 pub show_asked : (names : List (List ℕ)) (store : List ℕ) (limit : ℕ) (asks : List Ask) (end : Result (List ℕ) Refusal) → ShowComes names store limit asks end → StoreAsked IsOpening store asks (refusal_by end)
 show_asked names store limit asks end (stops r loaded e) =
-    ends_before loaded.0 r loaded.1 (ap refusal_by e) (ap is_of_store loaded.2.2 ∙ early_kits loaded.2.0)
+    ends_before loaded.0 r loaded.1 (ap refusal_by e) (generates_early (KitsLoaded names) loaded.0 r loaded.2)
 show_asked names store limit asks end (goes_on front back program parts loaded rest) =
     of_show store limit program asks front back loaded.0 end parts loaded.1 rest
 

@@ -7,8 +7,8 @@ use Rattle.disk_model.specs.Disk.{Meaning, Attaches as IsAttach, Elapses, Keeps}
 use Rattle.disk_model.specs.declared.disk.Disk.{Ghosts as DiskGhosts}
 use Rattle.sedona_cli.proofs.DiskCalls.{no_time, no_marks, now_alone, then_marks, then_time}
 use Rattle.sedona_cli.specs.declared.refusal.Refusal.{Refusal}
-use Rattle.sedona_cli.specs.declared.refusal.Refusal.TheVariants.{FileFault, Refused, Rule, SlotTooSmall, DeviceFault, StoreExists, NoStore, NoApplication, WrongKits, OverLimit, BadUsers, ShortSecret, BadRecord, LinkFault, Memory}
-use Rattle.sedona_words.specs.Command.{Command, Cycles, Check, Gen, New, Replay, Run, Show, output_of, port_of, store_of}
+use Rattle.sedona_cli.specs.declared.refusal.Refusal.TheVariants.{FileFault, MethodTooLong, Refused, Rule, SlotTooSmall, DeviceFault, StoreExists, NoStore, NoApplication, WrongKits, OverLimit, BadUsers, ShortSecret, BadRecord, LinkFault, Memory}
+use Rattle.sedona_words.specs.Command.{Command, Cycles, Check, Compile, Gen, New, Replay, Run, Show, output_of, port_of, store_of}
 use Rattle.sedona_cli.specs.Outside.{Ask, Reads, Writes, Attaches, Makes, Opens, Binds, Runs, Whole, NotEmpty, Failed, Found, NotAStore, Unread, Unheld, Written, Unwritten, Withheld, is_of_files, names_in, of_reads, spares, Spares, AreAsked, AttachesFirst, AttachesIfAny}
 use Rattle.sedona_cli.specs.Puts.{IsOneOf}
 use Rattle.sedona_cli.specs.Program.{Comes, ComesUntil, IsAnswer, done, unput, stopped, refused, wanted, before_store, at_store, AttachesBy, AsksStore, SparesDisk, refusal_by}
@@ -45,6 +45,12 @@ late_at (Rule file at rule) early (inr (inr (inl e))) = absurd (omega (arith, e)
 late_at (Rule file at rule) early (inr (inr (inr (inl e)))) = absurd (omega (arith, e))
 late_at (Rule file at rule) early (inr (inr (inr (inr (inl e))))) = absurd (omega (arith, e))
 late_at (Rule file at rule) early (inr (inr (inr (inr (inr never))))) = never
+late_at (MethodTooLong n) early (inl e) = absurd (omega (arith, e))
+late_at (MethodTooLong n) early (inr (inl e)) = absurd (omega (arith, e))
+late_at (MethodTooLong n) early (inr (inr (inl e))) = absurd (omega (arith, e))
+late_at (MethodTooLong n) early (inr (inr (inr (inl e)))) = absurd (omega (arith, e))
+late_at (MethodTooLong n) early (inr (inr (inr (inr (inl e))))) = absurd (omega (arith, e))
+late_at (MethodTooLong n) early (inr (inr (inr (inr (inr never))))) = never
 late_at (SlotTooSmall needs has) early (inl e) = absurd (omega (arith, e))
 late_at (SlotTooSmall needs has) early (inr (inl e)) = absurd (omega (arith, e))
 late_at (SlotTooSmall needs has) early (inr (inr (inl e))) = absurd (omega (arith, e))
@@ -199,6 +205,7 @@ no_until (New names store slot) asks put last none until = until
 no_until (Show names store limit) asks put last none until = until
 no_until (Replay node file) asks put last none until = absurd (cc)
 no_until (Run r) asks put last none until = until
+no_until (Compile image names) asks put last none until = until
 no_until (Gen record_asked) asks put last none until = until
 
 -- nothing is asked of the disk where no store is named
@@ -288,6 +295,7 @@ pub asks_store : {T : Type 0} (D : DiskGhosts T) (command : Command) (asks : Lis
     → IsAnswer command asks before after fb fa status → AreAsked D asks d e → AsksStore D (store_of command) status d e
 asks_store D (Cycles file count) asks before after fb fa status d e answer asked = quiet_alone D (Cycles file count) asks before after fb fa status d e refl answer asked
 asks_store D (Check names) asks before after fb fa status d e answer asked = quiet_alone D (Check names) asks before after fb fa status d e refl answer asked
+asks_store D (Compile image names) asks before after fb fa status d e answer asked = quiet_alone D (Compile image names) asks before after fb fa status d e refl answer asked
 asks_store D (Gen g) asks before after fb fa status d e answer asked = quiet_alone D (Gen g) asks before after fb fa status d e refl answer asked
 asks_store D (New names store slot) asks before after fb fa status d e (done text came is put same) asked =
     attaches_done _ D store status asks d e (not_done status 0 is (λ e. omega (arith, e)) (λ e. omega (arith, e)) (λ e. omega (arith, e)) (λ e. omega (arith, e)) (λ e. omega (arith, e))) (new_asked names store slot asks (Ok text) came) asked
@@ -353,6 +361,8 @@ device_fault D (Cycles file count) asks before after fb fa status d e (refused r
     absurd (four refusal (early_alone (Cycles file count) asks refusal refl came) (sym is ∙ four_is))
 device_fault D (Check names) asks before after fb fa status d e (refused refusal came is puts) asked four_is =
     absurd (four refusal (early_alone (Check names) asks refusal refl came) (sym is ∙ four_is))
+device_fault D (Compile image names) asks before after fb fa status d e (refused refusal came is puts) asked four_is =
+    absurd (four refusal (early_alone (Compile image names) asks refusal refl came) (sym is ∙ four_is))
 device_fault D (Gen g) asks before after fb fa status d e (refused refusal came is puts) asked four_is =
     absurd (four refusal (early_alone (Gen g) asks refusal refl came) (sym is ∙ four_is))
 device_fault D (New names store slot) asks before after fb fa status d e (refused refusal came is puts) asked four_is =
@@ -427,6 +437,8 @@ spared D (Cycles file count) asks before after fb fa status d e (refused refusal
     spares_same D d e (quiet_alone D (Cycles file count) asks before after fb fa status d e refl (refused refusal came is puts) asked)
 spared D (Check names) asks before after fb fa status d e (refused refusal came is puts) asked at =
     spares_same D d e (quiet_alone D (Check names) asks before after fb fa status d e refl (refused refusal came is puts) asked)
+spared D (Compile image names) asks before after fb fa status d e (refused refusal came is puts) asked at =
+    spares_same D d e (quiet_alone D (Compile image names) asks before after fb fa status d e refl (refused refusal came is puts) asked)
 spared D (Gen g) asks before after fb fa status d e (refused refusal came is puts) asked at =
     spares_same D d e (quiet_alone D (Gen g) asks before after fb fa status d e refl (refused refusal came is puts) asked)
 spared D (New names store slot) asks before after fb fa status d e (refused refusal came is puts) asked at =
@@ -477,6 +489,7 @@ nothing_written (Replay node file) asks (Ok text) none comes = run_unwritten nod
 nothing_written (Replay node file) asks (Err r) none comes = store_unwritten _ node.store asks (Some r) (replay_asked node file asks r comes)
 nothing_written (Run r) asks (Ok text) none comes = live_unwritten r.node.store r.port asks (live_behind r asks text comes)
 nothing_written (Run r) asks (Err refusal) none comes = refused_unwritten r.node.store r.port asks refusal (run_asked r asks refusal comes)
+nothing_written (Compile image names) asks end none comes = absurd (cc)
 nothing_written (Gen g) asks end none comes = absurd (cc)
 
 -- a command that puts its text piece by piece has none
@@ -487,6 +500,7 @@ until_no_output (New names store slot) asks put last until = absurd until
 until_no_output (Show names store limit) asks put last until = absurd until
 until_no_output (Replay node file) asks put last until = refl
 until_no_output (Run r) asks put last until = absurd until
+until_no_output (Compile image names) asks put last until = absurd until
 until_no_output (Gen g) asks put last until = absurd until
 
 -- ---- a port
@@ -511,6 +525,7 @@ no_link command asks before after fb fa status none (stopped put last until is r
 no_link command asks before after fb fa status none (wanted left is puts) ten = omega (arith, is, ten)
 no_link (Cycles file count) asks before after fb fa status none (refused refusal came is puts) ten = early_link refusal (early_alone (Cycles file count) asks refusal refl came) (sym is ∙ ten)
 no_link (Check names) asks before after fb fa status none (refused refusal came is puts) ten = early_link refusal (early_alone (Check names) asks refusal refl came) (sym is ∙ ten)
+no_link (Compile image names) asks before after fb fa status none (refused refusal came is puts) ten = early_link refusal (early_alone (Compile image names) asks refusal refl came) (sym is ∙ ten)
 no_link (Gen g) asks before after fb fa status none (refused refusal came is puts) ten = early_link refusal (early_alone (Gen g) asks refusal refl came) (sym is ∙ ten)
 no_link (New names store slot) asks before after fb fa status none (refused refusal came is puts) ten = store_link _ store asks refusal (new_asked names store slot asks (Err refusal) came) (sym is ∙ ten)
 no_link (Show names store limit) asks before after fb fa status none (refused refusal came is puts) ten = store_link _ store asks refusal (show_asked names store limit asks (Err refusal) came) (sym is ∙ ten)
@@ -564,6 +579,7 @@ by_device (Err r) not same = not (ap Err (some_refusal r DeviceFault same))
 comes_bound : (command : Command) (asks : List Ask) (end : Result (List ℕ) Refusal) → (end ≡ Err LinkFault → ⊥) → (end ≡ Err DeviceFault → ⊥) → Comes command asks end → NoneFailed asks
 comes_bound (Cycles file count) asks end not four came = of_files_bound asks (of_files_alone (Cycles file count) asks end refl came)
 comes_bound (Check names) asks end not four came = of_files_bound asks (of_files_alone (Check names) asks end refl came)
+comes_bound (Compile image names) asks end not four came = of_files_bound asks (of_files_alone (Compile image names) asks end refl came)
 comes_bound (Gen g) asks end not four came = of_files_bound asks (of_files_alone (Gen g) asks end refl came)
 comes_bound (New names store slot) asks end not four came = store_bound _ store asks (refusal_by end) (by_device end four) (new_asked names store slot asks end came)
 comes_bound (Show names store limit) asks end not four came = store_bound _ store asks (refusal_by end) (by_device end four) (show_asked names store limit asks end came)
@@ -590,6 +606,7 @@ until_bound (Replay node file) asks put last until =
     let by = run_behind node file asks (ran_until node file asks put last until) in
     bound_row asks (Attaches node.store true ∷ Opens (Found by.payload) ∷ Runs by.ran ∷ []) by.reads by.asks_are (refl, ((λ same. cc), tt))
 until_bound (Run r) asks put last until = absurd until
+until_bound (Compile image names) asks put last until = absurd until
 until_bound (Gen g) asks put last until = absurd until
 
 -- memory was wanted, or nothing failed where it is answered neither by 10 nor by 4

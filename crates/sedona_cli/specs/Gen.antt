@@ -1,6 +1,7 @@
 -- What `gen` comes to, and what it leaves.
 use Rattle.std.specs.Prelude.{◌≡◌, ℕ, List, None, IsSome, Result, Ok, Err}
 use Rattle.sed_typed.specs.declared.program.Program.{Program as TheProgram}
+use Rattle.sed_engine.specs.Program.{meaning_of}
 use Rattle.sed_outside.specs.Files.{WritesFile}
 use Rattle.sed_outside.specs.declared.files.Files.{Ghosts as FileGhosts}
 use Rattle.dasp_users.specs.declared.user.User.{User}
@@ -36,7 +37,7 @@ RecordInputsRead asked =
 -- the bytes are the record that is asked for, generated from these
 abbrev pub IsRecordFrom : RecordAsked → RecordInputs → List ℕ → Type 0
 IsRecordFrom asked inputs bytes =
-    IsRecordOf inputs.program inputs.users asked.user inputs.secret asked.numbers bytes
+    IsRecordOf (meaning_of inputs.program) inputs.users asked.user inputs.secret asked.numbers bytes
 
 -- The record is written into the output file.
 abbrev pub RecordWritten : RecordAsked → RecordInputs → List Ask → Result (List ℕ) Refusal → Type 0

@@ -7,6 +7,8 @@ pub use Rattle.live_outside.specs.Told
 pub use Rattle.disk_model.specs.Disk
 pub use Rattle.new_store.specs.Alone
 pub use Rattle.record_making.specs.Spec
+pub use Rattle.scode_compile.specs.Compiled
+pub use Rattle.scode_gen.specs.Generated
 pub use Rattle.sed_kits.specs.Loading
 pub use Rattle.sedona_words.specs.Command
 pub mod Words
@@ -23,6 +25,7 @@ pub mod Puts
 pub mod Replay
 pub mod Run
 pub mod Gen
+pub mod Compile
 pub mod Program
 pub mod Agree
 pub mod Status

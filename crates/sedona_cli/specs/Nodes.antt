@@ -1,5 +1,5 @@
 -- What commands share that run a node: the store that is opened, the run, and what it leaves.
-use Rattle.std.specs.Prelude.{◌≡◌, ◌<◌, ◌≤◌, ◌+◌, ◌-◌, ℕ, ℤ, false, IsTrue, List, Result}
+use Rattle.std.specs.Prelude.{◌≡◌, ◌<◌, ◌≤◌, ◌+◌, ◌-◌, ℕ, ℤ, true, IsTrue, List, Result}
 use Rattle.sed_typed.specs.declared.program.Program.{Program as TheProgram}
 use Rattle.disk_model.specs.Disk.{Image, Meaning}
 use Rattle.sed_engine.specs.declared.engine.Engine.{Ghosts}
@@ -37,23 +37,24 @@ pub record IsRunFrom (moment : ℤ) (given : ℕ) (m : Code) (users : List User)
   pub turns : ran.setup.turns ≡ given
   pub start : ran.start ≡ opened ran.code ran.setup a users secret moment
 
--- A node that is ready to be run: it is of this code, has so many turns for each root call, may want memory, and stands
--- for the node that begins at this moment with this application.
+-- A node that is ready to be run: it is of this code, has so many turns for each root call, never wants memory, and
+-- stands for the node that begins at this moment with this application.
 pub record IsReady {E : Type 0} (g : Ghosts E) (moment : ℤ) (turns : ℕ) (code : Code) (users : List User)
     (secret : List ℕ) (a : Application) (node : Kept E) : Type 0 where
   pub code_is : code_of g node ≡ code
   pub turns_are : (setup_of node).turns ≡ turns
-  pub is_free : is_fixed g node ≡ false
+  pub fixed : is_fixed g node ≡ true
   pub stands : StandsFor g node (opened code (setup_of node) a users secret moment)
 
 -- ---- what it leaves
 
--- What a run leaves of its store. Its entries came to its events. The node began with the application that the store's
--- file opens to, in slots of the store's size. Each save that was acknowledged made a mark; what was opened counts as
--- acknowledged. From the opening's sync on, each image that a crash at a moment may leave opens to an application that
--- was opened or saved, and to none before the last one acknowledged by then: as many were as marks were made.
+-- What a run leaves of its store. Its entries came to its events, in none of which memory was wanted. The node began
+-- with the application that the store's file opens to, in slots of the store's size. Each save that was acknowledged
+-- made a mark; what was opened counts as acknowledged. From the opening's sync on, each image that a crash at a moment
+-- may leave opens to an application that was opened or saved, and to none before the last one acknowledged by then: as
+-- many were as marks were made.
 pub record LeavesStore (limit : ℕ) (a : Application) (ran : Ran) (disk disk_now : Meaning) : Type 0 where
-  pub comes : ComesTo false ran.entries disk.faults disk_now.faults ran.events
+  pub comes : ComesTo true ran.entries disk.faults disk_now.faults ran.events
   pub slots : IsTrue disk.tells → IsStore ran.setup.slot disk.content
   pub opens : IsTrue disk.tells → Opens ran.code limit disk.content a
   pub made : IsTrue disk.tells_marks

@@ -218,15 +218,15 @@ abbrev pub saves_in : Application → Ran → List Save
 saves_in opened ran = saves_of ran.code ran.setup opened ran.start ran.events
 
 -- A node was run on a store with slots of its setup's size. Its entries came to its events, where the disk's faults
--- were counted before and after; its saves were done, one after another, each of a text that is a file of what it
--- saved; and what a crash at any moment leaves opens to an application that was opened or saved, and to none before the
--- last one acknowledged by then.
+-- were counted before and after, and in none of them memory was wanted; its saves were done, one after another, each of
+-- a text that is a file of what it saved; and what a crash at any moment leaves opens to an application that was opened
+-- or saved, and to none before the last one acknowledged by then.
 pub record IsRan {T : Type 0} (meaning : T → Meaning) (ran : Ran) (old new : T) : Type 0 where
   pub time : Elapses (meaning old) (meaning new)
   pub attached : (meaning new).attached ≡ (meaning old).attached
   pub slots : IsTrue (meaning old).tells → AllStores ran.setup.slot (meaning old)
   pub stores : IsTrue (meaning old).tells → AllStores ran.setup.slot (meaning new)
-  pub comes : ComesTo false ran.entries (meaning old).faults (meaning new).faults ran.events
+  pub comes : ComesTo true ran.entries (meaning old).faults (meaning new).faults ran.events
   pub saved : AreSaved meaning ran.code ran.setup.slot (reached ran).saves old new
   pub files : AreFiles ran.code (reached ran).saves
   pub crashes : CrashesOpen meaning ran.code ran.setup.slot (λ opened. saves_in opened ran) old new

@@ -15,7 +15,9 @@ use Rattle.app_save.specs.Store.{Opens as IsOpen}
 use Rattle.file_steps.specs.Steps.{Read, AndThen}
 use Rattle.sed_cycles.specs.Cycles.{text_after}
 use Rattle.sedona_cli.specs.declared.refusal.Refusal.{Refusal}
-use Rattle.sedona_words.specs.Command.{Command, Cycles, Check, Gen, New, Replay, Run, Show, store_of}
+use Rattle.sed_engine.specs.Program.{meaning_of}
+use Rattle.sedona_words.specs.Command.{Command, Cycles, Check, Compile, Gen, New, Replay, Run, Show, store_of}
+use Rattle.sedona_cli.specs.Compile.{CompileComes, LeavesImage}
 use Rattle.sedona_cli.specs.Gen.{GenComes, LeavesRecord}
 use Rattle.sedona_cli.specs.Lines.{line_of, memory_line}
 use Rattle.sedona_cli.specs.New.{LeavesNew, NewComes}
@@ -34,8 +36,10 @@ use Rattle.sedona_cli.specs.Steps.{AfterKits, AfterText, Prints, done_text}
 
 -- The outside is asked, step by step, and it ends with the text that is printed, or with the first refusal.
 abbrev pub Comes : Command → List Ask → Result (List ℕ) Refusal → Type 0
-Comes (Cycles file count) = AndThen (AfterText file) (λ (program : TheProgram). Prints (text_after program count))
+Comes (Cycles file count) =
+    AndThen (AfterText file) (λ (program : TheProgram). Prints (text_after (meaning_of program) count))
 Comes (Check names) = AndThen (AfterKits names) (λ (program : TheProgram). Prints done_text)
+Comes (Compile out names) = CompileComes out names
 Comes (New names store slot) = NewComes names store slot
 Comes (Show names store limit) = ShowComes names store limit
 Comes (Replay asked file) = ReplayComes asked file
@@ -46,6 +50,7 @@ Comes (Gen asked) = GenComes asked
 abbrev pub PutsAtOnce : Command → Type 0
 PutsAtOnce (Cycles file count) = Unit {0}
 PutsAtOnce (Check names) = Unit {0}
+PutsAtOnce (Compile out names) = Unit {0}
 PutsAtOnce (New names store slot) = Unit {0}
 PutsAtOnce (Show names store limit) = Unit {0}
 PutsAtOnce (Replay asked file) = ⊥
@@ -57,6 +62,7 @@ PutsAtOnce (Gen asked) = Unit {0}
 abbrev pub ComesUntil : Command → List Ask → List ℕ → List ℕ → Type 0
 ComesUntil (Cycles file count) asks put last = ⊥
 ComesUntil (Check names) asks put last = ⊥
+ComesUntil (Compile out names) asks put last = ⊥
 ComesUntil (New names store slot) asks put last = ⊥
 ComesUntil (Show names store limit) asks put last = ⊥
 ComesUntil (Replay asked file) asks put last = ReplayStops asked file asks put last
@@ -116,6 +122,7 @@ pub record SparesDisk (old new : Meaning) : Type 0 where
 abbrev pub Leaves : {S T : Type 0} → FileGhosts S → DiskGhosts T → Command → S → S → T → T → Type 0
 Leaves F D (Cycles file count) files files_now disk disk_now = disk_now ≡ disk
 Leaves F D (Check names) files files_now disk disk_now = disk_now ≡ disk
+Leaves F D (Compile out names) files files_now disk disk_now = LeavesImage F out names files files_now
 Leaves F D (New names store slot) files files_now disk disk_now =
     LeavesNew F names slot files files_now (D.meaning disk) (D.meaning disk_now)
 Leaves F D (Show names store limit) files files_now disk disk_now = SparesDisk (D.meaning disk) (D.meaning disk_now)

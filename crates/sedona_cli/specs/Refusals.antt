@@ -12,13 +12,16 @@ use Rattle.sedona_cli.specs.declared.refusal.Refusal.{Refusal}
 use Rattle.sedona_cli.specs.declared.refusal.Refusal.TheVariants.{FileFault, Refused, Rule, SlotTooSmall, DeviceFault}
 use Rattle.sedona_cli.specs.declared.refusal.Refusal.TheVariants.{StoreExists, NoStore, NoApplication, WrongKits}
 use Rattle.sedona_cli.specs.declared.refusal.Refusal.TheVariants.{OverLimit, BadUsers, ShortSecret, BadRecord}
-use Rattle.sedona_cli.specs.declared.refusal.Refusal.TheVariants.{LinkFault, Memory}
+use Rattle.sedona_cli.specs.declared.refusal.Refusal.TheVariants.{LinkFault, Memory, MethodTooLong}
+use Rattle.scode_compile.specs.declared.refusal.CompileRefusal.{CompileRefusal}
+use Rattle.scode_compile.specs.declared.refusal.CompileRefusal.TheVariants as compiled
 
 -- it is want of memory
 abbrev pub is_want : Refusal → Bool
 is_want (FileFault file) = false
 is_want (Refused file why) = false
 is_want (Rule file at rule) = false
+is_want (MethodTooLong n) = false
 is_want (SlotTooSmall needs has) = false
 is_want DeviceFault = false
 is_want StoreExists = false
@@ -38,6 +41,11 @@ of_kits (kits.FileFault file) = FileFault file
 of_kits (kits.Refused file why) = Refused file why
 of_kits (kits.Rule file at rule) = Rule file at rule
 of_kits kits.Memory = Memory
+
+-- why a program is not compiled, as a refusal of a command
+abbrev pub of_compiling : CompileRefusal → Refusal
+of_compiling (compiled.MethodTooLong n) = MethodTooLong n
+of_compiling compiled.Memory = Memory
 
 -- why no application is read, as a refusal of a command
 abbrev pub of_app : AppRefusal → Refusal
@@ -64,6 +72,7 @@ abbrev pub failed_of : Refusal → List (List ℕ)
 failed_of (FileFault file) = file ∷ []
 failed_of (Refused file why) = []
 failed_of (Rule file at rule) = []
+failed_of (MethodTooLong n) = []
 failed_of (SlotTooSmall needs has) = []
 failed_of DeviceFault = []
 failed_of StoreExists = []
@@ -82,6 +91,7 @@ abbrev pub is_of_store : Refusal → Bool
 is_of_store (FileFault file) = false
 is_of_store (Refused file why) = false
 is_of_store (Rule file at rule) = false
+is_of_store (MethodTooLong n) = false
 is_of_store (SlotTooSmall needs has) = false
 is_of_store DeviceFault = true
 is_of_store StoreExists = true
@@ -100,6 +110,7 @@ abbrev pub is_worded : Refusal → Bool
 is_worded (FileFault file) = true
 is_worded (Refused file why) = true
 is_worded (Rule file at rule) = true
+is_worded (MethodTooLong n) = true
 is_worded (SlotTooSmall needs has) = true
 is_worded DeviceFault = false
 is_worded StoreExists = false

@@ -26,6 +26,7 @@ abbrev pub status_of : Refusal → Status
 status_of (refusal.FileFault file) = FileFault
 status_of (refusal.Refused file why) = Refused
 status_of (refusal.Rule file at rule) = Refused
+status_of (refusal.MethodTooLong n) = Refused
 status_of (refusal.SlotTooSmall needs has) = SlotTooSmall
 status_of refusal.DeviceFault = DeviceFault
 status_of refusal.StoreExists = StoreRefused

@@ -1,28 +1,54 @@
--- The steps that commands share: the loading of programs, and printing.
-use Rattle.std.specs.Prelude.{◌≡◌, ℕ, List, [], ◌∷◌, ◌++◌, Result, Ok, Err, codes}
+-- The steps that commands share: the loading and generating of programs, and printing.
+use Rattle.std.specs.Prelude.{◌≡◌, ℕ, All, List, [], ◌∷◌, ◌++◌, Result, Ok, Err, codes}
 use Rattle.sed_typed.specs.declared.program.Program.{Program as TheProgram}
-use Rattle.file_steps.specs.Steps.{Read, Decides}
+use Rattle.file_steps.specs.Steps.{Read, AndThen, Decides}
 use Rattle.dasp_users.specs.declared.user.User.{User}
 use Rattle.input_files.specs.Inputs.{RecordRead, SecretRead, UsersRead}
+use Rattle.scode_gen.specs.Generated.{IsFirstTooLong, IsShort}
+use Rattle.sed_kits.specs.declared.refusal.KitsRefusal.{KitsRefusal}
 use Rattle.sed_kits.specs.Loading.{KitsLoaded, TextLoaded, Told}
 use Rattle.sedona_cli.specs.declared.refusal.Refusal.{Refusal}
 use Rattle.sedona_cli.specs.Lines.{line_end}
-use Rattle.sedona_cli.specs.declared.refusal.Refusal.TheVariants.{FileFault}
+use Rattle.sedona_cli.specs.declared.refusal.Refusal.TheVariants.{FileFault, MethodTooLong}
 use Rattle.sedona_cli.specs.Outside.{Ask, Writes, Written, Unwritten, of_reads}
 use Rattle.sedona_cli.specs.Refusals.{of_inputs, of_kits}
 
--- A step that asks for files alone, as one of a command, whose refusals are told so: its reads are what is asked.
+-- A step that asks for files alone, as one of a command: its reads are what is asked.
+abbrev pub OfReads : {X : Type 0} → (List Read → Result X Refusal → Type 0) → List Ask → Result X Refusal → Type 0
+OfReads step asks end = (reads : List Read) × (asks ≡ of_reads reads) × step reads end
+
+-- the same, where its refusals are told so
 abbrev pub OfFiles : {E X : Type 0} → (E → Refusal) → (List Read → Result X E → Type 0)
     → List Ask → Result X Refusal → Type 0
-OfFiles told step asks end = (reads : List Read) × (asks ≡ of_reads reads) × Told told step reads end
+OfFiles told step = OfReads (Told told step)
+
+-- ---- programs
+
+-- A program is generated, no method of which is too long; or it is refused for the first one that is.
+abbrev pub IsGenerated : TheProgram → Result TheProgram Refusal → Type 0
+IsGenerated program (Ok generated) = (generated ≡ program) × All (IsShort program) program.methods
+IsGenerated program (Err refusal) = (n : ℕ) × IsFirstTooLong program n × (refusal ≡ MethodTooLong n)
+
+-- What is loaded is generated.
+abbrev pub Generates : (List Read → Result TheProgram KitsRefusal → Type 0) → List Read → Result TheProgram Refusal
+    → Type 0
+Generates loaded = AndThen (Told of_kits loaded) (λ (program : TheProgram). Decides (IsGenerated program))
 
 -- the program of kits, by the names of their manifests
+abbrev pub KitsGenerated : List (List ℕ) → List Read → Result TheProgram Refusal → Type 0
+KitsGenerated names = Generates (KitsLoaded names)
+
 abbrev pub AfterKits : List (List ℕ) → List Ask → Result TheProgram Refusal → Type 0
-AfterKits names = OfFiles of_kits (KitsLoaded names)
+AfterKits names = OfReads (KitsGenerated names)
 
 -- the program of one source
+abbrev pub TextGenerated : List ℕ → List Read → Result TheProgram Refusal → Type 0
+TextGenerated file = Generates (TextLoaded file)
+
 abbrev pub AfterText : List ℕ → List Ask → Result TheProgram Refusal → Type 0
-AfterText file = OfFiles of_kits (TextLoaded file)
+AfterText file = OfReads (TextGenerated file)
+
+-- ---- input files
 
 -- the users of a users file, by its name
 abbrev pub AfterUsers : List ℕ → List Ask → Result (List User) Refusal → Type 0
@@ -35,6 +61,8 @@ AfterSecret file = OfFiles of_inputs (SecretRead file)
 -- the bytes of a file, which are a record
 abbrev pub AfterRecord : List ℕ → List Ask → Result (List ℕ) Refusal → Type 0
 AfterRecord file = OfFiles of_inputs (RecordRead file)
+
+-- ---- what is printed and written
 
 -- nothing more is asked, and this is printed
 abbrev pub Prints : List ℕ → List Ask → Result (List ℕ) Refusal → Type 0

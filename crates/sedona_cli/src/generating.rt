@@ -1,37 +1,36 @@
 //! `gen`: the record of a generated run, written into a file.
-ghost use Rattle.std.specs.Prelude.{◌≡◌, IfErr, IfOk, IsSome, None, OnOk};
+ghost use Rattle.std.specs.Prelude.{◌≡◌, IfErr, IfOk, IsSome, OnOk};
 ghost use Rattle.dasp_users.specs.UsersFile.{AreUsers, credential_of};
 ghost use Rattle.file_steps.specs.Reads.{HasReads};
 ghost use Rattle.file_steps.specs.Steps.{UnlessFree};
 ghost use Rattle.record_making.specs.Spec.{IsAllowed, IsRecordOf};
-ghost use Rattle.sed_outside.specs.Files.{WritesFile};
-ghost use Rattle.sed_typed.specs.Typed.{Typed};
+ghost use Rattle.sed_engine.specs.Program.{meaning_of};
 ghost use Rattle.sedona_words.specs.Asked.{asked_record, IsMeantRecord};
 ghost use Rattle.sedona_words.specs.Command as words_of;
 ghost use Rattle.sedona_cli.specs.Gen.{IsAmong, LeavesRecord, RecordInputsRead, UsersWith};
 ghost use Rattle.sedona_cli.specs.Outside.{of_reads};
-ghost use Rattle.sedona_cli.specs.Program.{ComesOrWants, OrWants};
-ghost use Rattle.sedona_cli.specs.Refusals.{is_want, of_write};
-ghost use Rattle.sedona_cli.specs.Steps as steps;
-ghost use Rattle.sedona_cli.specs.Steps.{FileWritten};
-ghost use Rattle.sedona_cli.specs.Writing.{HasOutput, HasWrite};
+ghost use Rattle.sedona_cli.specs.Program.{ComesOrWants};
+ghost use Rattle.sedona_cli.specs.Refusals.{is_want};
+ghost use Rattle.sedona_cli.specs.Writing.{HasOutput};
 
 use crate::inputs::{node_program, node_secret, node_users};
-use crate::printing::done_text;
 use crate::refusal::Refusal;
+use crate::writing::write_output;
 use dasp_users::Users;
-use kit_manifest::Text;
 use record_making::{GenAsked, RecordRefusal, generated};
-use sed_outside::{FileFault, Files};
-use sed_typed::Program;
-use sed_value::Items;
+use scode_compile::Compiled;
+use sed_outside::Files;
+use sed_value::{Items, Memory};
 use sedona_words::GenWords;
-use std::alloc::{AllocError, Global};
+use std::alloc::Global;
+
+// A class has less bytes of data.
+const ROOM: u32 = 65_536;
 
 /// What a record is generated from beside its numbers: the program of its kits, the users of the node, and its secret.
 #[derive(Drop)]
 pub struct RecordInputs {
-    pub program: Program,
+    pub program: Compiled,
     pub users: Users,
     pub secret: [u8; 20],
 }
@@ -73,7 +72,6 @@ fn record_inputs<F: Files>(
     requires { IsMeantRecord words }
     ensures read { HasReads F.Files files.old files.new
         (λ reads. UnlessFree is_want (RecordInputsRead (asked_record words.entry) (of_reads reads)) result) }
-    ensures typed { IfOk result (λ inputs. Typed inputs.program) }
     ensures users { IfOk result (λ inputs. AreUsers inputs.users) }
     ensures among { IfOk result (λ inputs. IsSome (credential_of inputs.users words.entry.user.now)) }
 {
@@ -102,11 +100,11 @@ fn record_bytes(
     user: &str,
     numbers: &GenAsked,
 ) -> Result<Items<u8>, Refusal>
-    requires typed { Typed inputs.program }
     requires users { AreUsers inputs.users }
     requires among { IsSome (credential_of inputs.users user.now) }
     requires numbers { IsAllowed numbers.now }
-    ensures made { IfOk result (IsRecordOf inputs.program inputs.users user.now inputs.secret numbers.now) }
+    ensures made { IfOk result
+        (IsRecordOf (meaning_of inputs.program) inputs.users user.now inputs.secret numbers.now) }
     ensures refused { IfErr result (λ refusal. refusal ≡ Refusal.Memory) }
 {
     let RecordInputs {
@@ -114,69 +112,14 @@ fn record_bytes(
         users,
         secret,
     } = inputs;
-    match generated(alloc, program, &users, user.as_bytes(), &secret, numbers) {
+    let engine = match program.machine(alloc, ROOM) {
+        Ok(engine) => engine,
+        Err(Memory) => return Err(Refusal::Memory),
+    };
+    match generated(alloc, engine, &users, user.as_bytes(), &secret, numbers) {
         Ok(bytes) => Ok(bytes),
         Err(RecordRefusal::NoUser) => unreachable!(),
         Err(RecordRefusal::Memory) => Err(Refusal::Memory),
-    }
-}
-
-// Why a file could not be written.
-fn write_refusal(fault: FileFault, file: Text) -> Refusal
-    ensures { result ≡ of_write file fault }
-{
-    match fault {
-        FileFault::Failed => Refusal::FileFault { file },
-        FileFault::Memory => Refusal::Memory,
-    }
-}
-
-// Writes bytes into the file of this name. What is said then stands in memory.
-fn write_file<F: Files>(
-    name: &str,
-    bytes: &[u8],
-    text: Items<u8>,
-    file: Text,
-    files: &mut F,
-) -> Result<Items<u8>, Refusal>
-    requires text { text ≡ steps.done_text }
-    requires file { file ≡ name.now }
-    ensures asks { HasWrite F.Files name.now files.old files.new
-        (λ asks. OrWants None (FileWritten name.now bytes.now) asks result) }
-    ensures written { OnOk result (WritesFile (F.known files.new) name.now bytes.now) }
-{
-    match files.write(name, bytes) {
-        Ok(()) => Ok(text),
-        Err(fault) => Err(write_refusal(fault, file)),
-    }
-}
-
-// The name of a file as a text of its own.
-fn name_text(alloc: Global, name: &str) -> Result<Text, AllocError>
-    ensures { IfOk result (λ text. text ≡ name.now) }
-{
-    Ok(Text::new(String::from_str(alloc, name)?))
-}
-
-// Writes bytes into the file of this name, and gives what is printed then. The memory for what is said behind the write
-// is taken before it.
-fn write_output<F: Files>(
-    alloc: Global,
-    name: &str,
-    bytes: &[u8],
-    files: &mut F,
-) -> Result<Items<u8>, Refusal>
-    ensures asks { HasWrite F.Files name.now files.old files.new
-        (λ asks. OrWants None (FileWritten name.now bytes.now) asks result) }
-    ensures written { OnOk result (WritesFile (F.known files.new) name.now bytes.now) }
-{
-    let text = match done_text(alloc) {
-        Ok(text) => text,
-        Err(_) => return Err(Refusal::Memory),
-    };
-    match name_text(alloc, name) {
-        Ok(file) => write_file(name, bytes, text, file, files),
-        Err(_) => Err(Refusal::Memory),
     }
 }
 

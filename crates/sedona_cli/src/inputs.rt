@@ -3,7 +3,6 @@ ghost use Rattle.std.specs.Prelude.{◌≤◌, IfOk, IsTrue, length};
 ghost use Rattle.file_steps.specs.Reads.{HasReads};
 ghost use Rattle.file_steps.specs.Steps.{UnlessFree};
 ghost use Rattle.input_files.specs.Inputs.{HasEntries};
-ghost use Rattle.sed_typed.specs.Typed.{Typed};
 ghost use Rattle.sedona_words.specs.Asked.{asked_node, IsMeantNode};
 ghost use Rattle.sedona_words.specs.Command as words_of;
 ghost use Rattle.sedona_cli.specs.Outside.{of_reads};
@@ -16,35 +15,36 @@ use crate::loading::kits_program;
 use crate::refusal::{Refusal, of_inputs};
 use dasp_users::Users;
 use input_files::{read_record, read_secret, read_users};
+use scode_compile::Compiled;
 use sed_outside::Files;
-use sed_typed::Program;
 use sed_value::Items;
 use sedona_words::{NodeWords, names_in};
 use std::alloc::Global;
 
-/// What a node is run from beside its store: the program of its kits, its users, its secret, and the bytes of a record.
+/// What a node is run from beside its store: the program of its kits with its image, its users, its secret, and the
+/// bytes of a record.
 #[derive(Drop)]
 pub struct Inputs {
-    pub program: Program,
+    pub program: Compiled,
     pub users: Users,
     pub secret: [u8; 20],
     pub text: Items<u8>,
 }
 
-/// What a node is run from beside its store and its link: the program of its kits, its users, and its secret.
+/// What a node is run from beside its store and its link: the program of its kits with its image, its users, and its
+/// secret.
 #[derive(Drop)]
 pub struct NodeInputs {
-    pub program: Program,
+    pub program: Compiled,
     pub users: Users,
     pub secret: [u8; 20],
 }
 
 /// The program of kits, whose manifests have these names with commas between them.
-pub fn node_program<F: Files>(alloc: Global, kits: &str, files: &mut F) -> Result<Program, Refusal>
+pub fn node_program<F: Files>(alloc: Global, kits: &str, files: &mut F) -> Result<Compiled, Refusal>
     requires { IsTrue (words_of.are_manifests (words_of.names_within kits.now)) }
-    ensures read { HasReads F.Files files.old files.new (λ reads. UnlessFree meaning.is_want
+    ensures { HasReads F.Files files.old files.new (λ reads. UnlessFree meaning.is_want
         (AfterKits (words_of.names_within kits.now) (of_reads reads)) result) }
-    ensures typed { IfOk result Typed }
 {
     let names = match names_in(alloc, kits) {
         Ok(names) => names,
@@ -98,7 +98,6 @@ pub fn read_inputs<F: Files>(
     requires { IsMeantNode words }
     ensures read { HasReads F.Files files.old files.new (λ reads. UnlessFree meaning.is_want
         (InputsRead (asked_node words.entry) file.now (of_reads reads)) result) }
-    ensures typed { IfOk result (λ inputs. Typed inputs.program) }
     ensures entries { IfOk result (λ inputs. HasEntries inputs.text) }
 {
     let program = match node_program(alloc, words.kits, files) {
@@ -132,9 +131,8 @@ pub fn node_inputs<F: Files>(
     files: &mut F,
 ) -> Result<NodeInputs, Refusal>
     requires { IsMeantNode words }
-    ensures read { HasReads F.Files files.old files.new (λ reads. UnlessFree meaning.is_want
+    ensures { HasReads F.Files files.old files.new (λ reads. UnlessFree meaning.is_want
         (RunInputsRead (asked_node words.entry) (of_reads reads)) result) }
-    ensures typed { IfOk result (λ inputs. Typed inputs.program) }
 {
     let program = match node_program(alloc, words.kits, files) {
         Ok(program) => program,

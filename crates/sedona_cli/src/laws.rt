@@ -9,6 +9,7 @@ ghost use Rattle.sedona_cli.specs.Program.{Comes, refusal_by};
 use app_file::bytes_are_read_as_one;
 use input_files::{failed_inputs_are_told, inputs_agree};
 use new_store::texts_alone_are_alike;
+use scode_compile::programs_alike_are_refused_alike;
 use sed_kits::{failed_loads_are_told, loads_agree};
 
 /// Of answers that agree a command comes to one end: to texts, or to one refusal.
@@ -17,6 +18,7 @@ pub fn one_end()
         → Comes command asks end → Comes command others other → refusal_by end ≡ refusal_by other }
 {
     loads_agree();
+    programs_alike_are_refused_alike();
     inputs_agree();
     texts_alone_are_alike();
     bytes_are_read_as_one();

@@ -10,6 +10,7 @@
 #![tactic(auto)]
 
 mod coming;
+mod compiling;
 mod generating;
 mod inputs;
 mod laws;
@@ -27,6 +28,7 @@ mod replaying;
 mod showing;
 mod status;
 mod store;
+mod writing;
 
 pub use laws::{failed_reads_end_it, one_end};
 pub use program::sedona;

@@ -40,6 +40,12 @@ fn file_fault_line(alloc: Global, file: &str) -> Result<String, AllocError>
     format!(in alloc; "file fault {file}\n")
 }
 
+fn method_line(alloc: Global, method: usize) -> Result<String, AllocError>
+    ensures { IfOk result (λ line. string_bytes line ≡ lines.line_of (Refusal.MethodTooLong method)) }
+{
+    format!(in alloc; "method too long {method}\n")
+}
+
 fn slot_line(alloc: Global, needs: usize, has: u32) -> Result<String, AllocError>
     ensures { IfOk result (λ line. string_bytes line ≡ lines.line_of (Refusal.SlotTooSmall needs has)) }
 {
@@ -149,6 +155,7 @@ pub fn line_of(alloc: Global, refusal: &Refusal) -> Result<Line, AllocError>
             let words = rule_text(alloc, *at, *rule)?;
             refused_line(alloc, file.as_str(), words.as_str())?
         }
+        Refusal::MethodTooLong { method } => method_line(alloc, *method)?,
         Refusal::SlotTooSmall { needs, has } => slot_line(alloc, *needs, *has)?,
         Refusal::DeviceFault => return Ok(Line::Fixed("device fault\n")),
         Refusal::StoreExists => return Ok(Line::Fixed("store refused: exists\n")),

@@ -11,7 +11,6 @@ ghost use Rattle.sed_engine.specs.Code.{Meaning as Code};
 ghost use Rattle.sed_engine.specs.Program.{meaning_of};
 ghost use Rattle.sed_node.specs.Living.{IsLeft, Sleeps};
 ghost use Rattle.sed_node.specs.Standing.{StandsFor, setup_of};
-ghost use Rattle.sed_typed.specs.Typed.{Typed};
 ghost use Rattle.sedona_cli.specs.declared.inputs.NodeInputs.{NodeInputs as TheInputs};
 ghost use Rattle.sedona_words.specs.Asked.{asked_node, asked_run, IsMeantNode, IsMeantRun};
 ghost use Rattle.sedona_words.specs.Command as words_of;
@@ -33,15 +32,15 @@ use disk_model::Disk;
 use link_prop::App;
 use live_outside::{Clock, Link};
 use node_replay::live;
+use scode_engine::Machine;
 use sed_engine::Engine;
 use sed_node::Node;
 use sed_outside::{Files, Sink};
-use sed_walker::Walker;
 use sedona_words::RunWords;
 use std::alloc::Global;
 
 // Runs a node so many cycles, with a period in milliseconds, and puts what stands at the end of its run. It takes no
-// memory but by adds.
+// memory.
 fn run_ready<E: Engine, L: Link, C: Clock, D: Disk, O: Sink>(
     ready: (Node<E>, Outbox),
     cycles: u32,
@@ -83,7 +82,7 @@ fn run_ready<E: Engine, L: Link, C: Clock, D: Disk, O: Sink>(
 fn run_app<L: Link, C: Clock, D: Disk, O: Sink>(
     alloc: Global,
     words: RunWords<'_>,
-    held: (Store, App<Walker>),
+    held: (Store, App<Machine>),
     users: Users,
     secret: [u8; 20],
     link: &mut L,
@@ -92,18 +91,18 @@ fn run_app<L: Link, C: Clock, D: Disk, O: Sink>(
     out: &mut O,
 ) -> Status
     requires meant { IsMeantNode words.node }
-    requires whole { Whole (⟦<Walker as Engine>⟧.meaning held.1.tree.engine)
-        (application_of ⟦<Walker as Engine>⟧ held.1) }
+    requires whole { Whole (⟦<Machine as Engine>⟧.meaning held.1.tree.engine)
+        (application_of ⟦<Machine as Engine>⟧ held.1) }
     requires stores { IsTrue (D.meaning disk.old).tells → AllStores held.0 (D.meaning disk.old) }
     ensures answered { (inputs : TheInputs)
-        → ⟦<Walker as Engine>⟧.meaning held.1.tree.engine ≡ meaning_of inputs.program
+        → ⟦<Machine as Engine>⟧.meaning held.1.tree.engine ≡ meaning_of inputs.program
         → users ≡ inputs.users → secret ≡ inputs.secret
         → AsksDisk D.Disk disk.old disk.new (λ asks. AnswersLive (asked_run words.entry) inputs
-        (application_of ⟦<Walker as Engine>⟧ held.1) asks (O.text out.old) (O.text out.new) (O.faults out.old)
+        (application_of ⟦<Machine as Engine>⟧ held.1) asks (O.text out.old) (O.text out.new) (O.faults out.old)
         (O.faults out.new) (number_of result)) }
     ensures live { AsksLive L.Link C.Clock words.entry.port (number_of result) link.old link.new clock.old clock.new
-        (RunsOn D.Disk L.Link C.Clock (asked_run words.entry) (⟦<Walker as Engine>⟧.meaning held.1.tree.engine)
-        users secret (application_of ⟦<Walker as Engine>⟧ held.1) (O.text out.old) (O.text out.new)
+        (RunsOn D.Disk L.Link C.Clock (asked_run words.entry) (⟦<Machine as Engine>⟧.meaning held.1.tree.engine)
+        users secret (application_of ⟦<Machine as Engine>⟧ held.1) (O.text out.old) (O.text out.new)
         (number_of result) link.old link.new clock.old clock.new disk.old disk.new) }
 {
     let (store, app) = held;
@@ -128,8 +127,7 @@ fn run_from<L: Link, C: Clock, D: Disk, O: Sink>(
     disk: &mut D,
     out: &mut O,
 ) -> Status
-    requires typed { Typed inputs.program }
-    requires meant { IsMeantNode words.node }
+    requires { IsMeantNode words.node }
     ensures answered { (reads : List Read)
         → RunInputsRead (asked_node words.entry.node) (of_reads reads) (Ok inputs)
         → AsksDisk D.Disk disk.old disk.new (λ asks. IsAnswer (words_of.Run (asked_run words.entry))

@@ -3,7 +3,6 @@ ghost use Rattle.std.specs.Prelude.{◌≡◌, ◌≤◌, ◌<◌, false, Some, 
 ghost use Rattle.disk_model.specs.Disk.{MarksUp};
 ghost use Rattle.file_steps.specs.Steps.{AndThen};
 ghost use Rattle.sed_engine.specs.Program.{meaning_of};
-ghost use Rattle.sed_typed.specs.Typed.{Typed};
 ghost use Rattle.new_store.specs.Alone.{AllNew};
 ghost use Rattle.sedona_words.specs.Asked.{IsMeantStore};
 ghost use Rattle.sedona_words.specs.Command as words_of;
@@ -20,18 +19,16 @@ use crate::refusal::Refusal;
 use crate::store::{attach_store, make_store};
 use disk_model::Disk;
 use new_store::{NewRefusal, new_stores_open_to_the_app, text_of_alone, the_app_is_small};
+use scode_compile::Compiled;
 use sed_engine::typed_programs_are_whole;
 use sed_outside::Files;
-use sed_typed::Program;
 use sed_value::limits::MOST_DATA;
 use sed_value::{Items, Memory};
-use sed_walker::Walker;
 use sedona_words::names_in;
 use std::alloc::Global;
 
 // The text of the App alone over a program, which a slot has room for.
-fn text_for(alloc: Global, program: Program, slot: u32) -> Result<Vec<u8>, Refusal>
-    requires { Typed program }
+fn text_for(alloc: Global, program: Compiled, slot: u32) -> Result<Vec<u8>, Refusal>
     ensures text { IfOk result (λ text. text.items ≡ meaning.text_of program) }
     ensures fits { OnOk result (length (meaning.text_of program) ≤ slot) }
     ensures refused { IfErr result (λ refusal. is_want refusal ≡ false →
@@ -40,7 +37,8 @@ fn text_for(alloc: Global, program: Program, slot: u32) -> Result<Vec<u8>, Refus
 {
     typed_programs_are_whole();
     the_app_is_small();
-    let engine = match Walker::new(alloc, program, MOST_DATA) {
+    let _typed = program.program();
+    let engine = match program.machine(alloc, MOST_DATA) {
         Ok(engine) => engine,
         Err(Memory) => return Err(Refusal::Memory),
     };
@@ -48,7 +46,9 @@ fn text_for(alloc: Global, program: Program, slot: u32) -> Result<Vec<u8>, Refus
         Ok(text) => Ok(text),
         Err(NewRefusal::SlotTooSmall { needs }) => Err(Refusal::SlotTooSmall { needs, has: slot }),
         Err(NewRefusal::Memory) => Err(Refusal::Memory),
-        Err(_) => unreachable!(),
+        Err(NewRefusal::DataFull) => unreachable!(),
+        Err(NewRefusal::Exists) => unreachable!(),
+        Err(NewRefusal::Device) => unreachable!(),
     }
 }
 
@@ -75,12 +75,11 @@ fn attach_and_make<D: Disk>(
 // With a program that is loaded. All memory is taken before the disk is asked for anything.
 fn made_of<D: Disk>(
     alloc: Global,
-    program: Program,
+    program: Compiled,
     store: &str,
     slot: u32,
     disk: &mut D,
 ) -> Result<Items<u8>, Refusal>
-    requires typed { Typed program }
     requires name { length store.now ≤ 4096 }
     requires some { 1 ≤ slot }
     requires small { slot ≤ 4194304 }
@@ -93,6 +92,7 @@ fn made_of<D: Disk>(
     typed_programs_are_whole();
     the_app_is_small();
     new_stores_open_to_the_app();
+    let _typed = program.program();
     let text = match text_for(alloc, program, slot) {
         Ok(text) => text,
         Err(refusal) => return Err(refusal),

@@ -5,7 +5,6 @@ ghost use Rattle.comp_tree.specs.Whole.{Whole};
 ghost use Rattle.link_prop.specs.Linked.{application_of};
 ghost use Rattle.sed_engine.specs.Program.{meaning_of};
 ghost use Rattle.sed_node.specs.Standing.{setup_of};
-ghost use Rattle.sed_typed.specs.Typed.{Typed};
 ghost use Rattle.sedona_words.specs.Asked.{IsMeantNode};
 ghost use Rattle.sedona_cli.specs.Nodes.{IsReady, Opened};
 ghost use Rattle.sedona_cli.specs.Outside.{AsksDisk};
@@ -22,33 +21,32 @@ use dasp_session::Outbox;
 use dasp_users::Users;
 use disk_model::Disk;
 use link_prop::App;
+use scode_compile::Compiled;
+use scode_engine::Machine;
 use sed_engine::{Engine, typed_programs_are_whole};
 use sed_node::Node;
-use sed_typed::Program;
 use sed_value::{Items, Memory};
-use sed_walker::Walker;
 use sedona_words::NodeWords;
 use std::alloc::Global;
 
-// The application in a payload, over the source of its program.
+// The application in a payload, over the image of its program.
 fn app_of(
     alloc: Global,
-    program: Program,
+    program: Compiled,
     limit: u32,
     payload: &[u8],
-) -> Result<App<Walker>, Refusal>
-    requires typed { Typed program }
+) -> Result<App<Machine>, Refusal>
     requires some { 1 ≤ limit }
     requires most { limit ≤ 4194304 }
     ensures read { IfOk result
-        (λ app. IsRead program limit payload.now (Ok (application_of ⟦<Walker as Engine>⟧ app))) }
-    ensures meaning { IfOk result (λ app. ⟦<Walker as Engine>⟧.meaning app.tree.engine ≡ meaning_of program) }
+        (λ app. IsRead program limit payload.now (Ok (application_of ⟦<Machine as Engine>⟧ app))) }
+    ensures meaning { IfOk result (λ app. ⟦<Machine as Engine>⟧.meaning app.tree.engine ≡ meaning_of program) }
     ensures refused { IfErr result (λ refusal. is_want refusal ≡ false
         → IsRead program limit payload.now (Err refusal)) }
 {
     typed_programs_are_whole();
-    schema_can_be_told(&program.schema);
-    let engine = match Walker::new(alloc, program, limit) {
+    schema_can_be_told(&program.program().schema);
+    let engine = match program.machine(alloc, limit) {
         Ok(engine) => engine,
         Err(Memory) => return Err(Refusal::Memory),
     };
@@ -61,19 +59,18 @@ fn app_of(
 // The application in the payload of a store that is open, with that store.
 fn app_in(
     alloc: Global,
-    program: Program,
+    program: Compiled,
     limit: u32,
     found: (Store, Items<u8>),
-) -> Result<(Store, App<Walker>), Refusal>
-    requires typed { Typed program }
+) -> Result<(Store, App<Machine>), Refusal>
     requires some { 1 ≤ limit }
     requires most { limit ≤ 4194304 }
     ensures read { IfOk result
-        (λ held. IsRead program limit found.1 (Ok (application_of ⟦<Walker as Engine>⟧ held.1))) }
+        (λ held. IsRead program limit found.1 (Ok (application_of ⟦<Machine as Engine>⟧ held.1))) }
     ensures meaning { IfOk result
-        (λ held. ⟦<Walker as Engine>⟧.meaning held.1.tree.engine ≡ meaning_of program) }
-    ensures whole { IfOk result (λ held. Whole (⟦<Walker as Engine>⟧.meaning held.1.tree.engine)
-        (application_of ⟦<Walker as Engine>⟧ held.1)) }
+        (λ held. ⟦<Machine as Engine>⟧.meaning held.1.tree.engine ≡ meaning_of program) }
+    ensures whole { IfOk result (λ held. Whole (⟦<Machine as Engine>⟧.meaning held.1.tree.engine)
+        (application_of ⟦<Machine as Engine>⟧ held.1)) }
     ensures slot { IfOk result (λ held. held.0 ≡ found.0) }
     ensures refused { IfErr result (λ refusal. is_want refusal ≡ false
         → IsRead program limit found.1 (Err refusal)) }
@@ -89,18 +86,17 @@ fn app_in(
 pub fn open_app<D: Disk>(
     alloc: Global,
     words: NodeWords<'_>,
-    program: Program,
+    program: Compiled,
     disk: &mut D,
-) -> Result<(Store, App<Walker>), Refusal>
-    requires typed { Typed program }
-    requires meant { IsMeantNode words }
+) -> Result<(Store, App<Machine>), Refusal>
+    requires { IsMeantNode words }
     ensures opened { IfOk result (λ held. AsksDisk D.Disk disk.old disk.new (λ asks.
         Opened words.entry.store.now words.entry.limit program asks
-        (Ok (application_of ⟦<Walker as Engine>⟧ held.1)))) }
+        (Ok (application_of ⟦<Machine as Engine>⟧ held.1)))) }
     ensures meaning { IfOk result
-        (λ held. ⟦<Walker as Engine>⟧.meaning held.1.tree.engine ≡ meaning_of program) }
-    ensures whole { IfOk result (λ held. Whole (⟦<Walker as Engine>⟧.meaning held.1.tree.engine)
-        (application_of ⟦<Walker as Engine>⟧ held.1)) }
+        (λ held. ⟦<Machine as Engine>⟧.meaning held.1.tree.engine ≡ meaning_of program) }
+    ensures whole { IfOk result (λ held. Whole (⟦<Machine as Engine>⟧.meaning held.1.tree.engine)
+        (application_of ⟦<Machine as Engine>⟧ held.1)) }
     ensures stores { IsTrue (D.meaning disk.new).tells
         → IfOk result (λ held. AllStores held.0 (D.meaning disk.new)) }
     ensures refused { IfErr result (λ refusal. AsksDisk D.Disk disk.old disk.new (λ asks. OrWants
@@ -116,22 +112,21 @@ pub fn open_app<D: Disk>(
     }
 }
 
-/// The node of an application that begins at a moment, with all memory that its events need but that of adds; and the
-/// outbox of its run.
+/// The node of an application that begins at a moment, with all memory that its events need; and the outbox of its run.
 pub fn node_of(
     alloc: Global,
     words: NodeWords<'_>,
-    app: App<Walker>,
+    app: App<Machine>,
     store: Store,
     users: Users,
     secret: [u8; 20],
     moment: i64,
-) -> Result<(Node<Walker>, Outbox), Refusal>
+) -> Result<(Node<Machine>, Outbox), Refusal>
     requires meant { IsMeantNode words }
-    requires whole { Whole (⟦<Walker as Engine>⟧.meaning app.tree.engine) (application_of ⟦<Walker as Engine>⟧ app) }
-    ensures ready { IfOk result (λ ready. IsReady ⟦<Walker as Engine>⟧ moment words.entry.turns
-        (⟦<Walker as Engine>⟧.meaning app.tree.engine) users secret
-        (application_of ⟦<Walker as Engine>⟧ app) ready.0) }
+    requires whole { Whole (⟦<Machine as Engine>⟧.meaning app.tree.engine) (application_of ⟦<Machine as Engine>⟧ app) }
+    ensures ready { IfOk result (λ ready. IsReady ⟦<Machine as Engine>⟧ moment words.entry.turns
+        (⟦<Machine as Engine>⟧.meaning app.tree.engine) users secret
+        (application_of ⟦<Machine as Engine>⟧ app) ready.0) }
     ensures slot { IfOk result (λ ready. (setup_of ready.0).slot ≡ store) }
     ensures refused { IfErr result (λ refusal. refusal ≡ Refusal.Memory) }
 {

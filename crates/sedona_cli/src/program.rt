@@ -19,6 +19,7 @@ ghost use Rattle.sedona_cli.specs.Program.{AreToldOf, AsksLiveOf, AsksStore, Com
 ghost use Rattle.sedona_cli.specs.Program.{IsAnswer, Leaves, OnCommand, PutsAtOnce, SparesDisk};
 
 use crate::coming::{check, cycles};
+use crate::compiling::image_written;
 use crate::generating::generate;
 use crate::laws::{failed_reads_end_it, one_end};
 use crate::living::lived;
@@ -78,6 +79,9 @@ fn command<F: Files, L: Link, C: Clock, D: Disk, O: Sink>(
     match asked {
         Asked::Cycles(file, count) => answer(alloc, cycles(alloc, file, count, files), out),
         Asked::Check(names) => answer(alloc, check(alloc, names, files), out),
+        Asked::Compile(image, names) => {
+            answer(alloc, image_written(alloc, image, names, files), out)
+        }
         Asked::New(kits, store, slot) => {
             answer(alloc, made(alloc, kits, store, slot, files, disk), out)
         }
@@ -97,7 +101,7 @@ fn command<F: Files, L: Link, C: Clock, D: Disk, O: Sink>(
 /// |---|---|
 /// | 0 | all was done |
 /// | 1 | exactly where the words are outside the table of words |
-/// | 2 | exactly where a manifest or a source is refused, or the kits break a rule |
+/// | 2 | exactly where a manifest or a source is refused, the kits break a rule, or a method is too long |
 /// | 3 | only where a read of a file, or the write of the output file, failed in this call, and there always |
 /// | 4 | only where the disk failed while the store was attached, made or opened |
 /// | 5 | exactly where the store's file is refused: not empty, for `new`; without an application, for the others |
@@ -110,11 +114,11 @@ fn command<F: Files, L: Link, C: Clock, D: Disk, O: Sink>(
 ///
 /// The outside is asked in the order of the steps of a command until one is refused; the first refusal counts. Each
 /// status has a line or a text, which goes to the sink; where the sink fails, a front of it. The status of a refusal
-/// stays where its line could not be put. No file changes but the output file of `gen`, which is written last and may
-/// hold any bytes where that failed; and the store, which a command attaches exactly where its steps come to it, once,
-/// by the name given and before anything else is asked of the disk. A command without a store leaves the disk. `run`
-/// asks for its port exactly where its steps come to the link, once, and runs only where it is taken; no other command
-/// asks anything of the link or the clock.
+/// stays where its line could not be put. No file changes but the output file of `compile` and `gen`, which is written
+/// last and may hold any bytes where that failed; and the store, which a command attaches exactly where its steps come
+/// to it, once, by the name given and before anything else is asked of the disk. A command without a store leaves the
+/// disk. `run` asks for its port exactly where its steps come to the link, once, and runs only where it is taken; no
+/// other command asks anything of the link or the clock.
 pub fn sedona<F: Files, L: Link, C: Clock, D: Disk, O: Sink>(
     alloc: Global,
     words: &[String],

@@ -6,6 +6,7 @@ use app_file::AppRefusal;
 use input_files::InputRefusal;
 use kit_manifest::Text;
 use kit_sources::Why;
+use scode_compile::CompileRefusal;
 use sed_kits::KitsRefusal;
 use sed_value::KitRef;
 
@@ -27,6 +28,10 @@ pub enum Refusal {
         file: Text,
         at: u32,
         rule: u8,
+    },
+    /// The code of the program's method with this number passes 65,535 bytes, and that of none before it.
+    MethodTooLong {
+        method: usize,
     },
     /// The text of an application needs so many bytes, and a slot has fewer.
     SlotTooSmall {
@@ -77,6 +82,16 @@ pub fn of_kits(refusal: KitsRefusal) -> Refusal
         KitsRefusal::Refused { file, why } => Refusal::Refused { file, why },
         KitsRefusal::Rule { file, at, rule } => Refusal::Rule { file, at, rule },
         KitsRefusal::Memory => Refusal::Memory,
+    }
+}
+
+/// The refusal that ended the compiling of a program. Takes no memory.
+pub fn of_compiling(refusal: CompileRefusal) -> Refusal
+    ensures { result ≡ meaning.of_compiling refusal }
+{
+    match refusal {
+        CompileRefusal::MethodTooLong { method } => Refusal::MethodTooLong { method },
+        CompileRefusal::Memory => Refusal::Memory,
     }
 }
 

@@ -7,7 +7,6 @@ ghost use Rattle.input_files.specs.Inputs.{HasEntries};
 ghost use Rattle.sed_engine.specs.Program.{meaning_of};
 ghost use Rattle.node_events.specs.Node.{Node as State};
 ghost use Rattle.sed_node.specs.Standing.{StandsFor, setup_of};
-ghost use Rattle.sed_typed.specs.Typed.{Typed};
 ghost use Rattle.sedona_cli.specs.declared.inputs.Inputs.{Inputs as TheInputs};
 ghost use Rattle.sedona_words.specs.Asked.{asked_node, IsMeantNode};
 ghost use Rattle.sedona_words.specs.Command as words_of;
@@ -27,11 +26,11 @@ use dasp_users::Users;
 use disk_model::Disk;
 use node_replay::replay;
 use replay_log::Records;
+use scode_compile::Compiled;
+use scode_engine::Machine;
 use sed_engine::Engine;
 use sed_node::Node;
 use sed_outside::{Files, Sink};
-use sed_typed::Program;
-use sed_walker::Walker;
 use sedona_words::NodeWords;
 use std::alloc::Global;
 
@@ -39,16 +38,15 @@ use std::alloc::Global;
 fn ready<D: Disk>(
     alloc: Global,
     words: NodeWords<'_>,
-    program: Program,
+    program: Compiled,
     users: Users,
     secret: [u8; 20],
     disk: &mut D,
-) -> Result<(Node<Walker>, Outbox), Refusal>
-    requires typed { Typed program }
-    requires meant { IsMeantNode words }
+) -> Result<(Node<Machine>, Outbox), Refusal>
+    requires { IsMeantNode words }
     ensures opened { IfOk result (λ ready. AsksDisk D.Disk disk.old disk.new (λ asks. (a : Application)
         × Opened words.entry.store.now words.entry.limit program asks (Ok a)
-        × IsReady ⟦<Walker as Engine>⟧ (pos 0) words.entry.turns (meaning_of program) users secret a ready.0)) }
+        × IsReady ⟦<Machine as Engine>⟧ (pos 0) words.entry.turns (meaning_of program) users secret a ready.0)) }
     ensures stores { IsTrue (D.meaning disk.new).tells
         → IfOk result (λ ready. AllStores (setup_of ready.0).slot (D.meaning disk.new)) }
     ensures refused { IfErr result (λ refusal. AsksDisk D.Disk disk.old disk.new (λ asks. OrWants
@@ -93,7 +91,6 @@ fn replayed_from<D: Disk, O: Sink>(
     disk: &mut D,
     out: &mut O,
 ) -> Status
-    requires typed { Typed inputs.program }
     requires entries { HasEntries inputs.text }
     requires meant { IsMeantNode words }
     ensures { (file : List ℕ) (reads : List Read)

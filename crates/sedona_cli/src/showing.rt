@@ -1,6 +1,5 @@
 //! `show`: the application of a store, printed.
 ghost use Rattle.std.specs.Prelude.{◌≤◌, Some, length};
-ghost use Rattle.sed_typed.specs.Typed.{Typed};
 ghost use Rattle.sedona_words.specs.Asked.{IsMeantStore};
 ghost use Rattle.sedona_words.specs.Command as words_of;
 ghost use Rattle.sedona_cli.specs.Outside.{AsksDisk, HasAsks};
@@ -14,29 +13,27 @@ use crate::store::{attach_store, open_store};
 use app_formed::schema_can_be_told;
 use app_reader::read_app;
 use disk_model::Disk;
+use scode_compile::Compiled;
 use sed_engine::typed_programs_are_whole;
 use sed_outside::Files;
-use sed_typed::Program;
 use sed_value::{Items, Memory};
-use sed_walker::Walker;
 use sedona_words::names_in;
 use std::alloc::Global;
 
 // The text of the application in a payload.
 fn printed(
     alloc: Global,
-    program: Program,
+    program: Compiled,
     limit: u32,
     payload: &[u8],
 ) -> Result<Items<u8>, Refusal>
-    requires typed { Typed program }
     requires some { 1 ≤ limit }
     requires most { limit ≤ 4194304 }
     ensures { PrintedOrWants program limit payload.now result }
 {
     typed_programs_are_whole();
-    schema_can_be_told(&program.schema);
-    let engine = match Walker::new(alloc, program, limit) {
+    schema_can_be_told(&program.program().schema);
+    let engine = match program.machine(alloc, limit) {
         Ok(engine) => engine,
         Err(Memory) => return Err(Refusal::Memory),
     };
@@ -53,12 +50,11 @@ fn printed(
 // With a program that is loaded.
 fn shown_of<D: Disk>(
     alloc: Global,
-    program: Program,
+    program: Compiled,
     store: &str,
     limit: u32,
     disk: &mut D,
 ) -> Result<Items<u8>, Refusal>
-    requires typed { Typed program }
     requires name { length store.now ≤ 4096 }
     requires some { 1 ≤ limit }
     requires most { limit ≤ 4194304 }

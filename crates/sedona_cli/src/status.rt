@@ -11,7 +11,7 @@ pub enum Status {
     Done,
     /// The words are outside the table of words.
     Usage,
-    /// A manifest or a source is refused, or the kits break a rule.
+    /// A manifest or a source is refused, the kits break a rule, or a method is too long.
     Refused,
     /// A file could not be read, or the output file not be written.
     FileFault,
@@ -62,6 +62,7 @@ impl Status {
             Refusal::FileFault { .. } => Status::FileFault,
             Refusal::Refused { .. } => Status::Refused,
             Refusal::Rule { .. } => Status::Refused,
+            Refusal::MethodTooLong { .. } => Status::Refused,
             Refusal::SlotTooSmall { .. } => Status::SlotTooSmall,
             Refusal::DeviceFault => Status::DeviceFault,
             Refusal::StoreExists => Status::StoreRefused,

@@ -6,8 +6,8 @@ use Rattle.sedona_words.specs.declared.command.RunWords.{RunWords}
 use Rattle.sedona_words.specs.declared.command.Asked.TheVariants as asked
 use Rattle.sedona_words.specs.declared.gen_words.GenWords.{GenWords}
 use Rattle.record_making.specs.Spec.{IsAllowed}
-use Rattle.sedona_words.specs.Command.{Command, Cycles, Check, Gen, New, NodeAsked, RecordAsked, Replay, Run, RunAsked}
-use Rattle.sedona_words.specs.Command.{Show, are_manifests, is_file_name, names_within, texts}
+use Rattle.sedona_words.specs.Command.{Command, Cycles, Check, Compile, Gen, New, NodeAsked, RecordAsked, Replay, Run}
+use Rattle.sedona_words.specs.Command.{RunAsked, Show, are_manifests, is_file_name, names_within, texts}
 
 abbrev pub asked_node : NodeWords → NodeAsked
 asked_node words = record {
@@ -40,6 +40,7 @@ asked_record words = record {
 abbrev pub asked_command : Asked → Command
 asked_command (asked.Cycles file count) = Cycles file.now count
 asked_command (asked.Check names) = Check (texts names.now)
+asked_command (asked.Compile out names) = Compile out.now (texts names.now)
 asked_command (asked.New kits store slot) = New (names_within kits.now) store.now slot
 asked_command (asked.Show kits store limit) = Show (names_within kits.now) store.now limit
 asked_command (asked.Replay node record_name) = Replay (asked_node node) record_name.now
@@ -82,6 +83,7 @@ pub record IsMeantRecord (words : GenWords) : Type 0 where
 abbrev pub IsMeant : Asked → Type 0
 IsMeant (asked.Cycles file count) = count ≤ 1000000
 IsMeant (asked.Check names) = length names.now ≤ 15
+IsMeant (asked.Compile out names) = IsTrue (is_file_name out.now) × (length names.now ≤ 15)
 IsMeant (asked.New kits store slot) = IsMeantStore kits.now store.now slot
 IsMeant (asked.Show kits store limit) = IsMeantStore kits.now store.now limit
 IsMeant (asked.Replay node record_name) = IsMeantNode node × IsTrue (is_file_name record_name.now)

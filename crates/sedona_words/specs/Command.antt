@@ -39,12 +39,14 @@ pub record RecordAsked : Type 0 where
   pub secret : List ℕ
   pub out : List ℕ
 
--- A command of the table of words: `cycles` of a source, so many times; `check` of kits, by their manifests; `new` over
--- kits, in the file of this name, with slots of so many bytes; `show` over kits, of the file of this name, with so many
--- bytes of data; `replay` of a record, by its name, on a node; `run` of a node over a link; `gen` of a record.
+-- A command of the table of words: `cycles` of a source, so many times; `check` of kits, by their manifests; `compile`
+-- of kits into the file of this name; `new` over kits, in the file of this name, with slots of so many bytes; `show`
+-- over kits, of the file of this name, with so many bytes of data; `replay` of a record, by its name, on a node; `run`
+-- of a node over a link; `gen` of a record.
 pub data Command : Type 0 where
   Cycles : List ℕ → ℕ → Command
   Check : List (List ℕ) → Command
+  Compile : List ℕ → List (List ℕ) → Command
   New : List (List ℕ) → List ℕ → ℕ → Command
   Show : List (List ℕ) → List ℕ → ℕ → Command
   Replay : NodeAsked → List ℕ → Command
@@ -55,6 +57,7 @@ pub data Command : Type 0 where
 abbrev pub store_of : Command → Option (List ℕ)
 store_of (Cycles file count) = None
 store_of (Check names) = None
+store_of (Compile out names) = None
 store_of (New names store slot) = Some store
 store_of (Show names store data_limit) = Some store
 store_of (Replay asked file) = Some asked.store
@@ -65,6 +68,7 @@ store_of (Gen asked) = None
 abbrev pub output_of : Command → Option (List ℕ)
 output_of (Cycles file count) = None
 output_of (Check names) = None
+output_of (Compile out names) = Some out
 output_of (New names store slot) = None
 output_of (Show names store data_limit) = None
 output_of (Replay asked file) = None
@@ -75,6 +79,7 @@ output_of (Gen asked) = Some asked.out
 abbrev pub port_of : Command → Option ℕ
 port_of (Cycles file count) = None
 port_of (Check names) = None
+port_of (Compile out names) = None
 port_of (New names store slot) = None
 port_of (Show names store data_limit) = None
 port_of (Replay asked file) = None
@@ -140,6 +145,16 @@ abbrev pub new_named : List ℕ → List ℕ → List ℕ → Option Command
 new_named kits store slot =
     if are_manifests (names_within kits) && is_file_name store
     then option_map (λ n. New (names_within kits) store n) (slot_size slot) else None
+
+-- an image by the name of its file, of kits
+abbrev pub compile_named : List ℕ → List (List ℕ) → Option Command
+compile_named out names = if is_file_name out && are_manifests names then Some (Compile out names) else None
+
+-- `--out IMAGE KIT..`
+abbrev pub compile_of : List (List ℕ) → Option Command
+compile_of words = do
+  out ← option_first (codes "--out") words
+  compile_named out.0 out.1
 
 -- no word more
 abbrev pub ended : {A : Type 0} → List (List ℕ) → Option A → Option A
@@ -279,6 +294,7 @@ command_of [] = None
 command_of (name ∷ words) =
     if bytes_eq name (codes "cycles") then cycles_of words
     else if bytes_eq name (codes "check") then check_of words
+    else if bytes_eq name (codes "compile") then compile_of words
     else if bytes_eq name (codes "new") then new_of words
     else if bytes_eq name (codes "show") then show_of words
     else if bytes_eq name (codes "replay") then replay_of words

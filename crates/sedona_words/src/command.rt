@@ -50,6 +50,8 @@ pub enum Asked<'a> {
     Cycles(&'a str, u32),
     /// `check KIT..`, by the names of the manifests.
     Check(&'a [String]),
+    /// `compile --out IMAGE KIT..`: the name of the output file, and the names of the manifests.
+    Compile(&'a str, &'a [String]),
     /// `new --kits K --store S --slot BYTES`: the names of the manifests with commas between them, the name of the
     /// store, and the size of its slots.
     New(&'a str, &'a str, u32),
@@ -109,6 +111,27 @@ fn check_of(names: &[String]) -> Option<Asked<'_>>
     } else {
         None
     }
+}
+
+// The image of kits, by the name of the output file and those of the manifests.
+fn compile_named<'a>(out: &'a str, names: &'a [String]) -> Option<Asked<'a>>
+    ensures meant { IfSome result IsMeant }
+    ensures command { option_map asked_command result
+        ≡ words_of.compile_named out.now (words_of.texts names.now) }
+{
+    if !is_file_name(out) || !are_manifests(names) {
+        return None;
+    }
+    Some(Asked::Compile(out, names))
+}
+
+// `--out IMAGE KIT..`.
+fn compile_of(words: &[String]) -> Option<Asked<'_>>
+    ensures meant { IfSome result IsMeant }
+    ensures command { option_map asked_command result ≡ words_of.compile_of (words_of.texts words.now) }
+{
+    let (out, names) = option_first(words, "--out")?;
+    compile_named(out, names)
 }
 
 // A new store over kits, by its name, with slots of so many bytes.
@@ -246,6 +269,8 @@ pub fn read_words(words: &[String]) -> Option<Asked<'_>>
         cycles_of(rest)
     } else if name.as_str() == "check" {
         check_of(rest)
+    } else if name.as_str() == "compile" {
+        compile_of(rest)
     } else if name.as_str() == "new" {
         new_of(rest)
     } else if name.as_str() == "show" {

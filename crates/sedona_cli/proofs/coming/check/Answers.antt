@@ -1,19 +1,18 @@
 use Rattle.std.proofs.Common.{None}
-use Rattle.sed_kits.specs.Loading.{KitsLoaded}
 use Rattle.sedona_words.specs.Command.{texts}
-use Rattle.sedona_cli.specs.Steps.{Prints, done_text}
+use Rattle.sedona_cli.specs.Steps.{KitsGenerated, Prints, done_text}
 use Rattle.sedona_cli.proofs.Building.{comes_done, comes_refused, comes_wanting}
 use Rattle.sedona_cli.proofs.coming.check.Goals as goal
 
 pub returns-in-Ok-done_text : goal.returns-in-Ok-done_text
 returns-in-Ok-done_text g c =
-    comes_done g.F.Files c.args.files.now c.kits_program.new.files (KitsLoaded (texts c.args.names.now)) (λ p. done_text) c.in-Ok.field-0 c.kits_program.result c.in-Ok-done_text.text
-    c.in-Ok.is c.kits_program.ensures.loaded c.in-Ok-done_text.ensures
+    comes_done g.F.Files c.args.files.now c.kits_program.new.files (KitsGenerated (texts c.args.names.now)) (λ p. done_text) c.in-Ok.field-0 c.kits_program.result c.in-Ok-done_text.text
+    c.in-Ok.is c.kits_program.ensures c.in-Ok-done_text.ensures
 
 pub returns-in-Ok : goal.returns-in-Ok
-returns-in-Ok g c = comes_wanting g.F.Files c.args.files.now c.kits_program.new.files None _ c.kits_program.ensures.loaded
+returns-in-Ok g c = comes_wanting g.F.Files c.args.files.now c.kits_program.new.files None _ c.kits_program.ensures
 
 pub returns : goal.returns
 returns g c =
-    comes_refused g.F.Files c.args.files.now c.kits_program.new.files None (KitsLoaded (texts c.args.names.now)) (λ p. Prints done_text) c.kits_program.result c.in-Err.refusal
-    c.in-Err.is c.kits_program.ensures.loaded
+    comes_refused g.F.Files c.args.files.now c.kits_program.new.files None (KitsGenerated (texts c.args.names.now)) (λ p. Prints done_text) c.kits_program.result c.in-Err.refusal
+    c.in-Err.is c.kits_program.ensures

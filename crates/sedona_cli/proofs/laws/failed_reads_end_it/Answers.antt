@@ -1,7 +1,11 @@
+use Rattle.std.proofs.Common.{ℕ, List}
+use Rattle.sed_kits.specs.Loading.{KitsLoaded, TextLoaded}
 use Rattle.sedona_cli.proofs.Comings.{tells_comes}
+use Rattle.sedona_cli.proofs.Generated.{generates_tell}
 use Rattle.sedona_cli.proofs.laws.failed_reads_end_it.Goals as goal
 
 pub returns : goal.returns
 returns c =
-    tells_comes c.failed_loads_are_told.ensures.kits c.failed_loads_are_told.ensures.text
+    tells_comes (λ (names : List (List ℕ)). generates_tell (KitsLoaded names) (c.failed_loads_are_told.ensures.kits names))
+    (λ (file : List ℕ). generates_tell (TextLoaded file) (c.failed_loads_are_told.ensures.text file))
     (record { users = c.failed_inputs_are_told.ensures.of_users; secret = c.failed_inputs_are_told.ensures.of_secret; record_text = c.failed_inputs_are_told.ensures.of_record })

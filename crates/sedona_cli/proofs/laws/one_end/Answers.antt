@@ -1,9 +1,18 @@
+use Rattle.std.proofs.Common.{ℕ, List}
+use Rattle.sed_kits.specs.Loading.{KitsLoaded, TextLoaded}
 use Rattle.sedona_cli.specs.New.{most_data}
-use Rattle.sedona_cli.proofs.Comings.{one_comes}
+use Rattle.sedona_cli.proofs.Comings.{OneEnds, one_comes}
+use Rattle.sedona_cli.proofs.Generated.{RefusedAlike, generates_one}
 use Rattle.sedona_cli.proofs.laws.one_end.Goals as goal
 
 pub returns : goal.returns
 returns c =
-    one_comes c.bytes_are_read_as_one.ensures c.loads_agree.ensures.kits c.loads_agree.ensures.text c.loads_agree.ensures.alike
-    (record { users = c.inputs_agree.ensures.of_users; secret = c.inputs_agree.ensures.of_secret; record_text = c.inputs_agree.ensures.of_record })
-    (λ p q alike. c.texts_alone_are_alike.ensures p q most_data alike.schema alike.fields alike.statics)
+    let refused : RefusedAlike = record { one = c.programs_alike_are_refused_alike.ensures.one; none = c.programs_alike_are_refused_alike.ensures.none } in
+    let ends : OneEnds = record {
+      reads = c.bytes_are_read_as_one.ensures;
+      kits = λ (names : List (List ℕ)). generates_one (KitsLoaded names) (c.loads_agree.ensures.kits names) (c.loads_agree.ensures.alike names) refused;
+      text = λ (file : List ℕ). generates_one (TextLoaded file) (c.loads_agree.ensures.text file) (c.loads_agree.ensures.alone file) refused;
+      inputs = record { users = c.inputs_agree.ensures.of_users; secret = c.inputs_agree.ensures.of_secret; record_text = c.inputs_agree.ensures.of_record };
+      texts = λ p q alike. c.texts_alone_are_alike.ensures p q most_data alike.schema alike.fields alike.statics;
+    } in
+    one_comes ends

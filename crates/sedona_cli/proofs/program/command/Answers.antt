@@ -1,13 +1,13 @@
 use Rattle.std.proofs.Common.{refl, subst, sym}
 use Rattle.sedona_words.specs.declared.command.Asked.{Asked}
 use Rattle.sedona_words.specs.Asked.{asked_command, asked_record}
-use Rattle.sedona_words.specs.Command.{Gen, output_of}
+use Rattle.sedona_words.specs.Command.{Compile, Gen, output_of, texts}
 use Rattle.sedona_cli.specs.Writing.{AsksOf}
 use Rattle.sedona_cli.specs.Program.{AsksLiveOf, ComesOrWants, IsAnswer, Leaves}
 use Rattle.sedona_cli.specs.Status.{number_of}
 use Rattle.sedona_cli.proofs.Asking.{only_reads, same_asks}
 use Rattle.sedona_cli.proofs.Building.{on_ok_holds}
-use Rattle.sedona_cli.proofs.GenSteps.{same_output}
+use Rattle.sedona_cli.proofs.WriteSteps.{same_output}
 use Rattle.sedona_cli.proofs.ShowSteps.{show_spares}
 use Rattle.sedona_cli.proofs.program.command.Goals as goal
 
@@ -69,6 +69,15 @@ pub returns-in-Run-clause-leaves : goal.returns-in-Run-clause-leaves
 returns-in-Run-clause-leaves g c = λ at.
     subst (λ (asked : Asked). Leaves g.F.Files g.D.Disk (asked_command asked) c.args.files.now c.lived.new.files c.args.disk.now c.lived.new.disk) (sym c.in-Run.is) tt
 
+pub returns-in-Compile-clause-answered : goal.returns-in-Compile-clause-answered
+returns-in-Compile-clause-answered g c =
+    subst (λ (asked : Asked). AsksOf g.F.Files g.D.Disk (output_of (asked_command asked)) c.args.files.now c.image_written.new.files c.args.disk.now c.args.disk.now (λ asks. IsAnswer (asked_command asked) asks (g.O.Sink.text c.args.out.now) (g.O.Sink.text c.answer-in-Compile.new.out) (g.O.Sink.faults c.args.out.now) (g.O.Sink.faults c.answer-in-Compile.new.out) (number_of c.answer-in-Compile.result)))
+    (sym c.in-Compile.is) (
+      refl,
+      same_output g.F.Files c.in-Compile.image.now c.args.files.now c.image_written.new.files (λ asks. ComesOrWants (Compile c.in-Compile.image.now (texts c.in-Compile.names.now)) asks c.image_written.result) _
+          (λ asks came. c.answer-in-Compile.ensures.answered (Compile c.in-Compile.image.now (texts c.in-Compile.names.now)) asks tt came) c.image_written.ensures.asks,
+    )
+
 pub returns-in-Gen-clause-answered : goal.returns-in-Gen-clause-answered
 returns-in-Gen-clause-answered g c =
     subst (λ (asked : Asked). AsksOf g.F.Files g.D.Disk (output_of (asked_command asked)) c.args.files.now c.generate.new.files c.args.disk.now c.args.disk.now (λ asks. IsAnswer (asked_command asked) asks (g.O.Sink.text c.args.out.now) (g.O.Sink.text c.answer-in-Gen.new.out) (g.O.Sink.faults c.args.out.now) (g.O.Sink.faults c.answer-in-Gen.new.out) (number_of c.answer-in-Gen.result)))
@@ -77,6 +86,11 @@ returns-in-Gen-clause-answered g c =
       same_output g.F.Files c.in-Gen.words.out.now c.args.files.now c.generate.new.files (λ asks. ComesOrWants (Gen (asked_record c.in-Gen.words)) asks c.generate.result) _
           (λ asks came. c.answer-in-Gen.ensures.answered (Gen (asked_record c.in-Gen.words)) asks tt came) c.generate.ensures.asks,
     )
+
+pub returns-in-Compile-clause-leaves : goal.returns-in-Compile-clause-leaves
+returns-in-Compile-clause-leaves g c = λ at.
+    subst (λ (asked : Asked). Leaves g.F.Files g.D.Disk (asked_command asked) c.args.files.now c.image_written.new.files c.args.disk.now c.args.disk.now) (sym c.in-Compile.is)
+    (on_ok_holds c.image_written.result _ (c.answer-in-Compile.ensures.done at) c.image_written.ensures.leaves)
 
 pub returns-in-Gen-clause-leaves : goal.returns-in-Gen-clause-leaves
 returns-in-Gen-clause-leaves g c = λ at.
@@ -112,6 +126,11 @@ pub returns-in-Run-clause-live : goal.returns-in-Run-clause-live
 returns-in-Run-clause-live g c =
     subst (λ (asked : Asked). AsksLiveOf g.F.Files g.D.Disk g.L.Link g.C.Clock (asked_command asked) c.args.files.now c.lived.new.files c.args.link.now c.lived.new.link c.args.clock.now c.lived.new.clock c.args.disk.now c.lived.new.disk (g.O.Sink.text c.args.out.now) (g.O.Sink.text c.lived.new.out) (number_of c.lived.result))
     (sym c.in-Run.is) c.lived.ensures.live
+
+pub returns-in-Compile-clause-live : goal.returns-in-Compile-clause-live
+returns-in-Compile-clause-live g c =
+    subst (λ (asked : Asked). AsksLiveOf g.F.Files g.D.Disk g.L.Link g.C.Clock (asked_command asked) c.args.files.now c.image_written.new.files c.args.link.now c.args.link.now c.args.clock.now c.args.clock.now c.args.disk.now c.args.disk.now (g.O.Sink.text c.args.out.now) (g.O.Sink.text c.answer-in-Compile.new.out) (number_of c.answer-in-Compile.result))
+    (sym c.in-Compile.is) (refl, refl)
 
 pub returns-in-Gen-clause-live : goal.returns-in-Gen-clause-live
 returns-in-Gen-clause-live g c =

@@ -5,8 +5,8 @@ use Rattle.sedona_cli.specs.Refusals.{of_write}
 use Rattle.sedona_cli.specs.Steps.{FileWritten}
 use Rattle.sedona_cli.specs.Writing.{HasWrite}
 use Rattle.std.proofs.Common.{Ok}
-use Rattle.sedona_cli.proofs.GenSteps.{write_call}
-use Rattle.sedona_cli.proofs.generating.write_file.Goals as goal
+use Rattle.sedona_cli.proofs.WriteSteps.{write_call}
+use Rattle.sedona_cli.proofs.writing.write_file.Goals as goal
 
 pub returns-in-Ok-clause-asks : goal.returns-in-Ok-clause-asks
 returns-in-Ok-clause-asks g c =
