@@ -1,6 +1,7 @@
 -- What a disk means, and what each of its calls does to that.
-use Rattle.std.specs.Prelude.{◌≡◌, ◌⊎◌, ◌^◌, ◌+◌, ◌-◌, ◌<◌, ◌≤◌, ◌↔◌, ℕ, Bool, IsTrue, List, length, slice_index, min}
+use Rattle.std.specs.Prelude.{◌≡◌, ◌⊎◌, ◌+◌, ◌<◌, ◌≤◌, ◌↔◌, ℕ, Bool, IsTrue, List, length, slice_index}
 use Rattle.std.specs.Prelude.{max, Option, Some, None, Result, OnOk}
+use Rattle.sed_outside.specs.Counts.{one_more}
 
 -- The bytes of a file.
 abbrev pub Image : Type 0
@@ -69,10 +70,6 @@ MarksUp old new by = IsTrue old.tells_marks → CountsUp old.now new.now old.mar
 -- So many syncs answer Ok, the last thing of all.
 abbrev pub SyncsUp : Meaning → Meaning → ℕ → Type 0
 SyncsUp old new by = IsTrue old.tells_syncs → CountsUp old.now new.now old.syncs new.syncs by
-
--- A count that is one more, or stands at its last value.
-abbrev pub one_more : ℕ → ℕ
-one_more count = min (count + 1) (2 ^ 64 - 1)
 
 -- A name was attached once more, when so many calls had been made, and it is the last one.
 abbrev pub Attaches : ℕ → Option Attached → Option Attached → List ℕ → Type 0

@@ -3,7 +3,8 @@ ghost use Rattle.std.specs.Prelude.{◌≡◌, ◌+◌, ◌≤◌, true, false, 
 ghost use Rattle.std.specs.Prelude.{if◌then◌else◌};
 ghost use Rattle.sed_outside.specs.Cause.{HasCause};
 ghost use Rattle.disk_model.specs.Disk.{Meaning, Elapses, Attaches, Keeps, Writes, Syncs, MarksUp, SyncsUp, IsDisk};
-ghost use Rattle.disk_model.specs.Disk.{longest_name, largest_store, one_more};
+ghost use Rattle.disk_model.specs.Disk.{longest_name, largest_store};
+ghost use Rattle.sed_outside.specs.Counts.{one_more};
 
 use thiserror::Error;
 

@@ -4,7 +4,8 @@ ghost use Rattle.std.specs.Prelude.{sum_by, IsTrue, IsOk, IsErr, is_ok, IfOk, On
 ghost use Rattle.std.specs.Bool.{OnTrue, OnFalse};
 ghost use Rattle.sed_outside.specs.Cause.{HasCause};
 ghost use Rattle.sed_outside.specs.Failing.{begins_with, FailsNow, after_call};
-ghost use Rattle.disk_model.specs.Disk.{Elapses, Keeps, Writes, Syncs, MarksUp, SyncsUp, one_more, longest_name};
+ghost use Rattle.disk_model.specs.Disk.{Elapses, Keeps, Writes, Syncs, MarksUp, SyncsUp, longest_name};
+ghost use Rattle.sed_outside.specs.Counts.{one_more};
 ghost use Rattle.disk_model.specs.Disk.{largest_store};
 ghost use Rattle.disk_model.specs.Written.{written};
 ghost use Rattle.disk_model.specs.Replay.{calls_by, HasRoom, HasBytes, replayed, replayed_is_disk};

@@ -1,5 +1,4 @@
 pub mod Told
-pub mod Counts
 pub mod Link
 pub mod Clock
 pub mod Rounds

@@ -5,7 +5,7 @@ use Rattle.live_outside.specs.declared.polling.Polling.{Polling}
 use Rattle.live_outside.specs.declared.polling.Polling.TheVariants as to_come
 use Rattle.live_outside.specs.declared.link.Polled.{Polled}
 use Rattle.live_outside.specs.declared.link.Polled.TheVariants.{Got, Nothing, Failed}
-use Rattle.live_outside.specs.Counts.{one_more}
+use Rattle.sed_outside.specs.Counts.{one_more}
 
 -- The longest datagram, in bytes.
 abbrev pub longest_datagram : ℕ

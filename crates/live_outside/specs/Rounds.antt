@@ -8,7 +8,7 @@ use Rattle.live_outside.specs.declared.polling.Polling.{Polling}
 use Rattle.live_outside.specs.declared.polling.Polling.TheVariants.{Got, Nothing, Failed}
 use Rattle.live_outside.specs.declared.sleep.Sleep.{Sleep}
 use Rattle.live_outside.specs.Clock.{Moments, next_moment, later_moments}
-use Rattle.live_outside.specs.Counts.{counted, counts_behind}
+use Rattle.sed_outside.specs.Counts.{counted, counts_behind}
 use Rattle.live_outside.specs.Link.{next_poll, later_polls}
 
 -- How many polls a cycle has at most.

@@ -3,7 +3,7 @@ ghost use Rattle.std.specs.Prelude.{◌≡◌, [], ◌∷◌, ℕ, Option, IfSom
 ghost use Rattle.std.specs.Option.{option_map};
 ghost use Rattle.live_outside.specs.declared.sleep.Sleep.{Sleep};
 ghost use Rattle.live_outside.specs.Clock.{Moments, next_moment, later_moments};
-ghost use Rattle.live_outside.specs.Counts.{one_more};
+ghost use Rattle.sed_outside.specs.Counts.{one_more};
 ghost use Rattle.live_outside.specs.Told.{Told, AddsWhereTold};
 
 /// A clock that gives moments, in nanoseconds from a start of its own, and waits for them. It never fails.

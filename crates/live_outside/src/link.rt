@@ -4,7 +4,7 @@ ghost use Rattle.std.specs.Option.{option_map};
 ghost use Rattle.sed_outside.specs.Cause.{HasCause};
 ghost use Rattle.live_outside.specs.declared.offer.Offer.{Offer};
 ghost use Rattle.live_outside.specs.declared.polling.Polling.{Polling};
-ghost use Rattle.live_outside.specs.Counts.{one_more};
+ghost use Rattle.sed_outside.specs.Counts.{one_more};
 ghost use Rattle.live_outside.specs.Link.{Bound, next_poll, later_polls, answered, IsShort, KeepsUnlessGot, Binds};
 ghost use Rattle.live_outside.specs.Told.{Told, AddsWhereTold};
 

@@ -1,7 +1,7 @@
 //! A clock in memory.
 ghost use Rattle.std.specs.Prelude.{◌≡◌, ◌≤◌, [], ◌∷◌, Some, IfOk, vec_len};
 ghost use Rattle.live_outside.specs.Clock.{all_to_come, next_moment, later_moments};
-ghost use Rattle.live_outside.specs.Counts.{one_more};
+ghost use Rattle.sed_outside.specs.Counts.{one_more};
 ghost use Rattle.live_outside.specs.MemClock.{moments_in, asked_in, given_by};
 ghost use Rattle.live_outside.specs.Told.{told_none, Adds, HasRoom, with_item, with_more};
 

@@ -4,7 +4,7 @@ ghost use Rattle.std.specs.Prelude.{IsTrue};
 ghost use Rattle.std.specs.Bool.{OnTrue, OnFalse};
 ghost use Rattle.sed_outside.specs.Cause.{HasCause};
 ghost use Rattle.sed_outside.specs.Failing.{begins_with, FailsNow, after_call};
-ghost use Rattle.live_outside.specs.Counts.{one_more};
+ghost use Rattle.sed_outside.specs.Counts.{one_more};
 ghost use Rattle.live_outside.specs.Link.{next_poll, later_polls, answered, IsShort, KeepsUnlessGot};
 ghost use Rattle.live_outside.specs.MemLink.{polls_in, offered_in, polled_by, bound_in, plan_of, faults_of};
 ghost use Rattle.live_outside.specs.MemLink.{HasRoomFor};

@@ -1,6 +1,6 @@
 //! The polls of a cycle, and the moment to which a program sleeps behind it.
 ghost use Rattle.std.specs.Prelude.{◌≡◌, ◌+◌, ◌≤◌, OnSome, IfSome, IfNone};
-ghost use Rattle.live_outside.specs.Counts.{one_more};
+ghost use Rattle.sed_outside.specs.Counts.{one_more};
 ghost use Rattle.live_outside.specs.Rounds.{most_polls, wake_moment, HearsWhereTold};
 
 use crate::link::{Link, Polled};

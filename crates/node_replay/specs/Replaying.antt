@@ -3,7 +3,7 @@
 use Rattle.std.specs.Prelude.{◌≡◌, ℕ, Bool, List, ◌++◌, Option}
 use Rattle.sed_outside.specs.Sink.{PutsFront, with_text}
 use Rattle.disk_model.specs.Disk.{Meaning as DiskMeaning}
-use Rattle.live_outside.specs.Counts.{counted}
+use Rattle.sed_outside.specs.Counts.{counted}
 use Rattle.sed_engine.specs.declared.engine.Engine.{Ghosts}
 use Rattle.sed_engine.specs.Code.{Meaning}
 use Rattle.replay_log.specs.Entry.{Entry}

@@ -25,14 +25,14 @@ use Rattle.scode_code.proofs.Firsts.{breaks_none}
 
 -- ---- kinds go to themselves
 
-goes_to_itself : (image : Image) (k : ImageKind) → goes_to image k k ≡ true
+pub goes_to_itself : (image : Image) (k : ImageKind) → goes_to image k k ≡ true
 goes_to_itself image k = let a = same_eq k.kind in let b = same_eq k.class in rw (a, b) refl
 
-all_go_to_themselves : (image : Image) (ks : List ImageKind) → all_go image ks ks ≡ true
+pub all_go_to_themselves : (image : Image) (ks : List ImageKind) → all_go image ks ks ≡ true
 all_go_to_themselves image [] = refl
 all_go_to_themselves image (k ∷ ks) = rw (goes_to_itself image k, all_go_to_themselves image ks) refl
 
-shape_goes_to_itself : (image : Image) (s : Shape) → shape_goes image s s ≡ true
+pub shape_goes_to_itself : (image : Image) (s : Shape) → shape_goes image s s ≡ true
 shape_goes_to_itself image s = rw (all_go_to_themselves image s.locals, all_go_to_themselves image s.stack) refl
 
 -- ---- where no rule is broken

@@ -62,7 +62,7 @@ all_more low told high (m ∷ ms) top le h up =
     all_more low (with_mark told m) m.place ms top (omega (arith, le, up.0)) (one_more low told high m (omega (arith, le, up.0)) up.0 h) up.1
 
 -- what holds of each mark holds of each that is told
-each_with : (P : Mark → Type 0) (told : List Mark) (m : Mark) → Each P told → P m → Each P (with_mark told m)
+pub each_with : (P : Mark → Type 0) (told : List Mark) (m : Mark) → Each P told → P m → Each P (with_mark told m)
 each_with P [] m h p = (p, tt)
 each_with P (l ∷ []) m h p = cases (l.place == m.place)
   where
@@ -71,13 +71,13 @@ each_with P (l ∷ []) m h p = cases (l.place == m.place)
     cases false = (h.0, (p, tt))
 each_with P (l ∷ k ∷ told) m h p = (h.0, each_with P (k ∷ told) m h.1 p)
 
-each_told : (P : Mark → Type 0) (told ms : List Mark) → Each P told → Each P ms → Each P (with_marks told ms)
+pub each_told : (P : Mark → Type 0) (told ms : List Mark) → Each P told → Each P ms → Each P (with_marks told ms)
 each_told P told [] h g = h
 each_told P told (m ∷ ms) h g = each_told P (with_mark told m) ms (each_with P told m h g.0) g.1
 
 -- ---- entries
 
-places_rise : (low : ℕ) (ms : List Mark) (high : ℕ) (locals : List ImageKind) → Rises low ms high →
+pub places_rise : (low : ℕ) (ms : List Mark) (high : ℕ) (locals : List ImageKind) → Rises low ms high →
     IsStrictlyIncreasing (map (λ (e : ImageEntry). e.place) (map (entry_of locals) ms))
 places_rise low [] high locals h k lt = absurd (omega (arith, lt))
 places_rise low (m ∷ []) high locals h k lt = absurd (omega (arith, lt))

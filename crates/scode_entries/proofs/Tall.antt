@@ -181,7 +181,7 @@ body_within w k (Some body) = omega (arith, stmt_within w body, end_some k)
 
 -- ---- what stands on the stack at marks
 
-stack_positive : (e : Expr) → 1 ≤ expr_stack e
+pub stack_positive : (e : Expr) → 1 ≤ expr_stack e
 stack_positive (expr.Int n) = omega arith
 stack_positive (expr.Long n) = omega arith
 stack_positive (expr.Bool t) = omega arith
@@ -201,7 +201,7 @@ stack_positive (expr.Call' k m shape args) = omega arith
 stack_positive (expr.Super' k m shape args) = omega arith
 stack_positive (expr.Chain' p e shape links) = omega (arith, stack_positive e)
 
-above_length : (k : Kind) (below : List ImageKind) → length (above k below) ≤ length below + 1
+pub above_length : (k : Kind) (below : List ImageKind) → length (above k below) ≤ length below + 1
 above_length kind.Void below = omega arith
 above_length kind.Bool below = omega arith
 above_length kind.Int below = omega arith
@@ -209,7 +209,7 @@ above_length kind.Long below = omega arith
 above_length kind.Text below = omega arith
 above_length (kind.Object class) below = omega arith
 
-place_length : (target : Place) (below : List ImageKind) → length (with_place target below) ≤ length below + place_cells target
+pub place_length : (target : Place) (below : List ImageKind) → length (with_place target below) ≤ length below + place_cells target
 place_length (place.Local k i) below = omega arith
 place_length (place.Static p i) below = omega arith
 place_length (place.Field' p q e i) below = above_length (kind_of e) below
@@ -217,7 +217,7 @@ place_length (place.Element' p n q e f r i) below =
     omega (arith, above_length (kind_of i) (above (kind_of e) below), above_length (kind_of e) below)
 place_length (place.StaticElement' p n i q e) below = omega (arith, above_length (kind_of e) (statics ∷ below))
 
-wanted_length : (g : Gives) (target : Place) (below : List ImageKind) → length (with_wanted g target below) ≤ length below + 1
+pub wanted_length : (g : Gives) (target : Place) (below : List ImageKind) → length (with_wanted g target below) ≤ length below + 1
 wanted_length Old (place.Local k i) below = above_length k below
 wanted_length Old (place.Static p i) below = omega arith
 wanted_length Old (place.Field' p q e i) below = omega arith
@@ -225,7 +225,7 @@ wanted_length Old (place.Element' p n q e f r i) below = omega arith
 wanted_length Old (place.StaticElement' p n i q e) below = omega arith
 wanted_length New target below = omega arith
 
-old_length : (g : Gives) (target : Place) (below : List ImageKind) → length (with_old g target below) ≤ length below + place_cells target + 2
+pub old_length : (g : Gives) (target : Place) (below : List ImageKind) → length (with_old g target below) ≤ length below + place_cells target + 2
 old_length g target below =
     let on = with_place target below in
     omega (arith, above_length (place_kind target) (with_wanted g target on), wanted_length g target on, place_length target below)

@@ -28,7 +28,7 @@ use Rattle.scode_made.proofs.FirstBytes.{contents_fit, high_first}
 -- ---- lists
 
 -- the front of so many
-front_of : (n : ℕ) (xs ys : List ℕ) → length xs ≡ n → take n (xs ++ ys) ≡ xs
+pub front_of : (n : ℕ) (xs ys : List ℕ) → length xs ≡ n → take n (xs ++ ys) ≡ xs
 front_of n xs ys long = ap (λ (k : ℕ). take k (xs ++ ys)) (sym long) ∙ take-append_seam xs ys
 
 -- what is behind it
@@ -37,7 +37,7 @@ behind_of n xs ys long = ap (λ (k : ℕ). drop k (xs ++ ys)) (sym long) ∙ dro
 
 -- ---- primitives
 
-number_back : (n number : ℕ) → number < 256 ^ n → number_of (bytes_high_first n number) ≡ number
+pub number_back : (n number : ℕ) → number < 256 ^ n → number_of (bytes_high_first n number) ≡ number
 number_back n number h = (written_spells n number h).is_number
 
 primitive_back : (p : Primitive) (v : Value) → IsTrue (is_initial (form.Prim p) v) → primitive_from p (bytes_high_first (width_of p) (number_in v)) ≡ v

@@ -43,11 +43,11 @@ use Rattle.scode_made.proofs.Rows.{class_at, fields_past}
 -- ---- where a field's bytes stand
 
 -- behind the bytes of the fields before it stand its own
-record StandsAt (g : Field → List ℕ) (all : List Field) (behind : List ℕ) (i : ℕ) (f : Field) : Type 0 where
-  rest : List ℕ
-  is : drop (sum_by (λ x. length (g x)) (take i all)) (flat_map g all ++ behind) ≡ g f ++ rest
+pub record StandsAt (g : Field → List ℕ) (all : List Field) (behind : List ℕ) (i : ℕ) (f : Field) : Type 0 where
+  pub rest : List ℕ
+  pub is : drop (sum_by (λ x. length (g x)) (take i all)) (flat_map g all ++ behind) ≡ g f ++ rest
 
-stands_at : (g : Field → List ℕ) (all : List Field) (behind : List ℕ) (i : ℕ) (f : Field) → slice_get all i ≡ Some f → StandsAt g all behind i f
+pub stands_at : (g : Field → List ℕ) (all : List Field) (behind : List ℕ) (i : ℕ) (f : Field) → slice_get all i ≡ Some f → StandsAt g all behind i f
 stands_at g [] behind i f at = let never : ⊥ = cc in absurd never
 stands_at g (x ∷ xs) behind zero f at =
     record {
@@ -67,7 +67,7 @@ stands_at g (x ∷ xs) behind (suc i) f at =
           ∙ later.is;
     }
 
-sums_before : (a b : Field → ℕ) (all : List Field) → ((i : ℕ) (f : Field) → slice_get all i ≡ Some f → a f ≡ b f) → (i : ℕ) → sum_by a (take i all) ≡ sum_by b (take i all)
+pub sums_before : (a b : Field → ℕ) (all : List Field) → ((i : ℕ) (f : Field) → slice_get all i ≡ Some f → a f ≡ b f) → (i : ℕ) → sum_by a (take i all) ≡ sum_by b (take i all)
 sums_before a b [] h i = by_many i
   where
     by_many : (n : ℕ) → sum_by a (take n []) ≡ sum_by b (take n [])
@@ -130,7 +130,7 @@ sum_grows a b h (x ∷ xs) =
     omega (arith, here, rest, sum_by-cons (λ (f : Field). form_size a f.form) x xs, sum_by-cons (λ (f : Field). form_size b f.form) x xs)
 
 -- where the sums are the same all the same, each form is as large
-each_same : (a b : ℕ → ℕ) → ((t : ℕ) → a t ≤ b t) → (all : List Field) → sum_of a all ≡ sum_of b all → (i : ℕ) (f : Field) → slice_get all i ≡ Some f →
+pub each_same : (a b : ℕ → ℕ) → ((t : ℕ) → a t ≤ b t) → (all : List Field) → sum_of a all ≡ sum_of b all → (i : ℕ) (f : Field) → slice_get all i ≡ Some f →
     form_size a f.form ≡ form_size b f.form
 each_same a b h [] e i f at = let never : ⊥ = cc in absurd never
 each_same a b h (x ∷ xs) e zero f at =
@@ -151,7 +151,7 @@ level_grows : (program : Program) (depth class : ℕ) → data_within program de
 level_grows program zero class = omega arith
 level_grows program (suc depth) class = sum_grows (data_within program depth) (data_within program (suc depth)) (level_grows program depth) (fields program class)
 
-levels_grow : (program : Program) (more depth all class : ℕ) → more + depth ≡ all → data_within program depth class ≤ data_within program all class
+pub levels_grow : (program : Program) (more depth all class : ℕ) → more + depth ≡ all → data_within program depth class ≤ data_within program all class
 levels_grow program zero depth all class e =
     let same : depth ≡ all = omega (arith, e) in
     subst (λ (n : ℕ). data_within program depth class ≤ data_within program n class) same (omega arith)

@@ -103,7 +103,7 @@ only_one p start (x ∷ xs) f e = by_test (p x) refl e (λ rest. only_one p (sta
         }
 
 -- a property is in its slot by the number, the offset and the n of its field
-number_back : (s : SlotInfo) (t : SlotType) (f : Field) → IsProperty s t f →
+pub number_back : (s : SlotInfo) (t : SlotType) (f : Field) → IsProperty s t f →
     (nat_le (slot_number (Prop t)) 7 ≡ true) × (slot_number (Prop t) ≡ number_of_form f.form) × (slot_room (Prop t) ≡ room_of_form f.form)
 number_back s (slot.Prim prim.Bool) f is = (refl, sym (ap number_of_form is.0), sym (ap room_of_form is.0))
 number_back s (slot.Prim prim.Byte) f is = (refl, sym (ap number_of_form is.0), sym (ap room_of_form is.0))

@@ -43,7 +43,7 @@ locals_begin program (k ∷ ks) h =
     ap (λ (v : Val). v ∷ map machine.zero_of (map cell_of ks ++ waiting_kinds)) (zero_is program k (All-head (IsStorable program) k ks h))
     ∙ ap (λ (vs : List Val). zero_of k ∷ vs) (locals_begin program ks (All-tail (IsStorable program) k ks h))
 
-by_flags : (static abstract : Bool) → (((cond static 0 1) + (cond abstract 2 0)) % 2 == 1) ≡ not static
+pub by_flags : (static abstract : Bool) → (((cond static 0 1) + (cond abstract 2 0)) % 2 == 1) ≡ not static
 by_flags true true = refl
 by_flags true false = refl
 by_flags false true = refl

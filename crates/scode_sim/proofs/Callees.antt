@@ -19,7 +19,7 @@ abbrev pub AllSolid : List Kind → Type 0
 AllSolid [] = Unit {0}
 AllSolid (k ∷ ks) = IsSolid k × AllSolid ks
 
-storable_solid : (program : Program) (k : Kind) → IsStorable program k → IsSolid k
+pub storable_solid : (program : Program) (k : Kind) → IsStorable program k → IsSolid k
 storable_solid program kind.Void h = absurd h
 storable_solid program kind.Bool h = tt
 storable_solid program kind.Int h = tt

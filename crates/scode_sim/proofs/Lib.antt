@@ -3,14 +3,14 @@ mod Arguments
 mod Bodies
 mod CallForms
 mod CallSims
-mod Callees
+pub mod Callees
 mod Comes
 mod Context
 mod Drops
 mod Expressions
 mod Fields
 mod Follows
-mod Frames
+pub mod Frames
 mod InvokeForms
 mod Keeping
 mod Leaves
@@ -19,13 +19,13 @@ mod Located
 mod Loops
 mod NamedReads
 mod Narrow
-mod Objects
+pub mod Objects
 mod OldUpdates
 mod Operations
 mod Roots
-mod Solids
+pub mod Solids
 mod Statements
-mod Stores
+pub mod Stores
 mod Switches
 mod TextForms
 mod UpdateForms

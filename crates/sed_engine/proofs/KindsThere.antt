@@ -104,7 +104,7 @@ module _ (c : Context) (typed : Typed c.program) (known : c.class < length c.pro
   of_field_part (kind.Object d) i part e = of_part c.program (fields c.program d.0) i part (of_fields (IsField c.program) c.program typed.fields d.0) e
   of_field_part k i part e = absent part e
 
-  of_place : (t : Place) → IsPlace c t → There c.program (place_kind t)
+  pub of_place : (t : Place) → IsPlace c t → There c.program (place_kind t)
   of_place (place.Local k i) t = at_place (IsKindOf c.program) c.locals i k locals t.0
   of_place (place.Static p i) t = of_read c.program p
   of_place (place.Field' p q e i) t = of_read c.program p
@@ -132,7 +132,7 @@ module _ (c : Context) (typed : Typed c.program) (known : c.class < length c.pro
     kind_is_there (expr.Super' k m shape args) t = of_invocation _ m k _ t.2.0
     kind_is_there (expr.Chain' p e shape links) t = kind_after_is_there links (kind_of e) t.1 (kind_is_there e t.0)
 
-    of_link : (l : Link) (k : Kind) → IsLink c k l → There c.program (link_kind l)
+    pub of_link : (l : Link) (k : Kind) → IsLink c k l → There c.program (link_kind l)
     of_link (link.Binary op e) k t = of_binary c.program op
     of_link (link.And e) k t = tt
     of_link (link.Or e) k t = tt

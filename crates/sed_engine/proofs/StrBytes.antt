@@ -33,7 +33,7 @@ other_byte (x ∷ xs) i zero b h = absurd (omega (arith, h))
 other_byte (x ∷ xs) zero (suc j) b h = refl
 other_byte (x ∷ xs) (suc i) (suc j) b h = other_byte xs i j b (omega (arith, h))
 
-bytes_append : (a b : List ℕ) → are_bytes a ≡ true → are_bytes b ≡ true → are_bytes (a ++ b) ≡ true
+pub bytes_append : (a b : List ℕ) → are_bytes a ≡ true → are_bytes b ≡ true → are_bytes (a ++ b) ≡ true
 bytes_append [] b h k = k
 bytes_append (x ∷ xs) b h k =
     let parts : (nat_lt x 256 ≡ true) × (are_bytes xs ≡ true) = and_parts (nat_lt x 256) (are_bytes xs) h in

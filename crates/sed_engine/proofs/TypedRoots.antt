@@ -54,7 +54,7 @@ pub record IsComponent (program : Program) (class : ℕ) : Type 0 where
   pub component : SysClass program.schema.classes component_type (λ _. Unit {0})
   pub below : Below program.schema.classes component.class class
 
-component_in : (program : Program) → Typed program → SysClass program.schema.classes component_type (λ _. Unit {0})
+pub component_in : (program : Program) → Typed program → SysClass program.schema.classes component_type (λ _. Unit {0})
 component_in program typed =
     let c = sys_class program.schema.classes component_type _ typed.kits.sys_types.component in
     record { class = c.class; is = c.is; info = c.info; there = c.there; kit = c.kit; number_is = c.number_is; has = tt }

@@ -7,7 +7,7 @@ use Rattle.std.proofs.lemmas.Bool.{cases_lt}
 use Rattle.std.proofs.lemmas.Grind.{flat_map-append}
 use Rattle.std.proofs.lemmas.List.{flat_map_more, take-append-drop, take_more}
 use Rattle.std.proofs.Math.Nat.{min-eq_left, min-eq_right}
-use Rattle.live_outside.specs.Counts.{counted}
+use Rattle.sed_outside.specs.Counts.{counted}
 use Rattle.sed_outside.specs.Sink.{PutsFront, with_text}
 use Rattle.printed_text.proofs.Sequence.{front}
 pub use Rattle.printed_text.proofs.Sequence.{with_more, with_none}

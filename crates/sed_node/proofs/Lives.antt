@@ -11,7 +11,7 @@ use Rattle.live_outside.specs.declared.offer.Offer.{Offer}
 use Rattle.live_outside.specs.declared.polling.Polling.{Polling}
 use Rattle.live_outside.specs.declared.sleep.Sleep.{Sleep}
 use Rattle.live_outside.specs.Clock.{Moments, next_moment}
-use Rattle.live_outside.specs.Counts.{counted, one_more}
+use Rattle.sed_outside.specs.Counts.{counted, one_more}
 use Rattle.live_outside.specs.Rounds.{LiveCycle, most_polls, polls_at, sleeps_in, wake_moment}
 use Rattle.live_outside.specs.Told.{AddsWhereTold, Tells, Told}
 use Rattle.replay_log.specs.Entry.{Entry}

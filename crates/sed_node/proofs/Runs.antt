@@ -3,7 +3,7 @@ use Rattle.std.proofs.Common.{◌≡◌, ◌∙◌, ◌≤◌, ◌+◌, ℕ, Boo
 use Rattle.std.proofs.Common.{append_assoc, length-append, arith}
 use Rattle.std.specs.Prelude.{map, Option}
 use Rattle.std.proofs.lemmas.List.{append-nil}
-use Rattle.live_outside.specs.Counts.{counted}
+use Rattle.sed_outside.specs.Counts.{counted}
 use Rattle.sed_outside.specs.Cause.{Rose}
 use Rattle.sed_outside.specs.Sink.{PutsFront, with_text}
 use Rattle.disk_model.specs.Disk.{Elapses, Meaning as DiskMeaning}

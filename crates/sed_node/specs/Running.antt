@@ -6,7 +6,7 @@ use Rattle.std.specs.List.{flat_map}
 use Rattle.sed_outside.specs.Sink.{PutsFront, with_text}
 use Rattle.disk_model.specs.Disk.{Image, Meaning as DiskMeaning}
 use Rattle.app_save.specs.Run.{IsRun}
-use Rattle.live_outside.specs.Counts.{counted}
+use Rattle.sed_outside.specs.Counts.{counted}
 use Rattle.sed_engine.specs.declared.engine.Engine.{Ghosts}
 use Rattle.sed_engine.specs.Code.{Meaning}
 use Rattle.comp_tree.specs.Application.{Application}

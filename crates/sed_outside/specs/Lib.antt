@@ -1,4 +1,5 @@
 pub mod Cause
+pub mod Counts
 pub mod Files
 pub mod Sink
 pub mod Named

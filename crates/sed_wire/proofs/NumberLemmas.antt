@@ -32,11 +32,11 @@ big_from-all (suc n) (byte ∷ behind) as_many =
     cc
 
 -- each byte of a number is below 256
-byte_at-below : (k x : ℕ) → byte_at k x < 256
+pub byte_at-below : (k x : ℕ) → byte_at k x < 256
 byte_at-below zero x = mod-lt x (omega arith)
 byte_at-below (suc k) x = mod-lt (x / 256 ^ suc k) (omega arith)
 
-are_bytes-high_first : (n x : ℕ) → IsTrue (list_all is_byte (bytes_high_first n x))
+pub are_bytes-high_first : (n x : ℕ) → IsTrue (list_all is_byte (bytes_high_first n x))
 are_bytes-high_first zero x = refl
 are_bytes-high_first (suc n) x =
     let first = byte_at-below n x in

@@ -4,7 +4,8 @@ use Rattle.std.specs.Prelude.{IsTrue, IsErr, IsErrOf, OnOk, OnErr}
 use Rattle.sed_outside.specs.Cause.{HasCause}
 use Rattle.disk_model.specs.declared.disk.Disk.{Ghosts as DiskGhosts}
 use Rattle.disk_model.specs.declared.disk.DiskFault.{DiskFault}
-use Rattle.disk_model.specs.Disk.{Meaning, Attaches as IsAttach, Elapses, During, Keeps, MarksUp, SyncsUp, one_more}
+use Rattle.disk_model.specs.Disk.{Meaning, Attaches as IsAttach, Elapses, During, Keeps, MarksUp, SyncsUp}
+use Rattle.sed_outside.specs.Counts.{one_more}
 use Rattle.app_save.specs.declared.refusal.SaveRefusal.{SaveRefusal}
 use Rattle.app_save.specs.declared.refusal.SaveRefusal.TheVariants.{Device, NotEmpty as FileNotEmpty}
 use Rattle.app_save.specs.Making.{NoneLonger}

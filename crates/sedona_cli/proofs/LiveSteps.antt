@@ -6,7 +6,7 @@ use Rattle.sed_outside.specs.declared.files.Files.{Ghosts as FileGhosts}
 use Rattle.sed_outside.specs.declared.sink.Sink.{Ghosts as Sinks}
 use Rattle.sed_outside.specs.declared.sink.SinkFault.{SinkFault}
 use Rattle.live_outside.specs.Clock.{Moments, later_moments, next_moment}
-use Rattle.live_outside.specs.Counts.{one_more}
+use Rattle.sed_outside.specs.Counts.{one_more}
 use Rattle.live_outside.specs.Link.{Bound, Binds as IsBind}
 use Rattle.live_outside.specs.Rounds.{polls_at}
 use Rattle.live_outside.specs.Told.{AddsWhereTold, Told}

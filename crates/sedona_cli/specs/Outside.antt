@@ -5,7 +5,7 @@ use Rattle.std.specs.List.{flat_map, list_all}
 use Rattle.sed_outside.specs.Cause.{HasCause}
 use Rattle.sed_outside.specs.declared.files.Files.{Ghosts as FileGhosts}
 use Rattle.disk_model.specs.Disk.{Image, Meaning, Elapses, During, Keeps, MarksUp, SyncsUp, Attaches as IsAttach}
-use Rattle.disk_model.specs.Disk.{one_more}
+use Rattle.sed_outside.specs.Counts.{one_more}
 use Rattle.disk_model.specs.declared.disk.Disk.{Ghosts as DiskGhosts}
 use Rattle.app_save.specs.Making.{NoneLonger}
 use Rattle.app_save.specs.Saving.{AllOpen, AllStores, SinceSync, SyncsOnce}

@@ -7,7 +7,7 @@ use Rattle.sed_outside.specs.Cause.{Rose}
 use Rattle.sed_outside.specs.Sink.{PutsFront, with_text}
 use Rattle.sed_outside.specs.declared.files.Files.{Ghosts as FileGhosts}
 use Rattle.live_outside.specs.Clock.{Moments, later_moments, next_moment}
-use Rattle.live_outside.specs.Counts.{one_more}
+use Rattle.sed_outside.specs.Counts.{one_more}
 use Rattle.live_outside.specs.Link.{Bound, Binds as IsBind}
 use Rattle.live_outside.specs.Rounds.{LiveCycle, polls_at}
 use Rattle.live_outside.specs.Told.{AddsWhereTold}

@@ -8,7 +8,7 @@ use Rattle.live_outside.specs.declared.offer.Offer.{Offer}
 use Rattle.live_outside.specs.declared.polling.Polling.{Polling}
 use Rattle.live_outside.specs.declared.sleep.Sleep.{Sleep}
 use Rattle.live_outside.specs.Clock.{next_moment}
-use Rattle.live_outside.specs.Counts.{one_more}
+use Rattle.sed_outside.specs.Counts.{one_more}
 use Rattle.live_outside.specs.Rounds.{HearsWhereTold, LiveCycle, most_polls, sleeps_in, wake_moment}
 use Rattle.live_outside.specs.Told.{AddsWhereTold, Told}
 use Rattle.app_save.specs.Saving.{AllStores}
