@@ -135,26 +135,21 @@ primitive_number prim.Long = 4
 abbrev pub same_primitive : Primitive → Primitive → Bool
 same_primitive p q = primitive_number p == primitive_number q
 
--- What is unknown or of no form is equal to all, since another rule speaks of it.
-abbrev pub speaks_not : SourceType → Bool
-speaks_not Unknown = true
-speaks_not Outside = true
-speaks_not t = false
-
--- two types of results or parameters are equal
+-- Two types of results or parameters are equal. What is unknown is equal to all, since another rule speaks of it; what is
+-- of no form is equal to no other.
 abbrev pub is_same_type : SourceType → SourceType → Bool
 is_same_type Unknown u = true
-is_same_type Outside u = true
-is_same_type Void u = speaks_not u || is_void u
+is_same_type Outside u = is_unknown u
+is_same_type Void u = is_unknown u || is_void u
 is_same_type Text Text = true
-is_same_type Text u = speaks_not u
+is_same_type Text u = is_unknown u
 is_same_type (Prim p) (Prim q) = same_primitive p q
-is_same_type (Prim p) u = speaks_not u
+is_same_type (Prim p) u = is_unknown u
 is_same_type (SizedText m) (SizedText n) = m == n
-is_same_type (SizedText m) u = speaks_not u
+is_same_type (SizedText m) u = is_unknown u
 is_same_type (Buf m) (Buf n) = m == n
-is_same_type (Buf m) u = speaks_not u
+is_same_type (Buf m) u = is_unknown u
 is_same_type (Array p m) (Array q n) = same_primitive p q && (m == n)
-is_same_type (Array p m) u = speaks_not u
+is_same_type (Array p m) u = is_unknown u
 is_same_type (Object c) (Object d) = c == d
-is_same_type (Object c) u = speaks_not u
+is_same_type (Object c) u = is_unknown u

@@ -220,44 +220,38 @@ fn same_primitive(a: Prim, b: Prim) -> bool
     primitive_number(a) == primitive_number(b)
 }
 
-/// Whether two types of results or parameters are equal; what is unknown or of no form is equal to all.
+/// Whether two types of results or parameters are equal; what is unknown is equal to all, and what is of no form to no
+/// other.
 pub fn is_same_type(a: SourceType, b: SourceType) -> bool
     ensures { result ≡ types.is_same_type a b }
 {
     match a {
         SourceType::Unknown => true,
-        SourceType::Outside => true,
-        SourceType::Void => speaks_not(b) || is_void(b),
+        SourceType::Outside => is_unknown(b),
+        SourceType::Void => is_unknown(b) || is_void(b),
         SourceType::Text => match b {
             SourceType::Text => true,
-            _ => speaks_not(b),
+            _ => is_unknown(b),
         },
         SourceType::Prim(p) => match b {
             SourceType::Prim(q) => same_primitive(p, q),
-            _ => speaks_not(b),
+            _ => is_unknown(b),
         },
         SourceType::SizedText(m) => match b {
             SourceType::SizedText(n) => m == n,
-            _ => speaks_not(b),
+            _ => is_unknown(b),
         },
         SourceType::Buf(m) => match b {
             SourceType::Buf(n) => m == n,
-            _ => speaks_not(b),
+            _ => is_unknown(b),
         },
         SourceType::Array(p, m) => match b {
             SourceType::Array(q, n) => same_primitive(p, q) && m == n,
-            _ => speaks_not(b),
+            _ => is_unknown(b),
         },
         SourceType::Object(c) => match b {
             SourceType::Object(d) => c == d,
-            _ => speaks_not(b),
+            _ => is_unknown(b),
         },
     }
-}
-
-// Whether a type is equal to all.
-fn speaks_not(kind: SourceType) -> bool
-    ensures { result ≡ types.speaks_not kind }
-{
-    matches!(kind, SourceType::Unknown | SourceType::Outside)
 }
