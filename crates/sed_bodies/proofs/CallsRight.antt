@@ -13,7 +13,7 @@ use Rattle.sed_typed.specs.Classes.{base_of, find, method_name}
 use Rattle.sed_typed.specs.TypedExpr.{Context, IsKindOf, GoesTo, AllGoTo, object_class, text_kinds, IsCallOf}
 use Rattle.sed_names.specs.declared.signature.Signature.{Signature}
 use Rattle.sed_names.specs.Names.{Names}
-use Rattle.sed_terms.specs.declared.judged.Fault.{Fault}
+use Rattle.sed_faults.specs.declared.fault.Fault.{Fault}
 use Rattle.sed_terms.specs.declared.judged.Judged.{Judged}
 use Rattle.sed_terms.specs.declared.judged.Judged.TheVariants.{Sound, Unknown}
 use Rattle.sed_terms.specs.declared.sign.Sign.TheVariants as sign

@@ -18,7 +18,7 @@ use Rattle.sed_names.specs.declared.member.Member.{Member}
 use Rattle.sed_names.specs.declared.member.Member.TheVariants as member
 use Rattle.sed_names.specs.declared.signature.Signature.{Signature}
 use Rattle.sed_names.specs.Names.{Names}
-use Rattle.sed_terms.specs.declared.judged.Fault.{Fault}
+use Rattle.sed_faults.specs.declared.fault.Fault.{Fault}
 use Rattle.sed_terms.specs.declared.judged.Judged.{Judged}
 use Rattle.sed_terms.specs.declared.judged.Judged.TheVariants.{Sound, Unknown}
 use Rattle.sed_terms.specs.declared.sign.Sign.TheVariants as sign

@@ -5,7 +5,7 @@ use Rattle.sed_typed.specs.declared.kind.Kind.{Kind}
 use Rattle.sed_typed.specs.declared.kind.Kind.TheVariants as kind
 use Rattle.sed_typed.specs.declared.number.TypeNo.{TypeNo}
 use Rattle.sed_typed.specs.TypedExpr.{Context}
-use Rattle.sed_terms.specs.declared.judged.Fault.{Fault}
+use Rattle.sed_faults.specs.declared.fault.Fault.{Fault}
 use Rattle.sed_terms.specs.declared.judged.Judged.{Judged}
 use Rattle.sed_terms.specs.declared.sign.Sign.TheVariants as sign
 use Rattle.sed_terms.specs.Faults.{all_faults, broken, Right}

@@ -16,7 +16,7 @@ use Rattle.sed_typed.specs.Classes.{base_of}
 use Rattle.sed_typed.specs.TypedExpr.{Context}
 use Rattle.sed_names.specs.declared.signature.Signature.{Signature}
 use Rattle.sed_names.specs.Names.{Names}
-use Rattle.sed_terms.specs.declared.judged.Fault.{Fault}
+use Rattle.sed_faults.specs.declared.fault.Fault.{Fault}
 use Rattle.sed_terms.specs.declared.judged.Judged.{Judged}
 use Rattle.sed_terms.specs.declared.judged.Judged.TheVariants.{Sound, Unknown}
 use Rattle.sed_terms.specs.Faults.{all_faults, broken, after, Right}

@@ -11,7 +11,7 @@ use Rattle.sed_typed.specs.declared.operators.Arithmetic.TheVariants as arithmet
 use Rattle.sed_typed.specs.declared.operators.Gives.TheVariants.{Old, New}
 use Rattle.sed_names.specs.declared.signature.Signature.{Signature}
 use Rattle.sed_names.specs.Names.{Names}
-use Rattle.sed_terms.specs.declared.judged.Fault.{Fault}
+use Rattle.sed_faults.specs.declared.fault.Fault.{Fault}
 use Rattle.sed_terms.specs.declared.judged.Judged.{Judged}
 use Rattle.sed_terms.specs.declared.judged.Judged.TheVariants.{Sound, Unknown}
 use Rattle.sed_terms.specs.Faults.{all_faults, least_fault, broken, told}

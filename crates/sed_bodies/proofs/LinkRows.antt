@@ -3,7 +3,7 @@ use Rattle.std.proofs.Common.{◌≡◌, ℕ, suc, List, [], ◌∷◌, length, 
 use Rattle.sed_units.specs.Tree.{Tree, Part, row}
 use Rattle.sed_units.specs.declared.label.Label.TheVariants as label
 use Rattle.sed_names.specs.Names.{Names}
-use Rattle.sed_terms.specs.declared.judged.Fault.{Fault}
+use Rattle.sed_faults.specs.declared.fault.Fault.{Fault}
 use Rattle.sed_terms.specs.declared.judged.Judged.{Judged}
 use Rattle.sed_terms.specs.Faults.{least_fault}
 use Rattle.sed_terms.specs.Term.{Term}

@@ -12,7 +12,7 @@ use Rattle.sed_typed.specs.declared.operators.Width.{Width}
 use Rattle.sed_typed.specs.declared.operators.Width.TheVariants as width
 use Rattle.sed_typed.specs.Kinds.{width_kind}
 use Rattle.sed_typed.specs.TypedExpr.{Context, IsReference, IsKindOf, AreOperands, right_kind}
-use Rattle.sed_terms.specs.declared.judged.Fault.{Fault}
+use Rattle.sed_faults.specs.declared.fault.Fault.{Fault}
 use Rattle.sed_terms.specs.declared.judged.Judged.{Judged}
 use Rattle.sed_terms.specs.declared.sign.Sign.TheVariants as sign
 use Rattle.sed_terms.specs.declared.sort.Sort.{Sort}

@@ -3,7 +3,7 @@ use Rattle.std.proofs.Common.{◌≡◌, ℕ, Bool, true, false, ◌&&◌, if◌
 use Rattle.sed_value.specs.declared.slot_type.Primitive.{Primitive}
 use Rattle.sed_typed.specs.declared.operators.Arithmetic.{Arithmetic}
 use Rattle.sed_typed.specs.declared.operators.Gives.{Gives}
-use Rattle.sed_terms.specs.declared.judged.Fault.{Fault}
+use Rattle.sed_faults.specs.declared.fault.Fault.{Fault}
 use Rattle.sed_terms.specs.declared.judged.Judged.{Judged}
 use Rattle.sed_terms.specs.declared.judged.Judged.TheVariants.{Sound, Unknown}
 use Rattle.sed_terms.specs.declared.sort.Sort.{Sort}

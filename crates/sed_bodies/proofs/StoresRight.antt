@@ -14,7 +14,7 @@ use Rattle.sed_typed.specs.Kinds.{width_kind}
 use Rattle.sed_typed.specs.TypedExpr.{Context, GoesTo, IsKindOf, right_kind}
 use Rattle.sed_typed.specs.declared.schema.ClassInfo.{ClassInfo}
 use Rattle.sed_typed.specs.TypedSchema.{is_below}
-use Rattle.sed_terms.specs.declared.judged.Fault.{Fault}
+use Rattle.sed_faults.specs.declared.fault.Fault.{Fault}
 use Rattle.sed_terms.specs.declared.judged.Judged.{Judged}
 use Rattle.sed_terms.specs.declared.judged.Judged.TheVariants.{Sound, Unknown}
 use Rattle.sed_terms.specs.declared.sign.Sign.TheVariants as sign

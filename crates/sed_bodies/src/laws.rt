@@ -5,7 +5,7 @@ ghost use Rattle.sed_typed.specs.declared.kind.Kind.{Kind};
 ghost use Rattle.sed_typed.specs.declared.kind.Kind.TheVariants as kinds;
 ghost use Rattle.sed_typed.specs.TypedExpr.{Context, IsKindOf};
 ghost use Rattle.sed_names.specs.Names.{Names};
-ghost use Rattle.sed_terms.specs.declared.judged.Fault.{Fault};
+ghost use Rattle.sed_faults.specs.declared.fault.Fault.{Fault};
 ghost use Rattle.sed_terms.specs.declared.judged.Judged.{Judged};
 ghost use Rattle.sed_terms.specs.Faults.{all_faults, least_fault, told, Right};
 ghost use Rattle.sed_terms.specs.Term.{Term};
@@ -16,7 +16,7 @@ ghost use Rattle.sed_bodies.specs.Expressions.{judge};
 ghost use Rattle.sed_bodies.specs.Inside.{AreBelow, Goes, HasKind, HasKinds, IsIn, IsReady};
 ghost use Rattle.sed_scope.specs.Scope.{Scope};
 
-use sed_terms::least_of_two_lists;
+use sed_faults::least_of_two_lists;
 
 /// Where the names of a body mean what its program has, what an expression comes to is typed in that program, and it
 /// is unknown only with a fault inside. So an expression without a fault is typed.

@@ -7,7 +7,7 @@ use Rattle.sed_typed.specs.declared.program.Program.{Program}
 use Rattle.sed_typed.specs.declared.statement.Stmt.{Stmt, Row_of-Stmt, end_of-Stmt, more_of-Stmt}
 use Rattle.sed_typed.specs.declared.statement.Stmt.TheVariants as stmt
 use Rattle.sed_names.specs.Names.{Names}
-use Rattle.sed_terms.specs.declared.judged.Fault.{Fault as TermFault}
+use Rattle.sed_faults.specs.declared.fault.Fault.{Fault}
 use Rattle.sed_terms.specs.declared.judged.Judged.{Judged}
 use Rattle.sed_terms.specs.declared.judged.Judged.TheVariants.{Sound, Unknown}
 use Rattle.sed_terms.specs.declared.sign.Sign.TheVariants as sign
@@ -27,10 +27,10 @@ use Rattle.sed_judged.specs.Bodies.{HasTree, IsBodyOf, enclosing_of}
 abbrev nothing : Term
 nothing = Node sign.Block Absent Absent
 
-sound_is : (t u : Term) → ◌≡◌ {A = Judged Term (List TermFault)} (Sound t) (Sound u) → t ≡ u
+sound_is : (t u : Term) → ◌≡◌ {A = Judged Term (List Fault)} (Sound t) (Sound u) → t ≡ u
 sound_is t u e = cc
 
-joined_is : (x : Judged Bool (List TermFault)) (t : Term) →
+joined_is : (x : Judged Bool (List Fault)) (t : Term) →
     joined {A = Bool} {B = Term} {C = Term} all_faults x (Sound nothing) (λ free u. Sound u) ≡ Sound t → nothing ≡ t
 joined_is (Sound b) t e = sound_is nothing t e
 joined_is (Unknown f) t e = cc

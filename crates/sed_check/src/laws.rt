@@ -8,11 +8,11 @@ ghost use Rattle.sed_class_laws.specs.Kits.{KitsNamed};
 ghost use Rattle.sed_read.specs.Read.{AreRead};
 
 use sed_depths::sound_bodies_are_shallow;
+use sed_faults::Fault;
 use sed_meant::names_mean_what_a_program_has;
 use sed_member_laws::{methods_are_typed, no_class_breaks_a_rule};
 use sed_order::classes_stand_in_order;
 use sed_sound_bodies::sound_bodies_are_bodies;
-use sed_terms::Fault;
 use sed_typed_units::what_units_spell_is_typed;
 use sed_value::Items;
 

@@ -1,6 +1,6 @@
 -- What holds of two parts holds of both together.
 use Rattle.std.proofs.Common.{◌≡◌, Option, sym, subst}
-use Rattle.sed_terms.specs.declared.judged.Fault.{Fault}
+use Rattle.sed_faults.specs.declared.fault.Fault.{Fault}
 use Rattle.sed_terms.specs.declared.judged.Judged.{Judged}
 use Rattle.sed_terms.specs.declared.judged.Judged.TheVariants.{Sound, Unknown}
 use Rattle.sed_terms.specs.Faults.{least_fault, paired, IfSound}

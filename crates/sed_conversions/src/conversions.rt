@@ -4,8 +4,9 @@ ghost use Rattle.sed_terms.specs.Sorts as sorts;
 ghost use Rattle.sed_terms.specs.Sorts.{is_value, sort_of};
 ghost use Rattle.sed_conversions.specs.Conversions as conversions;
 
+use sed_faults::Fault;
 use sed_names::Lookup;
-use sed_terms::{Fault, Found, Judged, Sort};
+use sed_terms::{Found, Judged, Sort};
 use sed_typed::{Kind, TypeNo, Unary, Width};
 use sed_value::Memory;
 use std::alloc::Global;

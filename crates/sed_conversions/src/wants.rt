@@ -7,7 +7,8 @@ ghost use Rattle.sed_conversions.specs.Conversions as conversions;
 ghost use Rattle.sed_conversions.specs.Wants as wants;
 
 use crate::conversions::{Checked, beside, is_bool, is_int, is_number, is_operand};
-use sed_terms::{Fault, Found, Judged, Sort, broken, paired};
+use sed_faults::Fault;
+use sed_terms::{Found, Judged, Sort, broken, paired};
 use sed_typed::Kind;
 use sed_value::Memory;
 use std::alloc::Global;

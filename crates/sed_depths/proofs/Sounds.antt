@@ -1,6 +1,6 @@
 -- What holds of what is sound, by how rules are put together.
 use Rattle.std.proofs.Common.{◌≡◌, Bool, true, false, if◌then◌else◌, IfSome, Option, Some, None, refl}
-use Rattle.sed_terms.specs.declared.judged.Fault.{Fault}
+use Rattle.sed_faults.specs.declared.fault.Fault.{Fault}
 use Rattle.sed_terms.specs.declared.judged.Judged.{Judged}
 use Rattle.sed_terms.specs.declared.judged.Judged.TheVariants.{Sound, Unknown}
 use Rattle.sed_terms.specs.Faults.{Marks, IfSound, after, paired, joined, unless, some_or}

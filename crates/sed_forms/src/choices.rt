@@ -7,8 +7,9 @@ ghost use Rattle.sed_forms.specs.Loops as rules;
 
 use crate::rows::CheckedStmt;
 use sed_conversions::{Checked, truth};
+use sed_faults::Fault;
 use sed_stmt_terms::FoundStmt;
-use sed_terms::{Fault, Found, Judged, paired};
+use sed_terms::{Found, Judged, paired};
 use sed_value::Memory;
 use std::alloc::Global;
 

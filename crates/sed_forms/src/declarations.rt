@@ -6,11 +6,12 @@ ghost use Rattle.sed_forms.specs.Declarations as rules;
 
 use crate::rows::CheckedStmt;
 use sed_conversions::Checked;
+use sed_faults::Fault;
 use sed_names::Lookup;
 use sed_scope::{Locals, TypeMeaning, type_meaning};
 use sed_stmt_terms::FoundStmt;
 use sed_stores::going;
-use sed_terms::{Fault, Judged, broken, paired};
+use sed_terms::{Judged, broken, paired};
 use sed_typed::Kind;
 use sed_units::{Param, TypeRef};
 use sed_value::Memory;

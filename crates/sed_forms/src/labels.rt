@@ -9,8 +9,9 @@ ghost use Rattle.sed_forms.specs.Labels as rules;
 
 use crate::rows::{CheckedRow, CheckedStmt};
 use sed_conversions::{Checked, wants_int};
+use sed_faults::Fault;
 use sed_stmt_terms::{FoundCases, FoundStmt, FoundStmts};
-use sed_terms::{Fault, Found, Judged, broken, paired};
+use sed_terms::{Found, Judged, broken, paired};
 use sed_typed::Label;
 use sed_value::Memory;
 use std::alloc::Global;

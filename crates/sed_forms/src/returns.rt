@@ -7,9 +7,10 @@ ghost use Rattle.sed_forms.specs.Returns as rules;
 
 use crate::rows::CheckedStmt;
 use sed_conversions::{Checked, placed};
+use sed_faults::Fault;
 use sed_names::Lookup;
 use sed_stmt_terms::FoundStmt;
-use sed_terms::{Fault, Found, Judged, broken, paired};
+use sed_terms::{Found, Judged, broken, paired};
 use sed_typed::Kind;
 use sed_value::Memory;
 use std::alloc::Global;

@@ -4,8 +4,9 @@ ghost use Rattle.sed_terms.specs.Faults.{least_fault};
 ghost use Rattle.sed_forms.specs.Rows as rules;
 
 use sed_conversions::Checked;
+use sed_faults::Fault;
 use sed_stmt_terms::{FoundStmt, FoundStmts};
-use sed_terms::{Fault, Judged, paired};
+use sed_terms::{Judged, paired};
 use sed_value::Memory;
 use std::alloc::Global;
 

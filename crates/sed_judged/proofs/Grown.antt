@@ -16,7 +16,7 @@ use Rattle.sed_classes.specs.Faults.{first_of}
 use Rattle.sed_classes.specs.Members.{form_body}
 use Rattle.sed_program.specs.Methods.{MethodAt}
 use Rattle.sed_judged.specs.declared.bodies.Bodies.{Bodies}
-use Rattle.sed_judged.specs.Bodies.{AreBodies, IsBodyOf, as_fault, faults_of_form, method_faults, placed_at}
+use Rattle.sed_judged.specs.Bodies.{AreBodies, IsBodyOf, faults_of_form, method_faults, placed_at}
 use Rattle.sed_judged.specs.Judgements.{AreJudged, Grows, has_known_body, least_fault_at}
 use Rattle.std.proofs.lemmas.Bool.{and_parts as both_true}
 use Rattle.std.proofs.Math.Bool.{and-true as one_known}
@@ -39,7 +39,7 @@ pub grown_by_one : (units : List KitUnits) (e : MethodAt) (old new : Bodies) (fa
     Grows units (e ∷ []) old new
 grown_by_one units e old new fault known tree least is_known body first are_known trees before judged = record {
   fault =
-      first (map as_fault (faults_of_form units e (form_body e.owned.member.form)))
+      first (faults_of_form units e (form_body e.owned.member.form))
       (flat_map (method_faults units) before) least judged.fault
       ∙ sym (ap first_of (flat_map-append (method_faults units) before (e ∷ [])
       ∙ ap (λ fs. flat_map (method_faults units) before ++ fs) (append-nil (method_faults units e))));

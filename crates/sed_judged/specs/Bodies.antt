@@ -7,7 +7,6 @@ use Rattle.sed_typed.specs.declared.statement.Stmt.{Stmt}
 use Rattle.sed_typed.specs.Flat.{IsFlatStmt}
 use Rattle.sed_typed.specs.Height.{stmt_height}
 use Rattle.sed_faults.specs.declared.fault.Fault.{Fault}
-use Rattle.sed_terms.specs.declared.judged.Fault.{Fault as TermFault}
 use Rattle.sed_terms.specs.declared.judged.Judged.{Judged}
 use Rattle.sed_terms.specs.declared.judged.Judged.TheVariants.{Sound, Unknown}
 use Rattle.sed_terms.specs.Faults.{all_faults}
@@ -34,24 +33,21 @@ enclosing_of units e = record {
 }
 
 -- with a body
-abbrev pub judged_body : List KitUnits → MethodAt → List Tree → Judged Term (List TermFault)
+abbrev pub judged_body : List KitUnits → MethodAt → List Tree → Judged Term (List Fault)
 judged_body units e all =
     judge_method all_faults (names_of units e.owned.kit) (enclosing_of units e) (form_params e.owned.member.form) all
 
 -- ---- faults
 
-abbrev pub faults_in : {A : Type 0} → Judged A (List TermFault) → List TermFault
+abbrev pub faults_in : {A : Type 0} → Judged A (List Fault) → List Fault
 faults_in (Sound a) = []
 faults_in (Unknown faults) = faults
 
 -- a method without a body has parameters all the same
-abbrev pub faults_of_form : List KitUnits → MethodAt → Option (List Tree) → List TermFault
+abbrev pub faults_of_form : List KitUnits → MethodAt → Option (List Tree) → List Fault
 faults_of_form units e None = faults_in (judge_params all_faults (names_of units e.owned.kit) (enclosing_of units e)
     (form_params e.owned.member.form))
 faults_of_form units e (Some all) = faults_in (judged_body units e all)
-
-abbrev pub as_fault : TermFault → Fault
-as_fault f = record { at = f.at; rule = f.rule }
 
 -- faults in the text of the class at a place
 abbrev pub placed_at : List KitUnits → ℕ → List Fault → List PlacedFault
@@ -59,7 +55,7 @@ placed_at units class faults = option_map_or (λ d. map (placed_in d) faults) (c
 
 abbrev pub method_faults : List KitUnits → MethodAt → List PlacedFault
 method_faults units e =
-    placed_at units e.owned.class (map as_fault (faults_of_form units e (form_body e.owned.member.form)))
+    placed_at units e.owned.class (faults_of_form units e (form_body e.owned.member.form))
 
 -- those of all methods of the program; those of kit `sys` have none
 abbrev pub body_faults : List KitUnits → List PlacedFault

@@ -8,7 +8,6 @@ use Rattle.sed_typed.specs.Flat.{IsFlatStmt}
 use Rattle.sed_typed.specs.Height.{stmt_height}
 use Rattle.sed_faults.specs.declared.fault.Fault.{Fault}
 use Rattle.sed_faults.specs.Faults.{least}
-use Rattle.sed_terms.specs.declared.judged.Fault.{Fault as TermFault}
 use Rattle.sed_terms.specs.declared.judged.Judged.{Judged}
 use Rattle.sed_terms.specs.declared.judged.Judged.TheVariants.{Sound, Unknown}
 use Rattle.sed_terms.specs.Seen.{stmt_term}
@@ -18,7 +17,7 @@ use Rattle.sed_classes.specs.Faults.{first_of}
 use Rattle.sed_classes.specs.Members.{form_body, kit_of, owned}
 use Rattle.sed_program.specs.Methods.{MethodAt}
 use Rattle.sed_judged.specs.declared.bodies.Bodies.{Bodies}
-use Rattle.sed_judged.specs.Bodies.{AreBodies, as_fault, faults_in, faults_of_form, judged_body, method_faults}
+use Rattle.sed_judged.specs.Bodies.{AreBodies, faults_in, faults_of_form, judged_body, method_faults}
 
 -- ---- which bodies are known
 
@@ -40,16 +39,16 @@ have_known_bodies units es = list_all (has_known_body units) es
 -- ---- one method
 
 -- the fault that is kept
-abbrev pub fault_in : {A : Type 0} → Judged A (Option TermFault) → Option TermFault
+abbrev pub fault_in : {A : Type 0} → Judged A (Option Fault) → Option Fault
 fault_in (Sound a) = None
 fault_in (Unknown fault) = fault
 
 -- the least of all that are found
-abbrev pub least_in : {A : Type 0} → Judged A (List TermFault) → Option Fault
-least_in judged = least (map as_fault (faults_in judged))
+abbrev pub least_in : {A : Type 0} → Judged A (List Fault) → Option Fault
+least_in judged = least (faults_in judged)
 
 -- a tree is what is found, flat, and at most 2,080 levels high
-abbrev pub IsTreeOf : Judged Term (List TermFault) → Option Stmt → Type 0
+abbrev pub IsTreeOf : Judged Term (List Fault) → Option Stmt → Type 0
 IsTreeOf judged (Some body) = (judged ≡ Sound (stmt_term body)) × IsFlatStmt body × (stmt_height body ≤ 2080)
 IsTreeOf judged None = ⊥
 
@@ -58,7 +57,7 @@ abbrev pub method_at : List KitUnits → ℕ → ℕ → Member → MethodAt
 method_at units number class m = record { class = number; owned = owned class (kit_of units class) m }
 
 abbrev pub least_fault_at : List KitUnits → MethodAt → Option Fault
-least_fault_at units e = least (map as_fault (faults_of_form units e (form_body e.owned.member.form)))
+least_fault_at units e = least (faults_of_form units e (form_body e.owned.member.form))
 
 -- ---- methods one after another
 

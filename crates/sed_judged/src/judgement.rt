@@ -1,15 +1,13 @@
 //! What a method is found to be.
 ghost use Rattle.std.specs.Prelude.{◌≡◌, ◌≤◌, true, List, None, IfOk};
-ghost use Rattle.std.specs.Option.{option_map};
 ghost use Rattle.sed_typed.specs.Flat.{IsFlatStmt};
 ghost use Rattle.sed_typed.specs.Height.{stmt_height};
-ghost use Rattle.sed_terms.specs.declared.judged.Fault.{Fault as TheFault};
+ghost use Rattle.sed_faults.specs.declared.fault.Fault.{Fault as TheFault};
 ghost use Rattle.sed_terms.specs.declared.judged.Judged.{Judged as TheJudged};
 ghost use Rattle.sed_terms.specs.Faults.{all_faults, told};
 ghost use Rattle.sed_terms.specs.Term.{Term};
 ghost use Rattle.sed_program.specs.Meaning.{names_of};
 ghost use Rattle.sed_statements.specs.Methods.{judge_method, judge_params};
-ghost use Rattle.sed_judged.specs.Bodies.{as_fault};
 ghost use Rattle.sed_judged.specs.Judgements.{fault_in, is_sound, least_in, IsTreeOf};
 
 use crate::laws::least_fault_of_params_is_found;
@@ -18,7 +16,7 @@ use sed_forms::CheckedStmt;
 use sed_heights::is_within;
 use sed_program::View;
 use sed_statements::{Enclosing, judged_method, judged_params, least_fault_of_methods_is_found};
-use sed_terms::{Fault as TermFault, Judged};
+use sed_terms::Judged;
 use sed_typed::Stmt;
 use sed_units::{Param, Stmt as SourceStmt};
 use sed_value::Memory;
@@ -38,26 +36,13 @@ pub struct Judgement {
     pub fault: Option<Fault>,
 }
 
-// A fault that may be there, as those of declarations are.
-fn as_declared(fault: Option<TermFault>) -> Option<Fault>
-    ensures { result ≡ option_map as_fault fault }
-{
-    match fault {
-        Some(fault) => Some(Fault {
-            at: fault.at,
-            rule: fault.rule,
-        }),
-        None => None,
-    }
-}
-
 // The fault that is kept of parameters.
-fn fault_of(judged: Judged<bool, Option<TermFault>>) -> Option<Fault>
-    ensures { result ≡ option_map as_fault (fault_in judged) }
+fn fault_of(judged: Judged<bool, Option<Fault>>) -> Option<Fault>
+    ensures { result ≡ fault_in judged }
 {
     match judged {
         Judged::Sound(_) => None,
-        Judged::Unknown(fault) => as_declared(fault),
+        Judged::Unknown(fault) => fault,
     }
 }
 
@@ -96,7 +81,7 @@ fn judgement_of(judged: CheckedStmt) -> Result<Judgement, Memory>
         Judged::Unknown(fault) => Ok(Judgement {
             tree: None,
             is_known: false,
-            fault: as_declared(fault),
+            fault,
         }),
     }
 }

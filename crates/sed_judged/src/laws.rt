@@ -6,7 +6,7 @@ ghost use Rattle.sed_terms.specs.Faults.{all_faults, least_fault, told};
 ghost use Rattle.sed_statements.specs.declared.enclosing.Enclosing.{Enclosing};
 ghost use Rattle.sed_statements.specs.Methods.{judge_params};
 
-use sed_terms::least_of_two_lists;
+use sed_faults::least_of_two_lists;
 
 /// The least of all faults of the parameters of a method is what the judgement with the least fault finds.
 pub fn least_fault_of_params_is_found()

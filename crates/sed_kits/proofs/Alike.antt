@@ -11,7 +11,7 @@ use Rattle.sed_program.specs.Outlined.{AreHeads}
 use Rattle.sed_program.specs.Types.{result_kind}
 use Rattle.sed_elaborate.specs.Checked.{IsSpelled}
 use Rattle.sed_judged.specs.Bodies.{AreBodies, HasTree, judged_body}
-use Rattle.sed_terms.specs.declared.judged.Fault.{Fault as TermFault}
+use Rattle.sed_faults.specs.declared.fault.Fault.{Fault}
 use Rattle.sed_terms.specs.declared.judged.Judged.{Judged}
 use Rattle.sed_terms.specs.declared.judged.Judged.TheVariants.{Sound}
 use Rattle.sed_terms.specs.Seen.{stmt_term}
@@ -82,7 +82,7 @@ same_heads units (e ∷ es) (m ∷ ms) (n ∷ ns) h k =
 abbrev pub OneTree : Type 0
 OneTree = (a b : Stmt) → IsFlatStmt a → IsFlatStmt b → stmt_term a ≡ stmt_term b → bare_stmt a ≡ bare_stmt b
 
-one_sound : (x y : Term) (j : Judged Term (List TermFault)) → j ≡ Sound x → j ≡ Sound y → x ≡ y
+one_sound : (x y : Term) (j : Judged Term (List Fault)) → j ≡ Sound x → j ≡ Sound y → x ≡ y
 one_sound x y j one other = cc
 
 one_body : OneTree → (units : List KitUnits) (e : MethodAt) (form : Option (List Tree)) (b c : Option Stmt) → HasTree units e form b → HasTree units e form c

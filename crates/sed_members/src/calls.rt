@@ -10,8 +10,9 @@ ghost use Rattle.sed_members.specs.Members as members;
 use crate::context::{Body, Callee, Owner};
 use crate::members::{owner_of, receiver, through};
 use sed_conversions::{Checked, placed};
+use sed_faults::{Fault, joined};
 use sed_names::{Lookup, Signature};
-use sed_terms::{Arguments, Fault, Found, Judged, broken, lesser, paired};
+use sed_terms::{Arguments, Found, Judged, broken, paired};
 use sed_typed::{Kind, TextCall, TypeNo};
 use sed_value::Memory;
 use std::alloc::Global;
@@ -209,7 +210,7 @@ pub fn no_method(at: usize, xs: CheckedArguments) -> Checked
 {
     match xs {
         Judged::Sound(_) => broken(16, at),
-        Judged::Unknown(f) => Judged::Unknown(lesser(Some(Fault { at, rule: 16 }), f)),
+        Judged::Unknown(f) => Judged::Unknown(joined(Some(Fault { at, rule: 16 }), f)),
     }
 }
 
@@ -431,7 +432,7 @@ fn unknown_receiver(f: Option<Fault>, xs: CheckedArguments) -> Checked
 {
     match xs {
         Judged::Sound(_) => Judged::Unknown(f),
-        Judged::Unknown(g) => Judged::Unknown(lesser(f, g)),
+        Judged::Unknown(g) => Judged::Unknown(joined(f, g)),
     }
 }
 

@@ -7,9 +7,10 @@ ghost use Rattle.sed_members.specs.Members as meaning;
 
 use crate::context::{Body, Owner};
 use sed_conversions::Checked;
+use sed_faults::Fault;
 use sed_names::{Constant, Lookup, Member};
 use sed_scope::{Local, Locals};
-use sed_terms::{Fault, Found, Judged, Sort, broken, paired};
+use sed_terms::{Found, Judged, Sort, broken, paired};
 use sed_typed::{FieldForm, Kind};
 use sed_units::{Expr, Ident, Node};
 use sed_value::{LONGEST_NAME, Memory};

@@ -8,7 +8,8 @@ ghost use Rattle.sed_operands.specs.Choices as choices;
 use sed_conversions::{
     Checked, beside, has_kind, in_width, is_number, meeting, same_kind, truth, wants_operand,
 };
-use sed_terms::{Fault, Found, Judged, broken, paired};
+use sed_faults::Fault;
+use sed_terms::{Found, Judged, broken, paired};
 use sed_value::Memory;
 use std::alloc::Global;
 

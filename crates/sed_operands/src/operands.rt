@@ -12,7 +12,8 @@ use sed_conversions::{
     Checked, beside, both_values, in_width, is_bool, is_number, is_reference, meeting, truth,
     wants_int, wants_number, width_of,
 };
-use sed_terms::{Fault, Found, Judged, Sort, broken, paired};
+use sed_faults::Fault;
+use sed_terms::{Found, Judged, Sort, broken, paired};
 use sed_typed::{Arithmetic, Binary, Comparison, Kind, Unary, Width};
 use sed_units::BinaryOp;
 use sed_value::{Memory, Prim};

@@ -17,7 +17,7 @@ use Rattle.sed_typed.specs.Typed.{IsStorable, receiver_of, declared_by}
 use Rattle.sed_typed.specs.TypedExpr.{Context, IsKindOf}
 use Rattle.sed_typed.specs.TypedStmt.{Around as TypedAround, IsStmt}
 use Rattle.sed_names.specs.Names.{Names}
-use Rattle.sed_terms.specs.declared.judged.Fault.{Fault}
+use Rattle.sed_faults.specs.declared.fault.Fault.{Fault}
 use Rattle.sed_terms.specs.declared.judged.Judged.{Judged}
 use Rattle.sed_terms.specs.declared.judged.Judged.TheVariants.{Sound}
 use Rattle.sed_terms.specs.Faults.{all_faults, broken, unless, Right}

@@ -9,7 +9,7 @@ use Rattle.sed_typed.specs.declared.kind.Kind.TheVariants as kind
 use Rattle.sed_typed.specs.declared.statement.Label.{Label}
 use Rattle.sed_typed.specs.Locals.{Declared}
 use Rattle.sed_names.specs.Names.{Names}
-use Rattle.sed_terms.specs.declared.judged.Fault.{Fault}
+use Rattle.sed_faults.specs.declared.fault.Fault.{Fault}
 use Rattle.sed_terms.specs.declared.judged.Judged.{Judged}
 use Rattle.sed_terms.specs.declared.judged.Judged.TheVariants.{Sound, Unknown}
 use Rattle.sed_terms.specs.declared.sign.Sign.TheVariants as sign

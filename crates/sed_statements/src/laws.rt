@@ -19,7 +19,7 @@ ghost use Rattle.sed_statements.specs.Statements.{judge_stmt};
 use sed_bodies::{
     judged_expressions_are_typed, least_fault_is_found, placed_goes, truth_right, wants_right,
 };
-use sed_terms::least_of_two_lists;
+use sed_faults::least_of_two_lists;
 
 /// The least of all faults of a statement, or of a method, is what the judgement with the least fault finds, and so
 /// what `statement` and `judged_method` answer.

@@ -5,10 +5,11 @@ ghost use Rattle.sed_statements.specs.Methods as meaning;
 
 use crate::enclosing::Enclosing;
 use crate::statements::statements;
+use sed_faults::Fault;
 use sed_forms::{Around, CheckedStmt, blocked, enter_params};
 use sed_names::Lookup;
 use sed_scope::Locals;
-use sed_terms::{Fault, Judged, paired};
+use sed_terms::{Judged, paired};
 use sed_units::{Param, Stmt};
 use sed_value::Memory;
 use std::alloc::Global;

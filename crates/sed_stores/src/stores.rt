@@ -13,8 +13,9 @@ ghost use Rattle.sed_stores.specs.Stores as stores;
 use sed_conversions::{
     Checked, in_width, is_long, is_number, placed, wants_int, wants_number, width_of,
 };
+use sed_faults::{Fault, joined};
 use sed_names::Lookup;
-use sed_terms::{Fault, Found, Judged, broken, lesser, paired};
+use sed_terms::{Found, Judged, broken, paired};
 use sed_typed::{Arithmetic, Gives, Kind, Update, Width};
 use sed_units::AssignOp;
 use sed_value::Memory;
@@ -108,7 +109,7 @@ fn is_target(at: usize, left: usize, place: bool, number: bool) -> Judged<bool, 
         (true, true) => Judged::Sound(number),
         (true, false) => broken(13, left),
         (false, true) => broken(14, at),
-        (false, false) => Judged::Unknown(lesser(
+        (false, false) => Judged::Unknown(joined(
             Some(Fault { at, rule: 14 }),
             Some(Fault { at: left, rule: 13 }),
         )),

@@ -1,10 +1,10 @@
 -- What is found with the least fault is what is found with all of them, seen by the least.
 use Rattle.std.proofs.Common.{◌≡◌, Bool, true, false, List, Option, Some, None, refl, ap, ◌∙◌}
-use Rattle.sed_terms.specs.declared.judged.Fault.{Fault}
+use Rattle.sed_faults.specs.declared.fault.Fault.{Fault}
 use Rattle.sed_terms.specs.declared.judged.Judged.{Judged}
 use Rattle.sed_terms.specs.declared.judged.Judged.TheVariants.{Sound, Unknown}
 use Rattle.sed_terms.specs.Faults.{all_faults, least_fault, told, after, paired, joined, unless, some_or}
-use Rattle.sed_terms.proofs.Least.{least_together}
+use Rattle.sed_faults.proofs.Least.{least_together}
 
 pub after_told : {A B : Type 0} (x : Judged A (List Fault)) (y : Judged A (Option Fault)) (rule : A → Judged B (List Fault)) (rule' : A → Judged B (Option Fault)) →
     told x ≡ y → ((a : A) → told (rule a) ≡ rule' a) → told (after x rule) ≡ after y rule'

@@ -1,28 +1,10 @@
 -- Faults, and what is found of a part of a text. An expression with a fault inside is unknown, and no rule speaks of
 -- it: rules are written with the words of this file, which pass on what is unknown.
-use Rattle.std.specs.Prelude.{◌≡◌, ℕ, Bool, ◌==◌, ◌&&◌, ◌||◌, nat_lt, if◌then◌else◌, List, [], ◌∷◌, ◌++◌, Option, Some}
-use Rattle.std.specs.Prelude.{None}
-use Rattle.sed_terms.specs.declared.judged.Fault.{Fault}
+use Rattle.std.specs.Prelude.{◌≡◌, Bool, if◌then◌else◌, List, [], ◌∷◌, ◌++◌, Option, Some, None}
+pub use Rattle.sed_faults.specs.Faults.{broken, is_before, lesser, least}
+use Rattle.sed_faults.specs.declared.fault.Fault.{Fault}
 use Rattle.sed_terms.specs.declared.judged.Judged.{Judged}
 use Rattle.sed_terms.specs.declared.judged.Judged.TheVariants.{Sound, Unknown}
-
-abbrev pub broken : ℕ → ℕ → Fault
-broken rule at = record { at = at; rule = rule }
-
--- the order of faults in a text: by place, and at a place by rule
-abbrev pub is_before : Fault → Fault → Bool
-is_before a b = nat_lt a.at b.at || ((a.at == b.at) && nat_lt a.rule b.rule)
-
--- the lesser one of two that may be there
-abbrev pub lesser : Option Fault → Option Fault → Option Fault
-lesser None b = b
-lesser (Some a) None = Some a
-lesser (Some a) (Some b) = Some (if is_before b a then b else a)
-
--- the least of a list
-abbrev pub least : List Fault → Option Fault
-least [] = None
-least (f ∷ fs) = lesser (Some f) (least fs)
 
 -- What is kept of faults. A part can be unknown with no fault of its own, as a use of what is declared with a fault.
 pub record Marks (F : Type 0) : Type 0 where

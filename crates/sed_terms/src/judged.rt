@@ -3,12 +3,7 @@ ghost use Rattle.std.specs.Prelude.{◌≡◌, Some};
 ghost use Rattle.sed_terms.specs.Faults as faults;
 ghost use Rattle.sed_terms.specs.Faults.{least_fault};
 
-/// A broken rule, and the byte place at which it is broken.
-#[derive(Clone, Copy, Debug, PartialEq, Eq)]
-pub struct Fault {
-    pub at: usize,
-    pub rule: u8,
-}
+use sed_faults::{Fault, joined};
 
 /// What a part of a text comes to. It is unknown where faults stand inside, or where it names what is unknown; then `F`
 /// says which faults.
@@ -16,24 +11,6 @@ pub struct Fault {
 pub enum Judged<T, F> {
     Sound(T),
     Unknown(F),
-}
-
-fn is_before(a: &Fault, b: &Fault) -> bool
-    ensures { result ≡ faults.is_before a.now b.now }
-{
-    a.at < b.at || (a.at == b.at && a.rule < b.rule)
-}
-
-/// The lesser of two faults that may be there: the one at the lesser place, and at one place the one of the lesser
-/// rule.
-pub fn lesser(a: Option<Fault>, b: Option<Fault>) -> Option<Fault>
-    ensures { result ≡ faults.lesser a b }
-{
-    match (a, b) {
-        (None, b) => b,
-        (Some(a), None) => Some(a),
-        (Some(a), Some(b)) => { if is_before(&b, &a) { Some(b) } else { Some(a) } }
-    }
 }
 
 /// Two parts together: the lesser of their faults.
@@ -47,7 +24,7 @@ pub fn paired<T: Drop, U: Drop>(
         (Judged::Sound(x), Judged::Sound(y)) => Judged::Sound((x, y)),
         (Judged::Sound(_), Judged::Unknown(f)) => Judged::Unknown(f),
         (Judged::Unknown(f), Judged::Sound(_)) => Judged::Unknown(f),
-        (Judged::Unknown(f), Judged::Unknown(g)) => Judged::Unknown(lesser(f, g)),
+        (Judged::Unknown(f), Judged::Unknown(g)) => Judged::Unknown(joined(f, g)),
     }
 }
 

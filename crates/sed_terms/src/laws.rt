@@ -1,5 +1,5 @@
 //! Laws of terms and of faults. Each is the contract of a function that does nothing.
-ghost use Rattle.std.specs.Prelude.{◌≡◌, List, ◌++◌, Option};
+ghost use Rattle.std.specs.Prelude.{◌≡◌, List, Option};
 ghost use Rattle.sed_typed.specs.declared.statement.Stmt.{Stmt};
 ghost use Rattle.sed_typed.specs.declared.tree.Expr.{Expr};
 ghost use Rattle.sed_typed.specs.declared.tree.Place.{Place};
@@ -10,10 +10,10 @@ ghost use Rattle.sed_typed.specs.Kinds.{kind_of, place_kind};
 ghost use Rattle.sed_typed.specs.Locals.{declared_in};
 ghost use Rattle.sed_typed.specs.TypedExpr.{Context, IsExpr, IsPlace};
 ghost use Rattle.sed_typed.specs.TypedStmt.{Around, IsStmt};
-ghost use Rattle.sed_terms.specs.declared.judged.Fault.{Fault};
+ghost use Rattle.sed_faults.specs.declared.fault.Fault.{Fault};
 ghost use Rattle.sed_terms.specs.declared.judged.Judged.{Judged};
 ghost use Rattle.sed_terms.specs.Faults as faults;
-ghost use Rattle.sed_terms.specs.Faults.{all_faults, least_fault, least, lesser, told};
+ghost use Rattle.sed_terms.specs.Faults.{all_faults, least_fault, told};
 ghost use Rattle.sed_terms.specs.Seen.{term_of, place_term, stmt_term};
 ghost use Rattle.sed_terms.specs.Sorts.{term_kind};
 ghost use Rattle.sed_terms.specs.TermDepth.{body_term_depth, declared_term, term_depth};
@@ -56,11 +56,6 @@ pub fn terms_have_one_tree()
     ensures same_expression { (a b : Expr) → bare_expr a ≡ bare_expr b → term_of a ≡ term_of b }
     ensures same_place { (a b : Place) → bare_place a ≡ bare_place b → place_term a ≡ place_term b }
     ensures same_statement { (a b : Stmt) → bare_stmt a ≡ bare_stmt b → stmt_term a ≡ stmt_term b }
-{}
-
-/// The least of two lists together is the lesser one of their least.
-pub fn least_of_two_lists()
-    ensures { (xs ys : List Fault) → least (xs ++ ys) ≡ lesser (least xs) (least ys) }
 {}
 
 /// A rule that keeps the least fault where one that keeps all does so too finds the same.

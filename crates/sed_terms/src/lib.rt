@@ -21,9 +21,9 @@ pub mod sort;
 
 pub use arguments::Arguments;
 pub use found::Found;
-pub use judged::{Fault, Judged, broken, lesser, paired};
+pub use judged::{Judged, broken, paired};
 pub use laws::{
-    least_of_two_lists, rules_keep_the_least, terms_have_one_tree, trees_nest_as_their_terms,
+    rules_keep_the_least, terms_have_one_tree, trees_nest_as_their_terms,
     typed_terms_give_typed_trees, typed_trees_have_typed_terms,
 };
 pub use sign::Sign;

@@ -1,5 +1,0 @@
-use Rattle.sed_terms.proofs.Least.{least_together}
-use Rattle.sed_terms.proofs.laws.least_of_two_lists.Goals as goal
-
-pub returns : goal.returns
-returns c xs ys = least_together xs ys
