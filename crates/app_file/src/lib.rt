@@ -4,7 +4,7 @@
 //! limit: the one application whose text they are, or no file, a file of other kits, or one whose application passes
 //! a limit. A text that was written before names could be long is read too. The laws say that nothing is read in two
 //! ways, and that under a larger data limit the same is read. What a store holds is what the payload of its newest
-//! slot is read as. The reading of a file (app_front), the writing (app_writer), the making of a store (new_store) and
+//! slot is read as. The reading of a file (app_front), the writing (app_writer), the making of a store and
 //! the definitions of a node (node_events) stand on it.
 #![tactic(auto)]
 
