@@ -1,15 +1,15 @@
 -- The first bytes of objects and of the statics, and the bytes of code, are bytes.
-use Rattle.std.proofs.Common.{◌≡◌, ℕ, zero, suc, ◌-◌, ◌*◌, ◌/◌, ◌^◌, ◌<◌, true, List, [], ◌∷◌, ◌++◌, length}
-use Rattle.std.proofs.Common.{replicate, nat_lt, nat_le, refl, arith}
+use Rattle.std.proofs.Common.{◌≡◌, ℕ, zero, suc, ◌-◌, ◌*◌, ◌^◌, true, List, [], ◌∷◌, ◌++◌, length}
+use Rattle.std.proofs.Common.{replicate, nat_lt, nat_le, refl}
 use Rattle.std.specs.Prelude.{All, IsTrue}
-use Rattle.std.specs.Int.{byte_at, bytes_high_first, cast_unsigned, w32, w64}
-use Rattle.std.proofs.Math.Nat.{mod-lt}
-use Rattle.std.proofs.lemmas.Bool.{and_from, and_parts, lt-ltb}
+use Rattle.std.specs.Int.{bytes_high_first, cast_unsigned, w32, w64}
+use Rattle.std.proofs.lemmas.Bool.{and_from, and_parts}
 use Rattle.std.proofs.lemmas.List.Elements.{All-head, All-tail}
 use Rattle.sed_value.specs.SlotType.{width_of}
 use Rattle.sed_value.specs.Value.{are_bytes}
 use Rattle.sed_value.specs.declared.value.Value.{Value}
 use Rattle.sed_value.specs.declared.value.Value.TheVariants as kept
+use Rattle.sed_wire.proofs.NumberLemmas.{are_bytes-high_first}
 use Rattle.sed_typed.specs.declared.program.Field.{Field}
 use Rattle.sed_typed.specs.declared.program.FieldForm.{FieldForm}
 use Rattle.sed_typed.specs.declared.program.FieldForm.TheVariants as form
@@ -18,28 +18,15 @@ use Rattle.sed_typed.specs.Classes.{fields}
 use Rattle.sed_typed.specs.Typed.{Typed}
 use Rattle.sed_typed.specs.TypedSchema.{IsField, is_initial}
 use Rattle.sed_engine.proofs.FirstFits.{zeros_bytes}
+use Rattle.sed_engine.proofs.StrBytes.{bytes_append}
 use Rattle.sed_layout.proofs.Inherited.{of_fields}
 use Rattle.scode_ops.specs.declared.op.Op.{Op}
 use Rattle.scode_ops.specs.declared.op.Op.TheVariants as ops
 use Rattle.scode_ops.specs.Codes.{IsOp, code_of, fits, operands_of}
 use Rattle.scode_emit.specs.Code.{bytes_of}
 use Rattle.scode_gen.specs.FirstBytes.{field_bytes, fields_bytes, first_bytes, number_in, object_bytes, static_bytes}
-use Rattle.scode_agree.proofs.Tests.{both_pass}
 
 -- ---- numbers
-
-byte_below : (k x : ℕ) → byte_at k x < 256
-byte_below zero x = mod-lt x (omega arith)
-byte_below (suc k) x = mod-lt (x / 256 ^ suc k) (omega arith)
-
-number_bytes : (n x : ℕ) → are_bytes (bytes_high_first n x) ≡ true
-number_bytes zero x = refl
-number_bytes (suc n) x =
-    and_from (nat_lt (byte_at n x) 256) (are_bytes (bytes_high_first n x)) (lt-ltb (byte_at n x) 256 (byte_below n x))
-    (number_bytes n x)
-
-two_bytes : (xs ys : List ℕ) → are_bytes xs ≡ true → are_bytes ys ≡ true → are_bytes (xs ++ ys) ≡ true
-two_bytes xs ys h g = both_pass (λ n. nat_lt n 256) xs ys h g
 
 one_byte : (n : ℕ) → nat_lt n 256 ≡ true → are_bytes (n ∷ []) ≡ true
 one_byte n h = and_from (nat_lt n 256) true h refl
@@ -48,13 +35,13 @@ one_byte n h = and_from (nat_lt n 256) true h refl
 
 module _ (object : ℕ → List ℕ) (are : (class : ℕ) → are_bytes (object class) ≡ true) where
   field_is_bytes : (f : FieldForm) (v : Value) → IsTrue (is_initial f v) → are_bytes (field_bytes object f v) ≡ true
-  field_is_bytes (form.Prim p) v h = number_bytes (width_of p) (number_in v)
+  field_is_bytes (form.Prim p) v h = are_bytes-high_first (width_of p) (number_in v)
   field_is_bytes (form.Str n) v h = zeros_bytes n
   field_is_bytes (form.Buf n) (kept.Buf bytes) h =
       let held : are_bytes bytes ≡ true = (and_parts (are_bytes bytes) (nat_le (length bytes) n) h).0 in
       let count : List ℕ = bytes_high_first 2 (length bytes) in
-      two_bytes (count ++ bytes) (replicate (n - length bytes) 0)
-      (two_bytes count bytes (number_bytes 2 (length bytes)) held) (zeros_bytes (n - length bytes))
+      bytes_append (count ++ bytes) (replicate (n - length bytes) 0)
+      (bytes_append count bytes (are_bytes-high_first 2 (length bytes)) held) (zeros_bytes (n - length bytes))
   field_is_bytes (form.Buf n) v h = let never : ⊥ = cc in absurd never
   field_is_bytes (form.Array p n) v h = zeros_bytes (n * width_of p)
   field_is_bytes (form.Object class) v h = are class.0
@@ -63,7 +50,7 @@ module _ (object : ℕ → List ℕ) (are : (class : ℕ) → are_bytes (object 
       → are_bytes (fields_bytes object all) ≡ true
   fields_are_bytes program [] known = refl
   fields_are_bytes program (f ∷ fs) known =
-      two_bytes (field_bytes object f.form f.initial) (fields_bytes object fs)
+      bytes_append (field_bytes object f.form f.initial) (fields_bytes object fs)
       (field_is_bytes f.form f.initial (All-head (IsField program) f fs known).initial)
       (fields_are_bytes program fs (All-tail (IsField program) f fs known))
 
@@ -85,31 +72,32 @@ module _ (program : Program) (typed : Typed program) where
 -- ---- code
 
 pair_bytes : (a b : ℕ) → are_bytes (bytes_high_first 2 a ++ bytes_high_first 2 b) ≡ true
-pair_bytes a b = two_bytes (bytes_high_first 2 a) (bytes_high_first 2 b) (number_bytes 2 a) (number_bytes 2 b)
+pair_bytes a b =
+    bytes_append (bytes_high_first 2 a) (bytes_high_first 2 b) (are_bytes-high_first 2 a) (are_bytes-high_first 2 b)
 
 -- an instruction that has operands is made of bytes, as one that has none is
 op_is_bytes : (op : Op) → fits (operands_of op) ≡ true → are_bytes (code_of op) ≡ true
-op_is_bytes (ops.Int n) h = number_bytes 4 (cast_unsigned w32 n)
-op_is_bytes (ops.Long n) h = number_bytes 8 (cast_unsigned w64 n)
+op_is_bytes (ops.Int n) h = are_bytes-high_first 4 (cast_unsigned w32 n)
+op_is_bytes (ops.Long n) h = are_bytes-high_first 8 (cast_unsigned w64 n)
 op_is_bytes (ops.Bool a) h = one_byte a h
-op_is_bytes (ops.Text a) h = number_bytes 2 a
+op_is_bytes (ops.Text a) h = are_bytes-high_first 2 a
 op_is_bytes (ops.Load a) h = one_byte a h
 op_is_bytes (ops.Store a) h = one_byte a h
-op_is_bytes (ops.Jump a) h = number_bytes 2 a
-op_is_bytes (ops.JumpFalse a) h = number_bytes 2 a
-op_is_bytes (ops.JumpTrue a) h = number_bytes 2 a
-op_is_bytes (ops.GetBool a) h = number_bytes 2 a
-op_is_bytes (ops.GetByte a) h = number_bytes 2 a
-op_is_bytes (ops.GetShort a) h = number_bytes 2 a
-op_is_bytes (ops.GetInt a) h = number_bytes 2 a
-op_is_bytes (ops.GetLong a) h = number_bytes 2 a
-op_is_bytes (ops.PutBool a) h = number_bytes 2 a
-op_is_bytes (ops.PutByte a) h = number_bytes 2 a
-op_is_bytes (ops.PutShort a) h = number_bytes 2 a
-op_is_bytes (ops.PutInt a) h = number_bytes 2 a
-op_is_bytes (ops.PutLong a) h = number_bytes 2 a
-op_is_bytes (ops.BufSize a) h = number_bytes 2 a
-op_is_bytes (ops.Call a) h = number_bytes 2 a
+op_is_bytes (ops.Jump a) h = are_bytes-high_first 2 a
+op_is_bytes (ops.JumpFalse a) h = are_bytes-high_first 2 a
+op_is_bytes (ops.JumpTrue a) h = are_bytes-high_first 2 a
+op_is_bytes (ops.GetBool a) h = are_bytes-high_first 2 a
+op_is_bytes (ops.GetByte a) h = are_bytes-high_first 2 a
+op_is_bytes (ops.GetShort a) h = are_bytes-high_first 2 a
+op_is_bytes (ops.GetInt a) h = are_bytes-high_first 2 a
+op_is_bytes (ops.GetLong a) h = are_bytes-high_first 2 a
+op_is_bytes (ops.PutBool a) h = are_bytes-high_first 2 a
+op_is_bytes (ops.PutByte a) h = are_bytes-high_first 2 a
+op_is_bytes (ops.PutShort a) h = are_bytes-high_first 2 a
+op_is_bytes (ops.PutInt a) h = are_bytes-high_first 2 a
+op_is_bytes (ops.PutLong a) h = are_bytes-high_first 2 a
+op_is_bytes (ops.BufSize a) h = are_bytes-high_first 2 a
+op_is_bytes (ops.Call a) h = are_bytes-high_first 2 a
 op_is_bytes (ops.Inner a b) h = pair_bytes a b
 op_is_bytes (ops.Str a b) h = pair_bytes a b
 op_is_bytes (ops.BufGet a b) h = pair_bytes a b
@@ -124,7 +112,7 @@ op_is_bytes (ops.ArrayPutShort a b) h = pair_bytes a b
 op_is_bytes (ops.ArrayPutInt a b) h = pair_bytes a b
 op_is_bytes (ops.ArrayPutLong a b) h = pair_bytes a b
 op_is_bytes (ops.VirtualCall a b) h =
-    two_bytes (bytes_high_first 2 a) (b ∷ []) (number_bytes 2 a)
+    bytes_append (bytes_high_first 2 a) (b ∷ []) (are_bytes-high_first 2 a)
     (one_byte b (and_parts (nat_lt a (2 ^ 16)) (nat_lt b (2 ^ 8)) h).1)
 op_is_bytes op h = refl
 
@@ -132,4 +120,4 @@ pub code_is_bytes : (all : List Op) → All IsOp all → are_bytes (bytes_of all
 code_is_bytes [] are = refl
 code_is_bytes (op ∷ rest) are =
     let is : IsOp op = All-head IsOp op rest are in
-    two_bytes (code_of op) (bytes_of rest) (op_is_bytes op is.fits) (code_is_bytes rest (All-tail IsOp op rest are))
+    bytes_append (code_of op) (bytes_of rest) (op_is_bytes op is.fits) (code_is_bytes rest (All-tail IsOp op rest are))

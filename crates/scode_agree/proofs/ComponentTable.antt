@@ -17,14 +17,15 @@ use Rattle.sed_typed.specs.Typed.{Typed}
 use Rattle.sed_typed.specs.Virtual.{virtual_names}
 use Rattle.sed_typed.proofs.SystemMethods.{begins_at}
 use Rattle.sed_engine.proofs.Below.{of_some}
-use Rattle.sed_engine.proofs.SysMethods.{IsRoot, SysClass, TakeIt, root_there, sys_class}
+use Rattle.sed_engine.proofs.SysMethods.{IsRoot, SysClass, TakeIt, root_there}
+use Rattle.sed_engine.proofs.TypedRoots.{component_in}
 use Rattle.sed_layout.specs.MethodTables.{place_of, table_of}
 use Rattle.scode_image.specs.declared.image.ImageClass.{ImageClass}
 use Rattle.scode_code.specs.Kinds.{int, void}
 use Rattle.scode_code.specs.TableRules.{action_params, component_has_table, component_table_is, has_signature}
 use Rattle.scode_gen.specs.Generated.{image_of}
 use Rattle.scode_gen.specs.ImageSlots.{action_number}
-use Rattle.scode_made.proofs.Laid.{IsTabled}
+use Rattle.scode_made.specs.Laid.{IsTabled}
 use Rattle.scode_made.proofs.Rows.{class_at}
 use Rattle.scode_agree.proofs.Signatures.{action_signed}
 use Rattle.scode_agree.proofs.SysThere.{type_told}
@@ -47,18 +48,8 @@ is_four (p ∷ q ∷ r ∷ s ∷ t ∷ xs) a b c d h e f g i =
 
 module _ (program : Program) (typed : Typed program) (few : length program.schema.classes ≤ 1024)
     (tabled : IsTabled program) where
-  component : SysClass program.schema.classes component_type (λ _. Unit {0})
-  component =
-      let s = sys_class program.schema.classes component_type _ typed.kits.sys_types.component in
-      record {
-        class = s.class;
-        is = s.is;
-        info = s.info;
-        there = s.there;
-        kit = s.kit;
-        number_is = s.number_is;
-        has = tt;
-      }
+  abbrev component : SysClass program.schema.classes component_type (λ _. Unit {0})
+  component = component_in program typed
 
   abbrev table : List ℕ
   table = table_of program component.class

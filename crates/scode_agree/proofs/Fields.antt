@@ -1,25 +1,23 @@
 -- The fields of each class, and the statics, agree with their data.
 use Rattle.std.proofs.Common.{◌≡◌, ℕ, List, length, ap, ◌∙◌}
-use Rattle.std.specs.Prelude.{true}
+use Rattle.std.specs.Prelude.{IsTrue, true}
 use Rattle.std.specs.List.{list_all}
-use Rattle.std.proofs.lemmas.List.Concat.{length-flat_map}
 use Rattle.std.proofs.lemmas.List.Elements.{All-weaker}
 use Rattle.sed_typed.specs.declared.program.Field.{Field}
 use Rattle.sed_typed.specs.declared.program.Program.{Program}
 use Rattle.sed_typed.specs.Classes.{fields}
 use Rattle.sed_typed.specs.Sizes.{data_size}
 use Rattle.sed_typed.specs.Typed.{Typed, statics_size}
-use Rattle.sed_typed.specs.TypedSchema.{IsField}
-use Rattle.sed_layout.specs.Offsets.{field_width, offset_of, static_offset_of}
-use Rattle.sed_layout.proofs.Data.{sums_agree}
+use Rattle.sed_typed.specs.TypedSchema.{IsField, is_initial}
+use Rattle.sed_layout.specs.Offsets.{offset_of, static_offset_of}
 use Rattle.sed_layout.proofs.Inherited.{of_fields}
 use Rattle.scode_image.specs.declared.image.ImageField.{ImageField}
 use Rattle.scode_code.specs.TableRules.{bytes_fit, fields_agree, fields_lie_apart, n_is_of_form}
 use Rattle.scode_code.specs.TableRules.{object_fields_are_there, objects_may_be_inline}
-use Rattle.scode_gen.specs.FirstBytes.{field_bytes, first_bytes, object_bytes, static_bytes}
+use Rattle.scode_gen.specs.FirstBytes.{first_bytes, object_bytes, static_bytes}
 use Rattle.scode_gen.specs.Generated.{image_of}
 use Rattle.scode_gen.specs.ImageFields.{class_fields, static_fields}
-use Rattle.scode_made.proofs.FirstBytes.{field_many, first_many, objects_many}
+use Rattle.scode_made.proofs.FirstBytes.{fields_many, first_many, objects_many}
 use Rattle.scode_agree.proofs.Fits.{class_fits, statics_fit}
 use Rattle.scode_agree.proofs.Forms.{AreLaid, all_formed, lie_apart, objects_inline, objects_there}
 use Rattle.scode_agree.proofs.Given.{IsGiven}
@@ -28,15 +26,12 @@ use Rattle.scode_agree.proofs.Tests.{five}
 -- the static block begins with as many bytes as the statics take
 pub statics_many : (program : Program) → Typed program → length (static_bytes program) ≡ statics_size program
 statics_many program typed =
-    length-flat_map (λ (f : Field). field_bytes object f.form f.initial) program.statics
-    ∙ sums_agree (λ (f : Field). length (field_bytes object f.form f.initial)) (field_width program) program.statics
-    (All-weaker (IsField program) (λ (f : Field). length (field_bytes object f.form f.initial) ≡ field_width program f)
-    (λ f is. field_many (data_size program) object
-    (objects_many program typed (length program.schema.classes)) f.form f.initial is.initial) program.statics
-    typed.statics)
+    fields_many (data_size program) (object_bytes program levels) (objects_many program typed levels) program.statics
+    (All-weaker (IsField program) (λ (f : Field). IsTrue (is_initial f.form f.initial)) (λ f is. is.initial)
+    program.statics typed.statics)
   where
-    object : ℕ → List ℕ
-    object = object_bytes program (length program.schema.classes)
+    levels : ℕ
+    levels = length program.schema.classes
 
 module _ (program : Program) (is : IsGiven program) where
   class_laid : (class : ℕ) → AreLaid program (offset_of program class) (fields program class) (data_size program class)

@@ -1,10 +1,9 @@
 -- The first bytes of objects and of the statics fit the forms of their fields.
-use Rattle.std.proofs.Common.{◌≡◌, ℕ, zero, suc, ◌+◌, ◌*◌, ◌-◌, ◌^◌, ◌<◌, ◌≤◌, ◌==◌, Bool, true, nat_le, List, [], ◌++◌}
+use Rattle.std.proofs.Common.{◌≡◌, ℕ, zero, suc, ◌+◌, ◌*◌, ◌-◌, ◌<◌, ◌≤◌, ◌==◌, Bool, true, nat_le, List, [], ◌++◌}
 use Rattle.std.proofs.Common.{length, replicate, take, drop, Some, refl, ap, sym, ◌∙◌, arith, append_assoc}
 use Rattle.std.specs.Prelude.{All, IsTrue, slice_get}
 use Rattle.std.specs.Int.{bytes_high_first}
 use Rattle.std.specs.List.{list_all, sum_by}
-use Rattle.std.proofs.Math.Seq.{take-append_seam}
 use Rattle.std.proofs.lemmas.Bool.{eq-eqb, le-leb, leb-true}
 use Rattle.std.proofs.lemmas.List.{append-nil, drop-append-le, drop-drop, drop-replicate, length-replicate}
 use Rattle.std.proofs.lemmas.List.{take-append-le, take-replicate}
@@ -12,7 +11,6 @@ use Rattle.sed_value.specs.declared.slot_type.Primitive.TheVariants as prim
 use Rattle.sed_value.specs.declared.value.Value.{Value}
 use Rattle.sed_value.specs.declared.value.Value.TheVariants as kept
 use Rattle.sed_wire.specs.Number.{number_of}
-use Rattle.sed_wire.proofs.NumberLemmas.{written_spells}
 use Rattle.sed_typed.specs.declared.program.Field.{Field}
 use Rattle.sed_typed.specs.declared.program.FieldForm.{FieldForm}
 use Rattle.sed_typed.specs.declared.program.FieldForm.TheVariants as form
@@ -28,21 +26,15 @@ use Rattle.scode_code.specs.TableRules.{array_fits, bytes_fit, field_fits, objec
 use Rattle.scode_gen.specs.FirstBytes.{buf_bytes, field_bytes, fields_bytes, first_bytes, object_bytes, static_bytes}
 use Rattle.scode_gen.specs.Generated.{image_of}
 use Rattle.scode_gen.specs.ImageFields.{class_fields, fields_placed, image_field}
-use Rattle.scode_made.proofs.FirstBytes.{contents_fit, field_many, high_first, objects_many}
+use Rattle.scode_made.proofs.FirstBytes.{contents_fit, high_first}
+use Rattle.scode_made.proofs.FieldBytes.{front_of, number_back}
+use Rattle.scode_made.proofs.FirstContents.{each_same, first_bytes_stand, levels_grow}
 use Rattle.scode_made.proofs.MadeData.{made_fields}
 use Rattle.scode_made.proofs.Places.{all_at}
-use Rattle.scode_agree.proofs.FieldPlaces.{each_same, levels_grow, stands_at, sums_before}
 use Rattle.scode_agree.proofs.Given.{IsGiven}
 use Rattle.scode_agree.proofs.Tests.{numbered_pass, range_passes}
 
 -- ---- lists
-
--- the front of so many
-front_of : (n : ℕ) (xs ys : List ℕ) → length xs ≡ n → take n (xs ++ ys) ≡ xs
-front_of n xs ys long = ap (λ (k : ℕ). take k (xs ++ ys)) (sym long) ∙ take-append_seam xs ys
-
-number_back : (n number : ℕ) → number < 256 ^ n → number_of (bytes_high_first n number) ≡ number
-number_back n number h = (written_spells n number h).is_number
 
 -- a part of zeros
 zeros_at : (w n i : ℕ) (behind : List ℕ) → i + w ≤ n → take w (drop i (replicate n 0 ++ behind)) ≡ replicate w 0
@@ -164,15 +156,6 @@ module _ (program : Program) (is : IsGiven program) where
       bytes : List ℕ
       bytes = fields_bytes first all ++ behind
 
-      own : Field → List ℕ
-      own f = field_bytes first f.form f.initial
-
-      as_many : (i : ℕ) (f : Field) → slice_get all i ≡ Some f → field_width program f ≡ length (own f)
-      as_many i f at =
-          let here : IsField program f = all_at (IsField program) all i f at known in
-          sym (field_many (data_within program depth) first
-          (objects_many program is.typed depth) f.form f.initial here.initial ∙ same i f at)
-
       is_fit : (f : Field) (rest : List ℕ) (o : ℕ) (g : FieldForm) → IsForm program f g
           → form_size (data_within program depth) g ≡ form_size (data_size program) g →
           IsFit (object_fits k (image_of program)) first rest bytes o g
@@ -186,12 +169,9 @@ module _ (program : Program) (is : IsGiven program) where
           → field_fits (object_fits k (image_of program)) bytes (image_field (offset i) f.form) ≡ true
       one i f at =
           let here : IsField program f = all_at (IsField program) all i f at known in
-          let stands = stands_at own all behind i f at in
-          let begins : offset i ≡ sum_by (λ x. length (own x)) (take i all) =
-          at_offset i ∙ sums_before (field_width program) (λ x. length (own x)) all as_many i in
-          fits_back (object_fits k (image_of program)) first stands.rest bytes (offset i) f.form f.initial here.initial
-          (is_fit f stands.rest (offset i) f.form here.form (same i f at))
-          (ap (λ (n : ℕ). drop n bytes) begins ∙ stands.is)
+          let stands = first_bytes_stand program is.typed depth behind all offset known same at_offset i f at in
+          fits_back (object_fits k (image_of program)) first stands.0 bytes (offset i) f.form f.initial here.initial
+          (is_fit f stands.0 (offset i) f.form here.form (same i f at)) stands.1
 
   -- where no level holds any bytes, there are no fields
   none_fit : (k class : ℕ) (behind : List ℕ) → IsFull 0 class

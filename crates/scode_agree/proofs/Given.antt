@@ -19,7 +19,7 @@ use Rattle.scode_emit.specs.Code.{bytes_of}
 use Rattle.scode_emit.specs.Method.{code_of, size_of}
 use Rattle.scode_entries.specs.Method.{entries_of}
 use Rattle.scode_gen.specs.Generated.{IsShort, image_layout}
-use Rattle.scode_made.proofs.Laid.{IsLaid, IsTabled}
+use Rattle.scode_made.specs.Laid.{IsLaid, IsTabled}
 
 pub record IsGiven (program : Program) : Type 0 where
   pub typed : Typed program

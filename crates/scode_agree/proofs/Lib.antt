@@ -14,11 +14,9 @@ pub mod Classes
 pub mod Tables
 pub mod Slots
 pub mod Forms
-pub mod FieldPlaces
 pub mod Fits
 pub mod Fields
 pub mod Holders
-pub mod LinkKinds
 pub mod Marks
 pub mod Methods
 pub mod Limits

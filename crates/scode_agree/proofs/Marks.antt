@@ -1,6 +1,6 @@
 -- What stands on the stack at the marks of typed code is of kinds of the program, the class of the method, or the
 -- static block.
-use Rattle.std.proofs.Common.{◌<◌, ℕ, ◌+◌, ◌==◌, Bool, true, false, if◌then◌else◌, List, [], ◌∷◌, ◌++◌, length, Option}
+use Rattle.std.proofs.Common.{◌<◌, ℕ, ◌+◌, List, [], ◌∷◌, ◌++◌, length, Option}
 use Rattle.std.proofs.Common.{Some, None}
 use mathlib.Core.Former.{Count}
 use Rattle.std.specs.Prelude.{All}
@@ -20,7 +20,7 @@ use Rattle.sed_typed.specs.Kinds.{kind_of, link_kind, place_kind}
 use Rattle.sed_typed.specs.Typed.{Typed}
 use Rattle.sed_typed.specs.TypedExpr.{AreExprs, AreLinks, Context, IsExpr, IsKindOf, IsLink, IsPlace}
 use Rattle.sed_typed.specs.TypedStmt.{AreStmts, Around, IsBegun, IsLast, IsStmt, IsTest, in_loop, in_switch}
-use Rattle.sed_engine.proofs.KindsThere.{kind_is_there}
+use Rattle.sed_engine.proofs.KindsThere.{kind_is_there, of_link, of_place}
 use Rattle.scode_image.specs.declared.image.ImageKind.{ImageKind}
 use Rattle.scode_code.specs.Kinds.{bool, object, statics}
 use Rattle.scode_emit.specs.Site.{Site}
@@ -30,9 +30,8 @@ use Rattle.scode_emit.specs.Sizes.{tests_size}
 use Rattle.scode_entries.specs.declared.marks.Mark.{Mark}
 use Rattle.scode_entries.specs.Entries.{above, drop_marks, expr_marks, exprs_marks, labelled_marks, last_marks}
 use Rattle.scode_entries.specs.Entries.{link_marks, links_marks, mark, part_marks, place_marks, stmt_marks, stmts_marks}
-use Rattle.scode_entries.specs.Entries.{with_mark, with_marks, with_old, with_place, with_wanted}
+use Rattle.scode_entries.specs.Entries.{with_old, with_place, with_wanted}
 use Rattle.scode_entries.proofs.Admits.{Each, each-append}
-use Rattle.scode_agree.proofs.LinkKinds.{link_is_there, place_is_there}
 
 -- what is asked of the kinds on a stack, and that each kind that may come keeps it
 pub record Keeps (c : Context) (w : Site) : Type 1 where
@@ -67,7 +66,7 @@ module _ (c : Context) (typed : Typed c.program) (known : c.class < length c.pro
   wanted_fits : (g : Gives) (target : Place) (below : List ImageKind) → IsPlace c target → keeps.Fits below
       → keeps.Fits (with_wanted g target below)
   wanted_fits Old (place.Local k i) below t h =
-      keeps.value k below (place_is_there c typed known locals (place.Local k i) t) h
+      keeps.value k below (of_place c typed known locals (place.Local k i) t) h
   wanted_fits Old (place.Static p i) below t h = h
   wanted_fits Old (place.Field' p q e i) below t h = h
   wanted_fits Old (place.Element' p n q e f r i) below t h = h
@@ -78,7 +77,7 @@ module _ (c : Context) (typed : Typed c.program) (known : c.class < length c.pro
       → keeps.Fits (with_old g target below)
   old_fits g target below t h =
       let on = with_place target below in
-      keeps.value (place_kind target) (with_wanted g target on) (place_is_there c typed known locals target t)
+      keeps.value (place_kind target) (with_wanted g target on) (of_place c typed known locals target t)
       (wanted_fits g target on t (place_fits target below t h))
 
   -- of `&&` and `||`, where those of the operand are told
@@ -179,7 +178,7 @@ module _ (c : Context) (typed : Typed c.program) (known : c.class < length c.pro
     links_told below at k (more_of-Link l ls) t there h =
         let next = at + link_size w k l in
         two (link_marks w below at k l) (links_marks w below next (link_kind l) ls) (link_told below at k l t.0 there h)
-        (links_told below next (link_kind l) ls t.1 (link_is_there c typed known locals l k t.0) h)
+        (links_told below next (link_kind l) ls t.1 (of_link c typed known locals l k t.0) h)
 
   -- ---- statements
 
@@ -285,19 +284,3 @@ module _ (c : Context) (typed : Typed c.program) (known : c.class < length c.pro
           two (stmt_marks w at s) (labelled_marks w next ss) (stmt_told around at s t.0)
               (labelled_told around next ss t.1),
         )
-
--- ---- each place once
-
-with_mark_each : (P : Mark → Type 0) (told : List Mark) (m : Mark) → Each P told → P m → Each P (with_mark told m)
-with_mark_each P [] m h p = (p, tt)
-with_mark_each P (l ∷ []) m h p = by_place (l.place == m.place)
-  where
-    by_place : (b : Bool) → Each P (if b then l ∷ [] else l ∷ m ∷ [])
-    by_place true = h
-    by_place false = (h.0, (p, tt))
-with_mark_each P (l ∷ k ∷ told) m h p = (h.0, with_mark_each P (k ∷ told) m h.1 p)
-
--- what holds of each mark holds of each that is told
-pub with_marks_each : (P : Mark → Type 0) (told ms : List Mark) → Each P told → Each P ms → Each P (with_marks told ms)
-with_marks_each P told [] h g = h
-with_marks_each P told (m ∷ ms) h g = with_marks_each P (with_mark told m) ms (with_mark_each P told m h g.0) g.1

@@ -1,19 +1,18 @@
 -- The methods of the image agree: their kinds are there, an abstract one is empty, and their locals begin with what
 -- they are called with.
 use Rattle.std.proofs.Common.{◌≡◌, ◌+◌, ◌%◌, ◌==◌, ◌&&◌, Bool, true, false, cond, if◌then◌else◌, List, [], ◌∷◌, ◌++◌}
-use Rattle.std.proofs.Common.{map, reverse, Option, Some, None, refl, ap, sym, subst, ◌∙◌, append_assoc}
+use Rattle.std.proofs.Common.{map, reverse, Option, Some, None, refl, ap, sym, ◌∙◌, append_assoc}
 use Rattle.std.specs.Prelude.{All, IfSome, is_none}
 use Rattle.std.specs.List.{list_all}
-use Rattle.std.specs.Option.{option_map_or}
 use Rattle.std.proofs.lemmas.Bool.{and_from, or_left, or_right}
 use Rattle.std.proofs.lemmas.List.{map-append}
-use Rattle.std.proofs.lemmas.List.Elements.{All-append, All-cons, All-nil, All-weaker}
+use Rattle.std.proofs.lemmas.List.Elements.{All-weaker}
 use Rattle.sed_typed.specs.declared.kind.Kind.{Kind}
 use Rattle.sed_typed.specs.declared.kind.Kind.TheVariants as kind
 use Rattle.sed_typed.specs.declared.program.Method.{Method}
 use Rattle.sed_typed.specs.declared.program.Program.{Program}
 use Rattle.sed_typed.specs.declared.statement.Stmt.{Stmt}
-use Rattle.sed_typed.specs.Locals.{Declared, declared_in}
+use Rattle.sed_typed.specs.Locals.{Declared}
 use Rattle.sed_typed.specs.Typed.{IsBody, IsMethod, IsStorable, declared_by, locals_of, receiver_of}
 use Rattle.sed_typed.specs.TypedExpr.{Context, IsKindOf}
 use Rattle.scode_image.specs.declared.image.ImageEntry.{ImageEntry}
@@ -30,11 +29,13 @@ use Rattle.scode_entries.specs.Entries.{above, body_marks, cell_of, each_once, s
 use Rattle.scode_entries.specs.Method.{entries_of, entry_of, image_method, local_kinds, waiting_kinds}
 use Rattle.scode_entries.specs.Stack.{body_stack}
 use Rattle.scode_entries.proofs.Admits.{Each}
+use Rattle.scode_entries.proofs.Entering.{each_told}
 use Rattle.scode_gen.specs.Generated.{image_layout, image_of}
+use Rattle.scode_made.proofs.MadeMethods.{storable, storable_kind}
 use Rattle.scode_made.proofs.Places.{all_at}
 use Rattle.scode_agree.proofs.Given.{IsGiven}
 use Rattle.scode_agree.proofs.Infos.{class_there}
-use Rattle.scode_agree.proofs.Marks.{Keeps, stmt_told, with_marks_each}
+use Rattle.scode_agree.proofs.Marks.{Keeps, stmt_told}
 use Rattle.scode_agree.proofs.Tables.{kind_itself}
 use Rattle.scode_agree.proofs.Tests.{both_pass, four, mapped_pass, reversed_pass}
 
@@ -100,32 +101,6 @@ first_locals w m =
         ap (λ (front : List ImageKind). front ++ waiting_kinds)
         (map-append cell_of (receiver_of m ++ m.params) declared)
         ∙ append_assoc (map cell_of (receiver_of m ++ m.params)) (map cell_of declared) waiting_kinds
-
--- no local is void
-pub all_storable : (program : Program) (m : Method) → IsMethod program m → All (IsStorable program) (locals_of m)
-all_storable program m is = by_body m.body refl is.body
-  where
-    receiver : (b : Bool) → All (IsStorable program) (cond b [] (kind.Object m.class ∷ []))
-    receiver true = All-nil (IsStorable program)
-    receiver false = All-cons (IsStorable program) (kind.Object m.class) [] is.class (All-nil (IsStorable program))
-
-    by_body : (o : Option Stmt) → m.body ≡ o → IfSome o (IsBody program m) → All (IsStorable program) (locals_of m)
-    by_body None none h =
-        let declared : map (λ (d : Declared). d.kind) (declared_by m) ≡ [] =
-        ap (λ (o : Option Stmt). map (λ (d : Declared). d.kind) (option_map_or declared_in o [])) none in
-        subst (λ (ks : List Kind). All (IsStorable program) (receiver_of m ++ m.params ++ ks)) (sym declared)
-        (All-append (IsStorable program) (receiver_of m ++ m.params) []
-        (All-append (IsStorable program) (receiver_of m) m.params (receiver m.is_static) is.params)
-        (All-nil (IsStorable program)))
-    by_body (Some body) there h = h.storable
-
-storable_is : (program : Program) (k : Kind) → IsStorable program k → IsKindOf program k
-storable_is program kind.Void h = absurd h
-storable_is program kind.Bool h = tt
-storable_is program kind.Int h = tt
-storable_is program kind.Long h = tt
-storable_is program kind.Text h = tt
-storable_is program (kind.Object class) h = h
 
 -- ---- kinds
 
@@ -200,13 +175,13 @@ module _ (program : Program) where
 
     kinds_of_locals : All (IsKindOf program) (locals_of m)
     kinds_of_locals =
-        All-weaker (IsStorable program) (IsKindOf program) (storable_is program) (locals_of m)
-        (all_storable program m known)
+        All-weaker (IsStorable program) (IsKindOf program) (storable_kind program) (locals_of m)
+        (storable program m known)
 
     locals_there : list_all (is_kind_of_cell (image_of program) true) (local_kinds m) ≡ true
     locals_there =
         both_pass (is_kind_of_cell (image_of program) true) (map cell_of (locals_of m)) waiting_kinds
-        (cells_there true (locals_of m) (all_storable program m known)) refl
+        (cells_there true (locals_of m) (storable program m known)) refl
 
     abbrev entry_there : ImageEntry → Bool
     entry_there e =
@@ -223,7 +198,7 @@ module _ (program : Program) where
         (list_all (is_kind_of_cell (image_of program) true) (reverse x.stack))
         locals_there (reversed_pass (is_kind_of_cell (image_of program) true) x.stack fits))
         (each_once (stmt_marks w 0 body))
-        (with_marks_each (λ (x : Mark). Fit x.stack) [] (stmt_marks w 0 body) tt
+        (each_told (λ (x : Mark). Fit x.stack) [] (stmt_marks w 0 body) tt
         (stmt_told context is.typed known.class kinds_of_locals w keeps
         (record { breaks = false; continues = false }) 0 body h.typed))
 

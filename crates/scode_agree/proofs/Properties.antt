@@ -19,7 +19,7 @@ use Rattle.sed_engine.proofs.Positions.{alone_at}
 use Rattle.sed_layout.specs.MethodTables.{place_of, table_of}
 use Rattle.sed_layout.specs.Offsets.{offset_of}
 use Rattle.scode_gen.specs.ImageSlots.{action_place, property_offset, slot_number}
-use Rattle.scode_made.proofs.Laid.{IsTabled}
+use Rattle.scode_made.specs.Laid.{IsTabled}
 use Rattle.scode_made.proofs.MadeTables.{placed}
 
 -- ---- properties

@@ -1,13 +1,9 @@
 -- Each slot of a class has a field of its form, or a method of its signature.
-use Rattle.std.proofs.Common.{◌≡◌, ℕ, ◌&&◌, ◌||◌, Bool, true, false, not, nat_le, List, Option, Some, refl, ap, sym}
+use Rattle.std.proofs.Common.{◌≡◌, ℕ, ◌&&◌, ◌||◌, Bool, true, false, not, nat_le, List, Option, Some, refl, ap}
 use Rattle.std.proofs.Common.{◌∙◌}
 use Rattle.std.specs.Prelude.{is_some, slice_get}
 use Rattle.std.specs.Option.{option_map_or}
 use Rattle.std.proofs.lemmas.Bool.{and_from, or_left, or_right}
-use Rattle.sed_value.specs.declared.slot_type.Primitive.TheVariants as prim
-use Rattle.sed_value.specs.declared.slot_type.SlotType.{SlotType}
-use Rattle.sed_value.specs.declared.slot_type.SlotType.TheVariants as slot
-use Rattle.sed_typed.specs.declared.program.Field.{Field}
 use Rattle.sed_typed.specs.declared.program.Program.{Program}
 use Rattle.sed_typed.specs.declared.schema.ActionArg.{ActionArg}
 use Rattle.sed_typed.specs.declared.schema.ActionArg.TheVariants as argument
@@ -16,7 +12,7 @@ use Rattle.sed_typed.specs.declared.schema.SlotForm.{SlotForm}
 use Rattle.sed_typed.specs.declared.schema.SlotForm.TheVariants.{Prop, Action}
 use Rattle.sed_typed.specs.declared.schema.SlotInfo.{SlotInfo}
 use Rattle.sed_typed.specs.Classes.{fields}
-use Rattle.sed_typed.specs.TypedSchema.{HasSlot, IsProperty}
+use Rattle.sed_typed.specs.TypedSchema.{HasSlot}
 use Rattle.sed_layout.specs.MethodTables.{table_of}
 use Rattle.sed_layout.specs.Offsets.{offset_of}
 use Rattle.scode_image.specs.declared.image.ImageField.{ImageField}
@@ -30,7 +26,8 @@ use Rattle.scode_gen.specs.Generated.{image_of}
 use Rattle.scode_gen.specs.ImageFields.{class_fields}
 use Rattle.scode_gen.specs.ImageSlots.{action_number, action_place, image_slot, property_offset, slot_number}
 use Rattle.scode_gen.specs.ImageSlots.{slot_place, slot_room}
-use Rattle.scode_sim.specs.Made.{number_of_form, room_of_form}
+use Rattle.scode_sim.specs.Made.{number_of_form}
+use Rattle.scode_made.proofs.MadeData.{number_back}
 use Rattle.scode_made.proofs.MadeFields.{StandApart, found}
 use Rattle.scode_made.proofs.MadeStatics.{stand_apart}
 use Rattle.scode_agree.proofs.Given.{IsGiven}
@@ -38,19 +35,6 @@ use Rattle.scode_agree.proofs.Infos.{slot_known, slots_known}
 use Rattle.scode_agree.proofs.Properties.{its_field, its_method, no_action}
 use Rattle.scode_agree.proofs.Signatures.{action_signed}
 use Rattle.scode_agree.proofs.Tests.{numbered_pass}
-
--- a property is in its slot by the form and the room of its field
-form_same : (s : SlotInfo) (t : SlotType) (f : Field) → IsProperty s t f → slot_number (Prop t) ≡ number_of_form f.form
-form_same s (slot.Prim prim.Bool) f is = sym (ap number_of_form is.0)
-form_same s (slot.Prim prim.Byte) f is = sym (ap number_of_form is.0)
-form_same s (slot.Prim prim.Short) f is = sym (ap number_of_form is.0)
-form_same s (slot.Prim prim.Int) f is = sym (ap number_of_form is.0)
-form_same s (slot.Prim prim.Long) f is = sym (ap number_of_form is.0)
-form_same s (slot.Buf n) f is = sym (ap number_of_form is.0)
-
-room_same : (s : SlotInfo) (t : SlotType) (f : Field) → IsProperty s t f → slot_room (Prop t) ≡ room_of_form f.form
-room_same s (slot.Prim p) f is = sym (ap room_of_form is.0)
-room_same s (slot.Buf n) f is = sym (ap room_of_form is.0)
 
 is_action_number : (a : ActionArg) → nat_le 0x10 (action_number a) ≡ true
 is_action_number argument.Void = refl
@@ -68,15 +52,16 @@ module _ (program : Program) (is : IsGiven program) (class : ℕ) where
       (slot_place program class n s.name f) (slot_room f))) ≡ true
   has_field n s (Prop t) has =
       let x = its_field program class n s t has in
+      let back = number_back s t x.field x.is in
       let own : List ImageField = class_fields program class in
       or_right (nat_le 0x10 (slot_number (Prop t)))
       (is_some (field_number own (slot_number (Prop t)) (property_offset program class n) (slot_room (Prop t))))
       (ap (λ (number : ℕ). is_some (field_number own number (property_offset program class n) (slot_room (Prop t))))
-      (form_same s t x.field x.is)
+      back.1
       ∙ ap (λ (offset : ℕ). is_some (field_number own (number_of_form x.field.form) offset (slot_room (Prop t))))
       x.offset
       ∙ ap (λ (room : ℕ). is_some (field_number own (number_of_form x.field.form)
-      (offset_of program class x.place) room)) (room_same s t x.field x.is)
+      (offset_of program class x.place) room)) back.2
       ∙ ap (λ (o : Option ℕ). is_some o) (found (offset_of program class)
       (fields program class) x.place x.field x.there apart))
   has_field n s (Action a) has =

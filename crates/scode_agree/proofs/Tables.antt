@@ -1,5 +1,5 @@
 -- The tables of classes: which methods stand there, and that an override has the signature of what it overrides.
-use Rattle.std.proofs.Common.{◌≡◌, ℕ, ◌+◌, ◌%◌, ◌==◌, ◌&&◌, ◌||◌, Bool, true, false, cond, not, nat_le, List, [], ◌∷◌}
+use Rattle.std.proofs.Common.{◌≡◌, ℕ, ◌==◌, ◌&&◌, ◌||◌, Bool, true, false, not, List, [], ◌∷◌}
 use Rattle.std.proofs.Common.{map, Option, Some, None, refl, ap, sym, subst, ◌∙◌}
 use Rattle.std.specs.Prelude.{IfSome, IsSomeAnd, is_none, slice_get}
 use Rattle.std.specs.Option.{option_and_then, option_map, option_map_or}
@@ -10,7 +10,6 @@ use Rattle.sed_typed.specs.declared.program.Method.{Method}
 use Rattle.sed_typed.specs.declared.program.Program.{Program}
 use Rattle.sed_typed.specs.declared.schema.ClassInfo.{ClassInfo}
 use Rattle.sed_typed.specs.declared.schema.Schema.{Schema}
-use Rattle.sed_typed.specs.declared.statement.Stmt.{Stmt}
 use Rattle.sed_typed.specs.Classes.{find, method_name}
 use Rattle.sed_typed.specs.Typed.{HasBodies}
 use Rattle.sed_typed.specs.TypedSchema.{is_abstract as is_abstract_in, is_below}
@@ -29,6 +28,7 @@ use Rattle.scode_entries.specs.Entries.{cell_of}
 use Rattle.scode_entries.specs.Method.{image_method}
 use Rattle.scode_gen.specs.Classes.{image_class}
 use Rattle.scode_gen.specs.Generated.{image_layout, image_of}
+use Rattle.scode_made.proofs.MadeMethods.{by_flags, by_two, with_body}
 use Rattle.scode_made.proofs.MadeSchema.{schema_back}
 use Rattle.scode_made.proofs.Places.{all_at, in_front}
 use Rattle.scode_agree.proofs.Given.{IsGiven}
@@ -44,23 +44,6 @@ kind_itself k =
 kinds_themselves : (ks : List ImageKind) → same_kinds ks ks ≡ true
 kinds_themselves [] = refl
 kinds_themselves (k ∷ ks) = and_from (same_kind k k) (same_kinds ks ks) (kind_itself k) (kinds_themselves ks)
-
--- flag 1 says that a method has a receiver, and 2 that it has no body
-instance_said : (static abstract : Bool) → ((cond static 0 1 + cond abstract 2 0) % 2 == 1) ≡ not static
-instance_said true true = refl
-instance_said true false = refl
-instance_said false true = refl
-instance_said false false = refl
-
-abstract_said : (static abstract : Bool) → nat_le 2 (cond static 0 1 + cond abstract 2 0) ≡ abstract
-abstract_said true true = refl
-abstract_said true false = refl
-abstract_said false true = refl
-abstract_said false false = refl
-
-with_body : (o : Option Stmt) → (o ≡ None → ⊥) → is_none o ≡ false
-with_body None h = absurd (h refl)
-with_body (Some body) h = refl
 
 module _ (program : Program) (is : IsGiven program) where
   -- ---- what stands at a place
@@ -200,7 +183,7 @@ module _ (program : Program) (is : IsGiven program) where
     may_stand i number m at there may =
         three (is_instance (made m)) (is_at_or_above (image_of program) m.class.0 class)
         (not (is_abstract (made m)) || is_abstract_class own)
-        (instance_said m.is_static (is_none m.body) ∙ ap not may.instance)
+        (by_flags m.is_static (is_none m.body) ∙ ap not may.instance)
         (ap (λ (s : Schema). is_below s.classes m.class.0 class) (schema_back program is.typed is.laid.few_classes)
         ∙ may.above)
         (by_class info.is_abstract refl)
@@ -213,7 +196,7 @@ module _ (program : Program) (is : IsGiven program) where
         by_class true e = or_right (not (is_abstract (made m))) (is_abstract_class own) (said ∙ e)
         by_class false e =
             or_left (not (is_abstract (made m))) (is_abstract_class own)
-            (ap not (abstract_said m.is_static (is_none m.body) ∙ with_body m.body (has_body i number m at there e)))
+            (ap not (by_two m.is_static (is_none m.body) ∙ with_body m.body (has_body i number m at there e)))
 
     pub methods_fit : table_methods_fit (image_of program) class own ≡ true
     methods_fit =

@@ -11,11 +11,9 @@ ghost use Rattle.scode_gen.specs.Generated.{IsShort, image_of};
 
 use scode_emit::code_has_its_size;
 use scode_entries::{code_exists, entries_ascend};
+use scode_made::typed_programs_are_laid;
 use sed_layout::{
-    data_is_the_sum_of_fields, fields_do_not_overlap, fields_lie_within, fields_take_bytes,
-    inherited_fields_keep_their_offsets, names_keep_their_places, numbers_are_small,
-    places_hold_the_nearest_method, statics_do_not_overlap, statics_lie_within,
-    tables_have_each_virtual_method, tables_hold_virtual_methods, virtual_methods_have_places,
+    data_is_the_sum_of_fields, tables_have_each_virtual_method, tables_hold_virtual_methods,
 };
 
 /// Where the methods of a typed program are short, the tables of its image agree.
@@ -28,16 +26,7 @@ pub fn image_tables_agree()
     code_has_its_size();
     data_is_the_sum_of_fields();
     entries_ascend();
-    fields_do_not_overlap();
-    fields_lie_within();
-    fields_take_bytes();
-    inherited_fields_keep_their_offsets();
-    names_keep_their_places();
-    numbers_are_small();
-    places_hold_the_nearest_method();
-    statics_do_not_overlap();
-    statics_lie_within();
     tables_have_each_virtual_method();
     tables_hold_virtual_methods();
-    virtual_methods_have_places();
+    typed_programs_are_laid();
 }

@@ -18,9 +18,10 @@ use Rattle.scode_emit.proofs.Sized.{stmt_sized}
 use Rattle.scode_entries.specs.Entries.{cell_of, stmt_marks}
 use Rattle.scode_entries.specs.Stack.{stmt_stack}
 use Rattle.scode_entries.proofs.Admits.{Each}
+use Rattle.scode_sim.proofs.Frames.{IsSolid}
 use Rattle.scode_fine.proofs.Builds.{answer_does, return_does}
 use Rattle.scode_fine.proofs.Exprs.{Tells, behind}
-use Rattle.scode_fine.proofs.Facts.{Facts, IsSolid}
+use Rattle.scode_fine.proofs.Facts.{Facts}
 use Rattle.scode_fine.proofs.Parts.{zero_does}
 use Rattle.scode_fine.proofs.Stmts.{Exits, stmt_walks, turns_of}
 use Rattle.scode_fine.proofs.Walks.{Ground, Walks, here, onto, only, runs}

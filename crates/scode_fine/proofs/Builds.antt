@@ -9,10 +9,11 @@ use Rattle.scode_image.specs.declared.image.Image.{Image}
 use Rattle.scode_code.specs.CodeRules.{after_stack, field_missing, is_end, jumps_to, locals_after, number_missing, result_differs, with_kind}
 use Rattle.scode_code.specs.Kinds.{all_go, bool, goes_to, null}
 use Rattle.scode_code.specs.Wants.{constant, needs, needs_of, nothing}
+use Rattle.scode_code.proofs.Verifies.{all_go_to_themselves}
 use Rattle.scode_whole.proofs.Truths.{no_truth}
 use Rattle.scode_ops.specs.declared.op.Op.{Op}
 use Rattle.scode_ops.specs.declared.op.Op.TheVariants as op
-use Rattle.scode_fine.proofs.Goings.{all_go_itself, all_go_length}
+use Rattle.scode_fine.proofs.Goings.{all_go_length}
 use Rattle.scode_fine.proofs.Walks.{GoesOn, Ground, JumpsTo, Stack, Steps, has_all, here, left_by}
 
 -- from these kinds an instruction goes on with those, wherever it stands, if they are not too many
@@ -63,9 +64,9 @@ steps {g} {at} stack next i h locals left low high =
     let e = and_parts (not (is_end i)) (is_none (jumps_to i)) d.1 in
     builds stack next i (not-true (number_missing g.image g.m i) a.0) b.0 (not-true (field_missing g.image stack i) c.0)
     (not-true (result_differs g.image g.m (here g stack) i) d.0)
-    (subst (λ (ks : List ImageKind). all_go g.image ks g.m.locals ≡ true) (sym locals) (all_go_itself g.image g.m.locals))
+    (subst (λ (ks : List ImageKind). all_go g.image ks g.m.locals ≡ true) (sym locals) (all_go_to_themselves g.image g.m.locals))
     (not-true (is_end i) e.0) (no_jump (jumps_to i) e.1)
-    (subst (λ (s : Stack). all_go g.image (left_by g stack i) s ≡ true) left (all_go_itself g.image (left_by g stack i))) low high
+    (subst (λ (s : Stack). all_go g.image (left_by g stack i) s ≡ true) left (all_go_to_themselves g.image (left_by g stack i))) low high
 
 -- ---- locals
 
@@ -77,18 +78,18 @@ pub load_does : (g : Ground) (n : ℕ) (k : ImageKind) (below : Stack) → slice
 load_does g n k below e at low high =
     builds below (k ∷ below) (op.Load n) (no_local n g.m.locals k e)
     (ap (λ (o : Option ImageKind). has_all g.image (needs_of g.image (option_map_or (λ (l : ImageKind). constant l) o nothing).takes) below) e)
-    refl refl (all_go_itself g.image g.m.locals) refl refl
+    refl refl (all_go_to_themselves g.image g.m.locals) refl refl
     (ap (λ (o : Option ImageKind). all_go g.image (after_stack g.image (option_map_or (λ (l : ImageKind). constant l) o nothing) below) (k ∷ below)) e
-    ∙ all_go_itself g.image (k ∷ below)) low high
+    ∙ all_go_to_themselves g.image (k ∷ below)) low high
 
 with_goes : (image : Image) (n : ℕ) (ls : List ImageKind) (k l : ImageKind) → slice_get ls n ≡ Some l →
     goes_to image k l ≡ true → all_go image (with_kind ls n k) ls ≡ true
 with_goes image n [] k l e g = refl
 with_goes image zero (j ∷ ls) k l e g =
     and_from (goes_to image k j) (all_go image ls ls)
-    (subst (λ (x : ImageKind). goes_to image k x ≡ true) (sym (same_Some j l e)) g) (all_go_itself image ls)
+    (subst (λ (x : ImageKind). goes_to image k x ≡ true) (sym (same_Some j l e)) g) (all_go_to_themselves image ls)
 with_goes image (suc n) (j ∷ ls) k l e g =
-    let all = and_parts (goes_to image j j) (all_go image ls ls) (all_go_itself image (j ∷ ls)) in
+    let all = and_parts (goes_to image j j) (all_go image ls ls) (all_go_to_themselves image (j ∷ ls)) in
     and_from (goes_to image j j) (all_go image (with_kind ls n k) ls) all.0 (with_goes image n ls k l e g)
 
 -- what is left may be said to be what it goes to
@@ -107,8 +108,8 @@ pop_does g k below at low high = steps (k ∷ below) below op.Pop refl refl refl
 -- null, which is said to be of a kind to which it goes
 pub null_does : (g : Ground) (k : ImageKind) (below : Stack) → goes_to g.image null k ≡ true → Does g op.Null below (k ∷ below)
 null_does g k below h at low high =
-    builds below (k ∷ below) op.Null refl refl refl refl (all_go_itself g.image g.m.locals) refl refl
-    (and_from (goes_to g.image null k) (all_go g.image below below) h (all_go_itself g.image below)) low high
+    builds below (k ∷ below) op.Null refl refl refl refl (all_go_to_themselves g.image g.m.locals) refl refl
+    (and_from (goes_to g.image null k) (all_go g.image below below) h (all_go_to_themselves g.image below)) low high
 
 -- ---- jumps
 
@@ -120,7 +121,7 @@ jump_does g at to stack told less low = record {
     cells = refl;
     fields = refl;
     result = refl;
-    locals = all_go_itself g.image g.m.locals;
+    locals = all_go_to_themselves g.image g.m.locals;
     low = low;
     left_low = low;
   };
@@ -136,12 +137,12 @@ unless_does g at to below told less low = record {
     cells = refl;
     fields = refl;
     result = refl;
-    locals = all_go_itself g.image g.m.locals;
+    locals = all_go_to_themselves g.image g.m.locals;
     low = low;
     left_low = (let f : length below ≤ g.m.stack = omega (arith, low) in f);
   };
   jumps = (told, inl less);
-  goes_on = all_go_itself g.image below;
+  goes_on = all_go_to_themselves g.image below;
 }
 
 pub if_does : (g : Ground) (at to : ℕ) (below : Stack) → g.Told to below → (at < to) ⊎ g.Turned to →
@@ -152,12 +153,12 @@ if_does g at to below told may low = record {
     cells = refl;
     fields = refl;
     result = refl;
-    locals = all_go_itself g.image g.m.locals;
+    locals = all_go_to_themselves g.image g.m.locals;
     low = low;
     left_low = (let f : length below ≤ g.m.stack = omega (arith, low) in f);
   };
   jumps = (told, may);
-  goes_on = all_go_itself g.image below;
+  goes_on = all_go_to_themselves g.image below;
 }
 
 -- ---- ends
@@ -170,7 +171,7 @@ return_does g at stack result low = record {
     cells = refl;
     fields = refl;
     result = result;
-    locals = all_go_itself g.image g.m.locals;
+    locals = all_go_to_themselves g.image g.m.locals;
     low = low;
     left_low = low;
   };
@@ -187,7 +188,7 @@ answer_does g at k below result low = record {
     cells = refl;
     fields = refl;
     result = result;
-    locals = all_go_itself g.image g.m.locals;
+    locals = all_go_to_themselves g.image g.m.locals;
     low = low;
     left_low = (let f : length below ≤ g.m.stack = omega (arith, low) in f);
   };

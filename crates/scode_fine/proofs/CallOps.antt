@@ -4,7 +4,7 @@ use Rattle.std.specs.Prelude.{All, is_some, slice_get}
 use Rattle.std.specs.Option.{option_map_or}
 use Rattle.std.proofs.lemmas.Grind.{reverse_onto}
 use Rattle.std.proofs.lemmas.List.{length-map, length-reverse, map-append}
-use Rattle.std.proofs.lemmas.List.Elements.{All-head, All-tail}
+use Rattle.std.proofs.lemmas.List.Elements.{All-tail}
 use Rattle.std.proofs.lemmas.Bool.{and_from}
 use Rattle.sed_typed.specs.declared.kind.Kind.{Kind}
 use Rattle.sed_typed.specs.declared.kind.Kind.TheVariants as kind
@@ -20,21 +20,14 @@ use Rattle.scode_code.specs.Kinds.{all_go, goes_to, object}
 use Rattle.scode_code.specs.Wants.{argument_needs, arguments, needs_of, nothing, result_cells}
 use Rattle.scode_code.specs.declared.needs.Need.{Need}
 use Rattle.scode_code.specs.declared.needs.Need.TheVariants as need
+use Rattle.scode_code.proofs.Verifies.{all_go_to_themselves}
 use Rattle.scode_ops.specs.declared.op.Op.TheVariants as op
 use Rattle.scode_entries.specs.Entries.{above, cell_of}
+use Rattle.scode_sim.proofs.Callees.{args_solid}
 use Rattle.scode_fine.proofs.Builds.{Does, builds}
-use Rattle.scode_fine.proofs.Facts.{IsSolid, solid_above, solid_from}
-use Rattle.scode_fine.proofs.Goings.{all_go_itself}
+use Rattle.scode_fine.proofs.Facts.{solid_above}
 use Rattle.scode_fine.proofs.PlainOps.{args_on}
 use Rattle.scode_fine.proofs.Walks.{Ground, Stack, has_all, left_by}
-
-pub storable_solid : (program : Program) (k : Kind) → IsStorable program k → IsSolid k
-storable_solid program kind.Void h = h
-storable_solid program kind.Bool h = tt
-storable_solid program kind.Int h = tt
-storable_solid program kind.Long h = tt
-storable_solid program kind.Text h = tt
-storable_solid program (kind.Object class) h = tt
 
 pub result_above : (k : Kind) (below : Stack) → result_cells (cell_of k) ++ below ≡ above k below
 result_above kind.Void below = refl
@@ -53,9 +46,6 @@ drop_more (suc n) [] = refl
 drop_more (suc n) (x ∷ xs) = drop_more n xs
 
 module _ (image : Image) (program : Program) (goes : (l k : Kind) → GoesTo program l k → goes_to image (cell_of l) (cell_of k) ≡ true) where
-  solid_arg : (k q : Kind) (qs : List Kind) → GoesTo program k q → All (IsStorable program) (q ∷ qs) → IsSolid k
-  solid_arg k q qs g s = solid_from program k q g (storable_solid program q (All-head (IsStorable program) q qs s))
-
   -- what the parameters need above other needs is met
   pub args_has : (ks qs : List Kind) (ns : List Need) (below : Stack) → AllGoTo program ks qs → All (IsStorable program) qs →
       has_all image ns below ≡ true → has_all image (map need.Goes (reverse (map cell_of qs)) ++ ns) (args_on ks below) ≡ true
@@ -70,7 +60,7 @@ module _ (image : Image) (program : Program) (goes : (l k : Kind) → GoesTo pro
       ∙ append_assoc (map need.Goes (reverse cs)) (need.Goes (cell_of q) ∷ []) ns in
       let met : has_all image (need.Goes (cell_of q) ∷ ns) (above k below) ≡ true =
       subst (λ (st : Stack). has_all image (need.Goes (cell_of q) ∷ ns) st ≡ true)
-      (sym (solid_above k below (solid_arg k q qs h.0 s)))
+      (sym (solid_above k below (args_solid program (k ∷ ks) (q ∷ qs) h s).0))
       (and_from (goes_to image (cell_of k) (cell_of q)) (has_all image ns below) (goes k q h.0) n) in
       subst (λ (all : List Need). has_all image all (args_on ks (above k below)) ≡ true) (sym turned)
       (args_has ks qs (need.Goes (cell_of q) ∷ ns) (above k below) h.1 (All-tail (IsStorable program) q qs s) met)
@@ -83,7 +73,7 @@ module _ (image : Image) (program : Program) (goes : (l k : Kind) → GoesTo pro
   args_drop (k ∷ ks) (q ∷ qs) below h s =
       drop_more (length qs) (args_on ks (above k below))
       ∙ ap (λ (st : Stack). drop 1 st) (args_drop ks qs (above k below) h.1 (All-tail (IsStorable program) q qs s)
-      ∙ solid_above k below (solid_arg k q qs h.0 s))
+      ∙ solid_above k below (args_solid program (k ∷ ks) (q ∷ qs) h s).0)
 
 -- ---- what a method of the image needs
 
@@ -164,11 +154,11 @@ call_does g n x stack below next there concrete t is at low high =
     builds stack next (op.Call n) (ap (λ (o : Option ImageMethod). option_map_or is_abstract o true) there ∙ concrete)
     (ap (λ (o : Option ImageMethod). has_all g.image (needs_of g.image (option_map_or (λ (m : ImageMethod). arguments n m.class) o nothing).takes) stack) there
     ∙ called_cells g.image n x.class x stack below there t)
-    refl refl (all_go_itself g.image g.m.locals) refl refl
+    refl refl (all_go_to_themselves g.image g.m.locals) refl refl
     (subst (λ (st : Stack). all_go g.image (left_by g stack (op.Call n)) st ≡ true)
     (ap (λ (o : Option ImageMethod). after_stack g.image (option_map_or (λ (m : ImageMethod). arguments n m.class) o nothing) stack) there
     ∙ called_left g.image n x.class x stack below there t ∙ is)
-    (all_go_itself g.image (left_by g stack (op.Call n)))) low high
+    (all_go_to_themselves g.image (left_by g stack (op.Call n)))) low high
 
 pub virtual_does : (g : Ground) (class place n : ℕ) (x : ImageMethod) (stack below next : Stack) → table_method g.image class place ≡ Some n →
     slice_get g.image.methods n ≡ Some x → Taken g.image class x stack below → result_cells x.result ++ below ≡ next →
@@ -177,8 +167,8 @@ virtual_does g class place n x stack below next found there t is at low high =
     builds stack next (op.VirtualCall class place) (ap (λ (o : Option ℕ). not (is_some o)) found)
     (ap (λ (o : Option ℕ). has_all g.image (needs_of g.image (option_map_or (λ (k : ℕ). arguments k class) o nothing).takes) stack) found
     ∙ called_cells g.image n class x stack below there t)
-    refl refl (all_go_itself g.image g.m.locals) refl refl
+    refl refl (all_go_to_themselves g.image g.m.locals) refl refl
     (subst (λ (st : Stack). all_go g.image (left_by g stack (op.VirtualCall class place)) st ≡ true)
     (ap (λ (o : Option ℕ). after_stack g.image (option_map_or (λ (k : ℕ). arguments k class) o nothing) stack) found
     ∙ called_left g.image n class x stack below there t ∙ is)
-    (all_go_itself g.image (left_by g stack (op.VirtualCall class place)))) low high
+    (all_go_to_themselves g.image (left_by g stack (op.VirtualCall class place)))) low high

@@ -14,11 +14,12 @@ use Rattle.scode_code.specs.Kinds.{Shape, all_go, shape_goes}
 use Rattle.scode_code.specs.Wants.{needs}
 use Rattle.scode_code.specs.declared.needs.Need.{Need}
 use Rattle.scode_code.proofs.Places.{none_some, some_eq, within_code}
+use Rattle.scode_code.proofs.Verifies.{shape_goes_to_itself}
 use Rattle.scode_whole.proofs.Truths.{no_truth}
 use Rattle.scode_entries.specs.declared.marks.Mark.{Mark}
 use Rattle.scode_entries.specs.Entries.{mark}
 use Rattle.scode_fine.proofs.Finer.{fields_over, has_many, has_meet, has_over, locals_over, needs_same, result_over, stack_over}
-use Rattle.scode_fine.proofs.Goings.{Ordered, all_go_itself, all_go_length, all_go_over}
+use Rattle.scode_fine.proofs.Goings.{Ordered, all_go_length, all_go_over}
 use Rattle.scode_fine.proofs.Has.{Has}
 use Rattle.scode_fine.proofs.Points.{Coded, Come, Front, Point, agrees, ends_there, front, front_behind, marked, stands_there, starts_there, turned}
 use Rattle.scode_fine.proofs.Walks.{Fits, GoesOn, Ground, Joins, JumpsTo, Stack, Walks, has_all, here, left_by}
@@ -66,18 +67,16 @@ module _ (g : Ground) (whole : List Op) (all : List Mark) (ts : List ℕ) (w : W
     passed = λ k h. absurd h;
   }
 
-  goes_itself : (stack : Stack) → shape_goes g.image (here g stack) (here g stack) ≡ true
-  goes_itself stack =
-      and_from (all_go g.image g.m.locals g.m.locals) (all_go g.image stack stack) (all_go_itself g.image g.m.locals)
-      (all_go_itself g.image stack)
-
   first_finer : Finer 0 (first_shape g.m)
   first_finer = by_front (front g whole all w.walk first_come refl)
     where
       by_front : Front g whole all 0 (Some []) whole → Finer 0 (first_shape g.m)
       by_front (inl e) = absurd (none_some [] (sym e.0))
-      by_front (inr q) =
-          (q.0, subst (λ (s : Stack). shape_goes g.image (first_shape g.m) (here g s) ≡ true) q.1 (goes_itself []))
+      by_front (inr q) = (
+        q.0,
+        subst (λ (s : Stack). shape_goes g.image (first_shape g.m) (here g s) ≡ true) q.1
+            (shape_goes_to_itself g.image (here g [])),
+      )
 
   -- what is left by an instruction with finer kinds is finer than what is declared behind it
   behind_finer : (place : ℕ) (shape : Shape) (p : Point g whole all place) → shape_goes g.image shape (here g p.stack) ≡ true →
@@ -165,8 +164,11 @@ module _ (g : Ground) (whole : List Op) (all : List Mark) (ts : List ℕ) (w : W
 
   entry_finer : (place : ℕ) (e : ImageEntry) → IsStart g.m place → entry_at g.m place ≡ Some e → Finer place (entry_shape e)
   entry_finer place e start there =
-      let p = start_point place start in
-      (p, subst (λ (s : Shape). shape_goes g.image s (here g p.stack) ≡ true) (sym (entry_is place e p there)) (goes_itself p.stack))
+      let p = start_point place start in (
+        p,
+        subst (λ (s : Shape). shape_goes g.image s (here g p.stack) ≡ true) (sym (entry_is place e p there))
+            (shape_goes_to_itself g.image (here g p.stack)),
+      )
 
   kinds_finer : (place : ℕ) (shape : Shape) → KindsAt g.image g.m place shape → Finer place shape
   kinds_finer place shape (breaks.entered at e start there) = entry_finer at e start there
@@ -219,7 +221,7 @@ module _ (g : Ground) (whole : List Op) (all : List Mark) (ts : List ℕ) (w : W
       let p = point_at at reached within in none_some p.i (sym none ∙ stands_there g whole all w.coded at p)
   clean place rule (breaks.runs_past at i starts on past) =
       let p = start_point at (i, starts) in
-      let q = (on_finer at (here g p.stack) i (p, goes_itself p.stack) starts on).0 in
+      let q = (on_finer at (here g p.stack) i (p, shape_goes_to_itself g.image (here g p.stack)) starts on).0 in
       let within = within_code g.m.code (at + size_of i) q.i (stands_there g whole all w.coded (at + size_of i) q) in
       omega (arith, within, past)
   clean place rule (breaks.misses_start at to i starts is none) =

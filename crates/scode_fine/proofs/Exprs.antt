@@ -28,12 +28,16 @@ use Rattle.scode_entries.specs.declared.marks.Mark.{Mark}
 use Rattle.scode_entries.specs.Entries.{above, cell_of, expr_marks, exprs_marks, link_marks, links_marks, mark, place_marks, with_old, with_place}
 use Rattle.scode_entries.specs.Stack.{expr_stack, exprs_stack, link_stack, links_stack, place_stack}
 use Rattle.scode_entries.proofs.Admits.{Each}
+use Rattle.scode_entries.proofs.Tall.{above_length, old_length, place_length, stack_positive}
+use Rattle.scode_sim.proofs.Callees.{goes_solid}
+use Rattle.scode_sim.proofs.Solids.{form_solid, reference_solid}
+use Rattle.scode_sim.proofs.Stores.{read_solid}
 use Rattle.scode_fine.proofs.Builds.{jump_does, load_does, null_does, unless_does, if_does}
-use Rattle.scode_fine.proofs.Facts.{Facts, above_most, holder_solid, part_holder, part_solid, read_solid, solid_above, solid_from}
+use Rattle.scode_fine.proofs.Facts.{Facts, part_holder, part_solid, solid_above}
 use Rattle.scode_fine.proofs.Has.{each_back, each_front}
 use Rattle.scode_fine.proofs.PlainOps.{args_on, arithmetic_does, binary_does, bool_does, int_does, long_does, not_does, pop_walks, statics_does, text_does, ticks_does, unary_walks}
 use Rattle.scode_fine.proofs.Storages.{before_walks, behind_walks, keep_walks, wanted}
-use Rattle.scode_fine.proofs.Targets.{old_is, old_most, place_most, reference_solid, stack_positive, stored_as, target_solid}
+use Rattle.scode_fine.proofs.Targets.{old_is, stored_as, target_solid}
 use Rattle.scode_fine.proofs.Walks.{Enters, Ground, Runs, Stack, Stops, Walks, both, ended, from_stack, onto, only, runs, to_stack}
 
 pub behind : (at n : ℕ) (ops : List Op) → count ops ≡ n → at + n ≡ at + count ops
@@ -43,7 +47,7 @@ pub args_most : {n : Count} (most : ℕ) (es : Row_of-Expr n) (below : Stack) �
     length (args_on (kinds_of es) below) ≤ most
 args_most most end_of-Expr below le = omega (arith, le)
 args_most most (more_of-Expr e es) below le =
-    let here = above_most (kind_of e) below in
+    let here = above_length (kind_of e) below in
     args_most most es (above (kind_of e) below) (omega (arith, le, here))
 
 -- what is computed in a width goes to that width
@@ -81,7 +85,7 @@ module _ (g : Ground) (c : Context) (w : Site) (f : Facts g c w) where
       (Some (above (place_kind target) below))
   kept_walks target e below at h goes low =
       let solid = target_solid g c w f target h in
-      from_stack (sym (solid_above (kind_of e) (with_place target below) (solid_from c.program (kind_of e) (place_kind target) goes solid)))
+      from_stack (sym (solid_above (kind_of e) (with_place target below) (goes_solid c.program (kind_of e) (place_kind target) goes solid)))
       (to_stack (sym (solid_above (place_kind target) below solid))
       (keep_walks g c w f at (kind_of e) (stored_as g c w f target below h) goes low))
 
@@ -130,7 +134,7 @@ module _ (g : Ground) (c : Context) (w : Site) (f : Facts g c w) where
         let second = met + 3 in
         let end = second + expr_size w b in
         let one = stack_positive x in
-        let most = above_most (kind_of a) below in
+        let most = above_length (kind_of a) below in
         let behind_x = each_back Tells (expr_marks w below at x) (expr_marks w below first a ++ mark second below ∷ (expr_marks w below second b ++ mark end (above (kind_of a) below) ∷ [])) t in
         let others = each_back Tells (expr_marks w below first a) (mark second below ∷ (expr_marks w below second b ++ mark end (above (kind_of a) below) ∷ [])) behind_x in
         let last = each_back Tells (expr_marks w below second b) (mark end (above (kind_of a) below) ∷ []) others.1 in
@@ -145,7 +149,7 @@ module _ (g : Ground) (c : Context) (w : Site) (f : Facts g c w) where
         (ended (mark end (above (kind_of a) below)) (to_stack (ap (λ (k : Kind). above k below) (sym h.4)) (expr_walks below second b h.2 of_b (omega (arith, le)))) (behind second (expr_size w b) (expr_code w second b) (expr_sized w second b)) refl)))))
     expr_walks below at (expr.Set' target p e) h t le =
         let next = at + place_size w target in
-        let cells = place_most target below in
+        let cells = place_length target below in
         let one = stack_positive e in
         both (place_walks below at target h.0 (each_front Tells (place_marks w below at target) (expr_marks w (with_place target below) next e) t) (omega (arith, le))) (behind at (place_size w target) (place_code w at target) (place_sized w at target))
         (onto (expr_walks (with_place target below) next e h.1
@@ -157,8 +161,8 @@ module _ (g : Ground) (c : Context) (w : Site) (f : Facts g c w) where
         let next = mid + before_size u.gives s in
         let over = next + expr_size w e in
         let compute = arithmetic_op u.arithmetic u.width in
-        let cells = place_most target below in
-        let old = old_most u.gives target below in
+        let cells = place_length target below in
+        let old = old_length u.gives target below in
         let one = stack_positive e in
         let stands = stored_as g c w f target below h.0 in
         let solid = target_solid g c w f target h.0 in
@@ -173,8 +177,8 @@ module _ (g : Ground) (c : Context) (w : Site) (f : Facts g c w) where
         ap (λ (k : Kind). above k rest) (sym h.2) ∙ above_rest in
         let operands : above (kind_of e) (with_old u.gives target below) ≡ above (right_kind u.arithmetic u.width) (above (width_kind u.width) rest) =
         ap (λ (st : Stack). above (kind_of e) st) (is_old ∙ sym computed) ∙ ap (λ (k : Kind). above k (above (width_kind u.width) rest)) h.3 in
-        let most_one = above_most (width_kind u.width) rest in
-        let most_two = above_most (right_kind u.arithmetic u.width) (above (width_kind u.width) rest) in
+        let most_one = above_length (width_kind u.width) rest in
+        let most_two = above_length (right_kind u.arithmetic u.width) (above (width_kind u.width) rest) in
         let step : over + 1 ≡ over + size_of compute = (let s1 = arithmetic_sized u.arithmetic u.width in omega (arith, s1)) in
         both (place_walks below at target h.0 (each_front Tells (place_marks w below at target) (expr_marks w (with_old u.gives target below) next e) t) (omega (arith, le))) (behind at (place_size w target) (place_code w at target) (place_sized w at target))
         (both (to_stack (sym is_old) (before_walks g c w f mid u.gives stands (omega (arith, le, cells, one)))) (behind mid (before_size u.gives s) (before_code w u.gives s) (before_sized w u.gives s))
@@ -184,12 +188,12 @@ module _ (g : Ground) (c : Context) (w : Site) (f : Facts g c w) where
         (from_stack (sym computed) (to_stack (sym (solid_above (place_kind target) below solid))
         (behind_walks g c w f (over + 1) u.gives stands (width_goes c.program u.width (place_kind target) h.2) (omega (arith, le, cells, one))))))))
     expr_walks below at (expr.Call' k m shape args) h t le =
-        let most = above_most k below in
+        let most = above_length k below in
         onto (exprs_walks below at args h.0 t (omega (arith, le))) (behind at (exprs_size w args) (exprs_code w at args) (exprs_sized w at args))
         (only (f.static_call m k (kinds_of args) below h.1 (at + exprs_size w args)
         (args_most g.m.stack args below (omega (arith, le))) (omega (arith, le, most))))
     expr_walks below at (expr.Super' k m shape args) h t le =
-        let most = above_most k below in
+        let most = above_length k below in
         let own = object w.class ∷ below in
         Runs {to = at + 2} (load_does g 0 (object w.class) below (f.receiver h.1) at (omega (arith, le)) (omega (arith, le))) refl
         (onto (exprs_walks own (at + 2) args h.0 t (omega (arith, le))) (behind (at + 2) (exprs_size w args) (exprs_code w (at + 2) args) (exprs_sized w (at + 2) args))
@@ -209,7 +213,7 @@ module _ (g : Ground) (c : Context) (w : Site) (f : Facts g c w) where
     place_walks below at (place.Field' p q e i) h t le = expr_walks below at e h.0 t le
     place_walks below at (place.Element' p n q e field r i) h t le =
         let next = at + expr_size w e in
-        let most = above_most (kind_of e) below in
+        let most = above_length (kind_of e) below in
         both (expr_walks below at e h.0 (each_front Tells (expr_marks w below at e) (expr_marks w (above (kind_of e) below) next i) t) (omega (arith, le))) (behind at (expr_size w e) (expr_code w at e) (expr_sized w at e))
         (expr_walks (above (kind_of e) below) next i h.2
         (each_back Tells (expr_marks w below at e) (expr_marks w (above (kind_of e) below) next i) t) (omega (arith, le, most)))
@@ -221,10 +225,10 @@ module _ (g : Ground) (c : Context) (w : Site) (f : Facts g c w) where
         length below + link_stack l ≤ g.m.stack →
         Walks g at (Some (above k below)) (link_code w at k l) (link_marks w below at k l) [] (Some (above (link_kind l) below))
     link_walks below at k (link.Binary b e) h t le =
-        let left = above_most k below in
-        let right = above_most (kind_of e) (above k below) in
+        let left = above_length k below in
+        let right = above_length (kind_of e) (above k below) in
         let one = stack_positive e in
-        let most = above_most (link_kind (link.Binary b e)) below in
+        let most = above_length (link_kind (link.Binary b e)) below in
         onto (expr_walks (above k below) at e h.0 t (omega (arith, le, left))) (behind at (expr_size w e) (expr_code w at e) (expr_sized w at e))
         (only (binary_does g b k (kind_of e) below h.1 (at + expr_size w e) (omega (arith, le, left, right, one)) (omega (arith, le, most))))
     link_walks below at k (link.And e) h t le =
@@ -248,7 +252,7 @@ module _ (g : Ground) (c : Context) (w : Site) (f : Facts g c w) where
         (both (to_stack (ap (λ (j : Kind). above j below) h.2) (expr_walks below (at + 3) e h.0 (each_front Tells (expr_marks w below (at + 3) e) ends t) (omega (arith, le)))) (behind (at + 3) (expr_size w e) (expr_code w (at + 3) e) (expr_sized w (at + 3) e))
         (truth_walks below mid met 1 refl last.0 last.1.0 (omega (arith, le)))))
     link_walks below at k (link.Field p i) h t le =
-        from_stack (sym (solid_above k below (holder_solid c.program k i (form.Prim p) h)))
+        from_stack (sym (solid_above k below (form_solid c.program k i (form.Prim p) h)))
         (to_stack (sym (solid_above (read_kind p) below (read_solid p)))
         (only (f.get k i p below h at (omega (arith, le)) (omega (arith, le)))))
     link_walks below at k (link.Part l i) h t le =
@@ -256,32 +260,32 @@ module _ (g : Ground) (c : Context) (w : Site) (f : Facts g c w) where
         (to_stack (sym (solid_above l below (part_solid (field_form c.program k i) l h)))
         (only (f.part k i l below h at (omega (arith, le)) (omega (arith, le)))))
     link_walks below at k (link.Element p n i e) h t le =
-        let left = above_most k below in
+        let left = above_length k below in
         let one = stack_positive e in
-        let cell = solid_above k below (holder_solid c.program k i (form.Array p n) h.0) in
+        let cell = solid_above k below (form_solid c.program k i (form.Array p n) h.0) in
         to_stack (sym (solid_above (read_kind p) below (read_solid p)))
         (onto (to_stack (ap (λ (j : Kind). above j (above k below)) h.2 ∙ ap (λ (s : Stack). int ∷ s) cell)
         (expr_walks (above k below) at e h.1 t (omega (arith, le, left)))) (behind at (expr_size w e) (expr_code w at e) (expr_sized w at e))
         (only (f.get_at k i n p below h.0 (at + expr_size w e) (omega (arith, le, one)) (omega (arith, le)))))
     link_walks below at k (link.Size i) h t le =
-        from_stack (sym (solid_above k below (holder_solid c.program k i (form.Buf h.0) h.1)))
+        from_stack (sym (solid_above k below (form_solid c.program k i (form.Buf h.0) h.1)))
         (only (f.size k i below h at (omega (arith, le)) (omega (arith, le))))
     link_walks below at k (link.Byte i e) h t le =
-        let left = above_most k below in
+        let left = above_length k below in
         let one = stack_positive e in
-        let cell = solid_above k below (holder_solid c.program k i (form.Buf h.0.0) h.0.1) in
+        let cell = solid_above k below (form_solid c.program k i (form.Buf h.0.0) h.0.1) in
         onto (to_stack (ap (λ (j : Kind). above j (above k below)) h.2 ∙ ap (λ (s : Stack). int ∷ s) cell)
         (expr_walks (above k below) at e h.1 t (omega (arith, le, left)))) (behind at (expr_size w e) (expr_code w at e) (expr_sized w at e))
         (only (f.byte k i below h.0 (at + expr_size w e) (omega (arith, le, one)) (omega (arith, le))))
     link_walks below at k (link.Invoke' l m shape args) h t le =
-        let left = above_most k below in
-        let most = above_most l below in
+        let left = above_length k below in
+        let most = above_length l below in
         onto (exprs_walks (above k below) at args h.0 t (omega (arith, le, left))) (behind at (exprs_size w args) (exprs_code w at args) (exprs_sized w at args))
         (only (f.invoke k m l (kinds_of args) below h.1 (at + exprs_size w args)
         (args_most g.m.stack args (above k below) (omega (arith, le, left))) (omega (arith, le, most))))
     link_walks below at k (link.TextCall' call shape args) h t le =
-        let left = above_most k below in
-        let most = above_most (link_kind (link.TextCall' call shape args)) below in
+        let left = above_length k below in
+        let most = above_length (link_kind (link.TextCall' call shape args)) below in
         let on : args_on (kinds_of args) (above k below) ≡ args_on (text_kinds call) (str ∷ below) =
         ap (λ (ks : List Kind). args_on ks (above k below)) h.2 ∙ ap (λ (j : Kind). args_on (text_kinds call) (above j below)) h.1 in
         let many = args_most g.m.stack args (above k below) (omega (arith, le, left)) in
@@ -298,7 +302,7 @@ module _ (g : Ground) (c : Context) (w : Site) (f : Facts g c w) where
     exprs_walks below at end_of-Expr h t le = Stops
     exprs_walks below at (more_of-Expr e es) h t le =
         let next = at + expr_size w e in
-        let most = above_most (kind_of e) below in
+        let most = above_length (kind_of e) below in
         both (expr_walks below at e h.0 (each_front Tells (expr_marks w below at e) (exprs_marks w (above (kind_of e) below) next es) t) (omega (arith, le))) (behind at (expr_size w e) (expr_code w at e) (expr_sized w at e))
         (exprs_walks (above (kind_of e) below) next es h.1
         (each_back Tells (expr_marks w below at e) (exprs_marks w (above (kind_of e) below) next es) t) (omega (arith, le, most)))

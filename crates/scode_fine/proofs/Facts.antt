@@ -1,5 +1,5 @@
 -- What a walk along the code of a typed body asks of the image: where its locals, fields and methods are.
-use Rattle.std.proofs.Common.{◌≡◌, ◌≤◌, ◌<◌, ℕ, ◌+◌, true, false, List, ◌∷◌, length, Option, Some, None, refl, arith}
+use Rattle.std.proofs.Common.{◌≡◌, ◌<◌, ℕ, true, false, List, ◌∷◌, length, Option, Some, None, refl}
 use Rattle.std.specs.Prelude.{slice_get}
 use Rattle.std.specs.Option.{option_and_then}
 use Rattle.sed_value.specs.declared.slot_type.Primitive.{Primitive}
@@ -17,15 +17,12 @@ use Rattle.scode_ops.specs.declared.op.Op.TheVariants as op
 use Rattle.scode_emit.specs.Instructions.{get_element_op, get_op, invoke_op, part_op, put_element_op, put_op}
 use Rattle.scode_emit.specs.Site.{Site, offset_in, room_in, waiting, waiting_index}
 use Rattle.scode_entries.specs.Entries.{above, cell_of}
+use Rattle.scode_sim.proofs.Frames.{IsSolid}
 use Rattle.scode_fine.proofs.Builds.{Does}
 use Rattle.scode_fine.proofs.PlainOps.{args_on}
 use Rattle.scode_fine.proofs.Walks.{Ground, Stack, here}
 
 -- ---- kinds that are not void
-
-abbrev pub IsSolid : Kind → Type 0
-IsSolid kind.Void = ⊥
-IsSolid k = Unit {0}
 
 pub solid_above : (k : Kind) (below : Stack) → IsSolid k → above k below ≡ cell_of k ∷ below
 solid_above kind.Void below h = absurd h
@@ -34,27 +31,6 @@ solid_above kind.Int below h = refl
 solid_above kind.Long below h = refl
 solid_above kind.Text below h = refl
 solid_above (kind.Object class) below h = refl
-
-pub read_solid : (p : Primitive) → IsSolid (read_kind p)
-read_solid prim.Bool = tt
-read_solid prim.Byte = tt
-read_solid prim.Short = tt
-read_solid prim.Int = tt
-read_solid prim.Long = tt
-
--- what goes to a kind that is not void is not void
-pub solid_from : (program : Program) (l k : Kind) → GoesTo program l k → IsSolid k → IsSolid l
-solid_from program kind.Void kind.Void h s = s
-solid_from program kind.Void kind.Bool h s = let never : ⊥ = cc in absurd never
-solid_from program kind.Void kind.Int h s = let never : ⊥ = cc in absurd never
-solid_from program kind.Void kind.Long h s = let never : ⊥ = cc in absurd never
-solid_from program kind.Void kind.Text h s = let never : ⊥ = cc in absurd never
-solid_from program kind.Void (kind.Object class) h s = let never : ⊥ = cc in absurd never
-solid_from program kind.Bool k h s = tt
-solid_from program kind.Int k h s = tt
-solid_from program kind.Long k h s = tt
-solid_from program kind.Text k h s = tt
-solid_from program (kind.Object class) k h s = tt
 
 -- what goes to what a primitive is read as is of that kind
 pub goes_read : (program : Program) (l : Kind) (p : Primitive) → GoesTo program l (read_kind p) → l ≡ read_kind p
@@ -68,14 +44,6 @@ goes_read program (kind.Object class) prim.Byte h = h
 goes_read program (kind.Object class) prim.Short h = h
 goes_read program (kind.Object class) prim.Int h = h
 goes_read program (kind.Object class) prim.Long h = h
-
-pub above_most : (k : Kind) (below : Stack) → length (above k below) ≤ length below + 1
-above_most kind.Void below = omega arith
-above_most kind.Bool below = omega arith
-above_most kind.Int below = omega arith
-above_most kind.Long below = omega arith
-above_most kind.Text below = omega arith
-above_most (kind.Object class) below = omega arith
 
 -- ---- the image
 
@@ -133,14 +101,6 @@ pub record Facts (g : Ground) (c : Context) (w : Site) : Type 0 where
       result_differs g.image g.m (here g (cell_of c.result ∷ below)) op.ReturnValue ≡ false
 
 -- ---- fields stand in objects
-
-pub holder_solid : (program : Program) (k : Kind) (i : ℕ) (f : FieldForm) → field_form program k i ≡ Some f → IsSolid k
-holder_solid program kind.Void i f e = let never : ⊥ = cc in absurd never
-holder_solid program kind.Bool i f e = tt
-holder_solid program kind.Int i f e = tt
-holder_solid program kind.Long i f e = tt
-holder_solid program kind.Text i f e = tt
-holder_solid program (kind.Object class) i f e = tt
 
 pub part_holder : (program : Program) (k : Kind) (i : ℕ) (l : Kind) →
     option_and_then part_kind (field_form program k i) ≡ Some l → IsSolid k

@@ -15,10 +15,11 @@ use Rattle.scode_code.specs.declared.needs.Effect.{Effect}
 use Rattle.scode_code.specs.declared.needs.Need.{Need}
 use Rattle.scode_code.specs.declared.needs.Puts.{Puts}
 use Rattle.scode_code.specs.declared.needs.Puts.TheVariants as puts
+use Rattle.scode_code.proofs.Verifies.{all_go_to_themselves, goes_to_itself}
 use Rattle.scode_whole.proofs.Truths.{no_truth}
 use Rattle.scode_ops.specs.declared.op.Op.{Op}
 use Rattle.scode_ops.specs.declared.op.Op.TheVariants as op
-use Rattle.scode_fine.proofs.Goings.{Goes, Null, Ordered, Same, Under, all_go_append, all_go_drop, all_go_itself, all_go_take, goes_over, goes_to_itself, goes_view, meets_over}
+use Rattle.scode_fine.proofs.Goings.{Goes, Null, Ordered, Same, Under, all_go_append, all_go_drop, all_go_take, goes_over, goes_view, meets_over}
 use Rattle.scode_fine.proofs.Walks.{has_all}
 
 -- ---- what an instruction needs
@@ -65,7 +66,7 @@ module _ (image : Image) (o : Ordered image) where
   puts_over (puts.One k) ks ls g = and_from (goes_to image k k) true (goes_to_itself image k) refl
   puts_over puts.Twice ks ls g = all_go_append image ks ls ks ls g g
   puts_over (puts.Answer n) ks ls g =
-      all_go_itself image (option_map_or (λ (m : ImageMethod). result_cells m.result) (slice_get image.methods n) [])
+      all_go_to_themselves image (option_map_or (λ (m : ImageMethod). result_cells m.result) (slice_get image.methods n) [])
 
   effect_over : (e : Effect) (ks ls : List ImageKind) → all_go image ks ls ≡ true →
       all_go image (after_stack image e ks) (after_stack image e ls) ≡ true

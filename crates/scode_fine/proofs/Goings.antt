@@ -11,7 +11,7 @@ use Rattle.scode_code.specs.Tables.{field_number}
 use Rattle.scode_code.specs.Wants.{meets}
 use Rattle.scode_code.specs.declared.needs.Need.{Need}
 use Rattle.scode_code.specs.declared.needs.Need.TheVariants as need
-use Rattle.scode_code.proofs.Places.{same_eq}
+use Rattle.scode_code.proofs.Verifies.{goes_to_itself}
 use Rattle.scode_whole.proofs.Truths.{no_truth}
 use Rattle.scode_sound.proofs.Cells.{same_kinds}
 
@@ -36,9 +36,6 @@ pub record Ordered (image : Image) : Type 0 where
       is_some (buf_number (fields_of_kind image (object class)) offset) ≡ true
 
 -- ---- a kind goes to another
-
-pub goes_to_itself : (image : Image) (k : ImageKind) → goes_to image k k ≡ true
-goes_to_itself image k = let a = same_eq k.kind in let b = same_eq k.class in rw (a, b) refl
 
 -- why it goes
 pub data Goes (image : Image) (k l : ImageKind) : Type 0 where
@@ -161,11 +158,6 @@ module _ (image : Image) (o : Ordered image) where
       let p = and_parts (goes_to image k l) (all_go image ks ls) g in
       let q = and_parts (goes_to image l m) (all_go image ls ms) h in
       and_from (goes_to image k m) (all_go image ks ms) (goes_over k l m p.0 q.0) (all_go_over ks ls ms p.1 q.1)
-
-pub all_go_itself : (image : Image) (ks : List ImageKind) → all_go image ks ks ≡ true
-all_go_itself image [] = refl
-all_go_itself image (k ∷ ks) =
-    and_from (goes_to image k k) (all_go image ks ks) (goes_to_itself image k) (all_go_itself image ks)
 
 pub all_go_length : (image : Image) (ks ls : List ImageKind) → all_go image ks ls ≡ true → length ks ≡ length ls
 all_go_length image [] [] g = refl

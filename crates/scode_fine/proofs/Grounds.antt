@@ -17,12 +17,13 @@ use Rattle.sed_typed.specs.declared.program.Program.{Program}
 use Rattle.sed_typed.specs.Kinds.{read_kind}
 use Rattle.sed_typed.specs.Locals.{Declared}
 use Rattle.sed_typed.specs.Typed.{IsMethod, IsStorable, declared_by, locals_of}
-use Rattle.sed_typed.specs.TypedExpr.{Context, IsBuf, IsKindOf, field_form, part_kind, static_form}
+use Rattle.sed_typed.specs.TypedExpr.{Context, IsBuf, field_form, part_kind, static_form}
 use Rattle.scode_image.specs.declared.image.Image.{Image}
 use Rattle.scode_image.specs.declared.image.ImageKind.{ImageKind}
 use Rattle.scode_code.specs.CodeRules.{lacks_field, number_missing}
 use Rattle.scode_code.specs.Kinds.{goes_to, int, object, statics, str}
 use Rattle.scode_code.proofs.Places.{none_some, some_eq}
+use Rattle.scode_code.proofs.Verifies.{all_go_to_themselves, goes_to_itself}
 use Rattle.scode_ops.specs.declared.op.Op.TheVariants as op
 use Rattle.scode_emit.specs.Instructions.{get_element_op, get_op, part_op, put_element_op, put_op}
 use Rattle.scode_emit.specs.Method.{site_of}
@@ -30,12 +31,13 @@ use Rattle.scode_emit.specs.Site.{Layout, class_of, waiting, waiting_index}
 use Rattle.scode_entries.specs.Entries.{cell_of}
 use Rattle.scode_entries.specs.Method.{image_method, local_kinds, waiting_kinds}
 use Rattle.scode_sim.specs.Made.{number_of_form, room_of_form}
+use Rattle.scode_sim.proofs.Callees.{storable_solid}
+use Rattle.scode_sim.proofs.Frames.{IsSolid}
 use Rattle.scode_made.proofs.Places.{all_at, in_front}
+use Rattle.scode_made.proofs.MadeMethods.{storable_kind}
 use Rattle.scode_fine.proofs.Builds.{Does, builds}
-use Rattle.scode_fine.proofs.CallOps.{storable_solid}
-use Rattle.scode_fine.proofs.Facts.{Facts, IsSolid}
+use Rattle.scode_fine.proofs.Facts.{Facts}
 use Rattle.scode_fine.proofs.FieldOps.{IsHolder, byte_does, get_does, get_element_does, inner_does, put_does, put_element_does, size_does, str_does}
-use Rattle.scode_fine.proofs.Goings.{all_go_itself, goes_to_itself}
 use Rattle.scode_fine.proofs.Images.{FieldAt, Known, StaticAt, buf_room, buf_there, cell_goes, field_at, field_class, field_there, held, null_goes, parted, static_at, static_class, static_str_room, static_there, str_room}
 use Rattle.scode_fine.proofs.Methods.{invoke_does, static_does, super_does}
 use Rattle.scode_fine.proofs.Stmts.{solid_result}
@@ -48,14 +50,6 @@ at_back [] ys i = ap (λ (n : ℕ). slice_get ys n) (let e : length {A = ImageKi
 at_back (x ∷ xs) ys i =
     ap (λ (n : ℕ). slice_get (x ∷ (xs ++ ys)) n) (let e : length (x ∷ xs) + i ≡ suc (length xs + i) = omega arith in e)
     ∙ at_back xs ys i
-
-storable_known : (program : Program) (k : Kind) → IsStorable program k → IsKindOf program k
-storable_known program kind.Void h = tt
-storable_known program kind.Bool h = h
-storable_known program kind.Int h = h
-storable_known program kind.Long h = h
-storable_known program kind.Text h = h
-storable_known program (kind.Object class) h = h
 
 cell_some : (k : Kind) → IsSolid k → ((cell_of k).kind == 0) ≡ false
 cell_some kind.Void h = absurd h
@@ -111,7 +105,7 @@ module _ (program : Program) (layout : Layout) (g : Ground) (known : Known progr
   text_does n below h at low high =
       let there : n < length g.image.texts = subst (λ (all : List (List ℕ)). n < length all) (sym known.made.texts) h in
       builds below (str ∷ below) (op.Text n) (ap not (lt-ltb n (length g.image.texts) there)) refl refl refl
-      (all_go_itself g.image g.m.locals) refl refl (all_go_itself g.image (str ∷ below)) low high
+      (all_go_to_themselves g.image g.m.locals) refl refl (all_go_to_themselves g.image (str ∷ below)) low high
 
   -- a primitive or an array that is a field
   pub field_get : (k : Kind) (i : ℕ) (p : Primitive) (below : Stack) → field_form program k i ≡ Some (form.Prim p) →
@@ -233,7 +227,7 @@ module _ (program : Program) (layout : Layout) (m : Method) (storable : All (IsS
     facts = record {
       locals = local_there;
       solid = λ n k e. storable_solid program k (local_storable n k e);
-      known = λ n k e. storable_known program k (local_storable n k e);
+      known = λ n k e. storable_kind program k (local_storable n k e);
       receiver = receiver_there;
       own = refl;
       waits = waiting_there;

@@ -1,7 +1,7 @@
 -- An image that is made of a typed program, whose tables agree: what its classes and fields are to the program's.
 use Rattle.std.proofs.Common.{◌≡◌, ◌<◌, ◌≤◌, inr, ℕ, ◌==◌, not, nat_lt, Bool, true, false, if◌then◌else◌, List, length, lt-ltb, ltb-false, ltb-true, Option, Some, None, refl, sym, ap, subst, ◌∙◌, arith}
 use Rattle.std.specs.Prelude.{is_some, slice_get}
-use Rattle.std.specs.Option.{option_and_then, option_map}
+use Rattle.std.specs.Option.{option_and_then}
 use Rattle.std.proofs.lemmas.Bool.{ne_eqb}
 use Rattle.sed_typed.specs.declared.kind.Kind.{Kind}
 use Rattle.sed_typed.specs.declared.kind.Kind.TheVariants as kind
@@ -23,16 +23,18 @@ use Rattle.scode_code.specs.CodeRules.{lacks_buf, lacks_field, number_missing}
 use Rattle.scode_code.specs.Kinds.{goes_to, null, object, statics}
 use Rattle.scode_code.specs.Fields.{buf_number}
 use Rattle.scode_code.specs.Tables.{class_fields, field_number, schema_of}
-use Rattle.scode_code.proofs.Places.{none_some, some_eq}
+use Rattle.scode_code.proofs.Places.{none_some}
+use Rattle.scode_code.proofs.Verifies.{goes_to_itself}
 use Rattle.scode_ops.specs.declared.op.Op.TheVariants as op
 use Rattle.scode_emit.specs.Site.{Layout, class_of}
 use Rattle.scode_entries.specs.Entries.{cell_of}
 use Rattle.scode_entries.specs.Method.{image_method}
 use Rattle.scode_sim.specs.Made.{IsMade, number_of_form, room_of_form}
+use Rattle.scode_sim.proofs.Objects.{field_of}
 use Rattle.scode_made.proofs.Places.{all_at}
 use Rattle.scode_sound.proofs.Rules.{Tables}
 use Rattle.scode_fine.proofs.FieldOps.{IsHolder}
-use Rattle.scode_fine.proofs.Goings.{Null, Under, goes_seen, goes_to_itself}
+use Rattle.scode_fine.proofs.Goings.{Null, Under, goes_seen}
 use Rattle.scode_fine.proofs.Orders.{classes_of, in_image}
 
 -- what is known of the image of a typed program
@@ -50,10 +52,6 @@ no_statics : (n most : ℕ) → n < most → most ≤ 1024 → (n == 0xffff) ≡
 no_statics n most less few = ne_eqb n 0xffff (λ same. omega (arith, same, less, few))
 
 -- ---- forms
-
-mapped : (o : Option Field) (fm : FieldForm) → option_map (λ (f : Field). f.form) o ≡ Some fm → (f : Field) × (o ≡ Some f) × (f.form ≡ fm)
-mapped None fm e = absurd (none_some fm e)
-mapped (Some f) fm e = (f, refl, some_eq f.form fm e)
 
 pub parted : (o : Option FieldForm) (l : Kind) → option_and_then part_kind o ≡ Some l → (fm : FieldForm) × (o ≡ Some fm) × (part_kind fm ≡ Some l)
 parted None l e = absurd (none_some l e)
@@ -119,7 +117,7 @@ module _ (program : Program) (layout : Layout) (image : Image) (known : Known pr
   field_at kind.Long i fm e = absurd (none_some fm e)
   field_at kind.Text i fm e = absurd (none_some fm e)
   field_at (kind.Object class) i fm e =
-      let f = mapped (slice_get (fields program class.0) i) fm e in
+      let f = field_of (fields program class.0) i fm e in
       record { field = f.0; at = f.1; is = f.2; cell = refl; within = with_field class.0 i f.0 f.1 }
 
   pub held : (k : Kind) (i : ℕ) (fm : FieldForm) → FieldAt k i fm → IsHolder (cell_of k)
@@ -176,7 +174,7 @@ module _ (program : Program) (layout : Layout) (image : Image) (known : Known pr
     pub is : field.form ≡ fm
 
   pub static_at : (i : ℕ) (fm : FieldForm) → static_form program i ≡ Some fm → StaticAt i fm
-  static_at i fm e = let f = mapped (slice_get program.statics i) fm e in record { field = f.0; at = f.1; is = f.2 }
+  static_at i fm e = let f = field_of program.statics i fm e in record { field = f.0; at = f.1; is = f.2 }
 
   pub static_there : (i : ℕ) (fm : FieldForm) → StaticAt i fm →
       lacks_field image (Some statics) (number_of_form fm) (layout.static_offset i) (room_of_form fm) ≡ false

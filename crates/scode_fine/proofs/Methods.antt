@@ -1,12 +1,11 @@
 -- Calls of the methods of a typed program, as they stand in its image.
-use Rattle.std.proofs.Common.{◌≡◌, ◌<◌, ℕ, ◌+◌, ◌==◌, ◌%◌, not, nat_le, Bool, true, false, if◌then◌else◌, List, ◌∷◌, ◌++◌, length, Option, Some, None, refl, sym, ap, ◌∙◌, arith}
+use Rattle.std.proofs.Common.{◌≡◌, ◌<◌, ℕ, not, Bool, true, false, if◌then◌else◌, List, ◌∷◌, ◌++◌, length, Option, Some, None, refl, sym, ap, ◌∙◌, arith}
 use Rattle.std.specs.Prelude.{is_none, slice_get}
 use Rattle.std.specs.Option.{option_and_then, option_map_or}
 use Rattle.sed_typed.specs.declared.kind.Kind.{Kind}
 use Rattle.sed_typed.specs.declared.kind.Kind.TheVariants as kind
 use Rattle.sed_typed.specs.declared.program.Method.{Method}
 use Rattle.sed_typed.specs.declared.program.Program.{Program}
-use Rattle.sed_typed.specs.declared.statement.Stmt.{Stmt}
 use Rattle.sed_typed.specs.Classes.{base_of, find, method_name}
 use Rattle.sed_typed.specs.Typed.{IsMethod}
 use Rattle.sed_typed.specs.TypedExpr.{IsCallOf, IsInvocation, IsStaticCall, IsSuperCall, object_class}
@@ -17,6 +16,7 @@ use Rattle.scode_code.specs.CodeRules.{is_abstract}
 use Rattle.scode_code.specs.Kinds.{goes_to, object}
 use Rattle.scode_code.specs.Wants.{result_cells}
 use Rattle.scode_code.proofs.Places.{none_some, some_eq}
+use Rattle.scode_code.proofs.Verifies.{goes_to_itself}
 use Rattle.scode_whole.proofs.Truths.{no_truth}
 use Rattle.scode_ops.specs.declared.op.Op.TheVariants as op
 use Rattle.scode_emit.specs.Instructions.{invoke_op}
@@ -24,31 +24,13 @@ use Rattle.scode_emit.specs.Site.{Layout}
 use Rattle.scode_entries.specs.Entries.{above}
 use Rattle.scode_entries.specs.Method.{image_method}
 use Rattle.scode_made.proofs.Places.{all_at}
+use Rattle.scode_made.proofs.MadeMethods.{by_flags, by_two, with_body}
 use Rattle.scode_fine.proofs.Builds.{Does}
 use Rattle.scode_fine.proofs.CallOps.{call_does, own_taken, result_above, static_taken, virtual_does}
-use Rattle.scode_fine.proofs.Goings.{goes_to_itself}
 use Rattle.scode_fine.proofs.Images.{Known, cell_goes, class_goes}
 use Rattle.scode_fine.proofs.Orders.{below_is, below_itself, classes_of}
 use Rattle.scode_fine.proofs.PlainOps.{args_on}
 use Rattle.scode_fine.proofs.Walks.{Ground, Stack}
-
--- ---- flags
-
-by_flags : (static abstract : Bool) → (((if static then 0 else 1) + (if abstract then 2 else 0)) % 2 == 1) ≡ not static
-by_flags true true = refl
-by_flags true false = refl
-by_flags false true = refl
-by_flags false false = refl
-
-pub by_two : (static abstract : Bool) → nat_le 2 ((if static then 0 else 1) + (if abstract then 2 else 0)) ≡ abstract
-by_two true true = refl
-by_two true false = refl
-by_two false true = refl
-by_two false false = refl
-
-is_there : (o : Option Stmt) → (o ≡ None → ⊥) → is_none o ≡ false
-is_there None h = absurd (h refl)
-is_there (Some body) h = refl
 
 -- from a base where there is one
 based : (look : ℕ → Option ℕ) (o : Option ℕ) (n : ℕ) → option_and_then look o ≡ Some n → (b : ℕ) × (o ≡ Some b) × (look b ≡ Some n)
@@ -60,7 +42,7 @@ module _ (program : Program) (layout : Layout) (image : Image) (known : Known pr
   instance_is y b e = by_flags y.is_static (is_none y.body) ∙ ap not e
 
   pub concrete_is : (y : Method) → (y.body ≡ None → ⊥) → is_abstract (image_method program layout y) ≡ false
-  concrete_is y h = by_two y.is_static (is_none y.body) ∙ is_there y.body h
+  concrete_is y h = by_two y.is_static (is_none y.body) ∙ with_body y.body h
 
   pub method_is : (n : ℕ) (y : Method) → slice_get program.methods n ≡ Some y → IsMethod program y
   method_is n y is = all_at (IsMethod program) program.methods n y is known.typed.methods

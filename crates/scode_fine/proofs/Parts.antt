@@ -11,6 +11,7 @@ use Rattle.sed_typed.specs.TypedExpr.{Context, IsExpr, IsKindOf, right_kind}
 use Rattle.sed_typed.specs.TypedStmt.{IsBegun, IsLast, IsTest}
 use Rattle.scode_image.specs.declared.image.ImageKind.{ImageKind}
 use Rattle.scode_code.specs.Kinds.{bool}
+use Rattle.scode_code.proofs.Verifies.{goes_to_itself}
 use Rattle.scode_ops.specs.declared.op.Op.{Op}
 use Rattle.scode_ops.specs.declared.op.Op.TheVariants as op
 use Rattle.scode_ops.specs.Decoding.{size_of}
@@ -24,14 +25,16 @@ use Rattle.scode_entries.specs.declared.marks.Mark.{Mark}
 use Rattle.scode_entries.specs.Entries.{above, cell_of, drop_marks, expr_marks, last_marks, mark, part_marks, place_marks, with_old, with_place}
 use Rattle.scode_entries.specs.Stack.{expr_stack, part_stack}
 use Rattle.scode_entries.proofs.Admits.{Each}
+use Rattle.scode_entries.proofs.Tall.{above_length, old_length, place_length, stack_positive}
+use Rattle.scode_sim.proofs.Frames.{IsSolid}
+use Rattle.scode_sim.proofs.Callees.{goes_solid}
 use Rattle.scode_fine.proofs.Builds.{Does, if_does, jump_does, null_does, store_does}
 use Rattle.scode_fine.proofs.Exprs.{Tells, behind, expr_walks, place_walks, width_goes}
-use Rattle.scode_fine.proofs.Facts.{Facts, IsSolid, above_most, solid_above, solid_from}
-use Rattle.scode_fine.proofs.Goings.{goes_to_itself}
+use Rattle.scode_fine.proofs.Facts.{Facts, solid_above}
 use Rattle.scode_fine.proofs.Has.{each_back, each_front}
 use Rattle.scode_fine.proofs.PlainOps.{arithmetic_does, bool_does, int_does, long_does, pop_walks}
 use Rattle.scode_fine.proofs.Storages.{fetch_walks, put_walks}
-use Rattle.scode_fine.proofs.Targets.{old_most, place_most, stack_positive, stored_as, target_solid}
+use Rattle.scode_fine.proofs.Targets.{stored_as, target_solid}
 use Rattle.scode_fine.proofs.Walks.{Enters, Ground, Runs, Stack, Stops, Walks, both, from_stack, moved, onto, only, runs, to_stack}
 
 module _ (g : Ground) (c : Context) (w : Site) (f : Facts g c w) where
@@ -51,7 +54,7 @@ module _ (g : Ground) (c : Context) (w : Site) (f : Facts g c w) where
       Walks g at (Some []) (drop_code w at e) (drop_marks w at e) [] (Some [])
   drop_walks at (expr.Set' target p e) h t le =
       let next = at + place_size w target in
-      let cells = place_most target [] in
+      let cells = place_length target [] in
       let one = stack_positive e in
       let solid = target_solid g c w f target h.0 in
       both (place_walks g c w f [] at target h.0
@@ -60,7 +63,7 @@ module _ (g : Ground) (c : Context) (w : Site) (f : Facts g c w) where
       (onto (expr_walks g c w f (with_place target []) next e h.1
       (each_back (Tells g c w f) (place_marks w [] at target) (expr_marks w (with_place target []) next e) t) (omega (arith, le, cells)))
       (behind next (expr_size w e) (expr_code w next e) (expr_sized w next e))
-      (from_stack (sym (solid_above (kind_of e) (with_place target []) (solid_from c.program (kind_of e) (place_kind target) h.2 solid)))
+      (from_stack (sym (solid_above (kind_of e) (with_place target []) (goes_solid c.program (kind_of e) (place_kind target) h.2 solid)))
       (put_walks g c w f (next + expr_size w e) (kind_of e) (stored_as g c w f target [] h.0) h.2 (omega (arith, le, cells, one)))))
   drop_walks at (expr.Update' u target p e) h t le =
       let s = storage w target in
@@ -68,19 +71,19 @@ module _ (g : Ground) (c : Context) (w : Site) (f : Facts g c w) where
       let next = mid + fetch_size s in
       let over = next + expr_size w e in
       let compute = arithmetic_op u.arithmetic u.width in
-      let cells = place_most target [] in
+      let cells = place_length target [] in
       let one = stack_positive e in
       let stands = stored_as g c w f target [] h.0 in
       let solid = target_solid g c w f target h.0 in
       let rest = with_place target [] in
-      let old = old_most New target [] in
+      let old = old_length New target [] in
       let is_old : with_old New target [] ≡ cell_of (place_kind target) ∷ rest = solid_above (place_kind target) rest solid in
       let computed : above (width_kind u.width) rest ≡ cell_of (place_kind target) ∷ rest =
       ap (λ (k : Kind). above k rest) (sym h.2) ∙ is_old in
       let operands : above (kind_of e) (with_old New target []) ≡ above (right_kind u.arithmetic u.width) (above (width_kind u.width) rest) =
       ap (λ (st : Stack). above (kind_of e) st) (is_old ∙ sym computed) ∙ ap (λ (k : Kind). above k (above (width_kind u.width) rest)) h.3 in
-      let most_one = above_most (width_kind u.width) rest in
-      let most_two = above_most (right_kind u.arithmetic u.width) (above (width_kind u.width) rest) in
+      let most_one = above_length (width_kind u.width) rest in
+      let most_two = above_length (right_kind u.arithmetic u.width) (above (width_kind u.width) rest) in
       let step : over + 1 ≡ over + size_of compute = (let s1 = arithmetic_sized u.arithmetic u.width in omega (arith, s1)) in
       both (place_walks g c w f [] at target h.0
       (each_front (Tells g c w f) (place_marks w [] at target) (expr_marks w (with_old New target []) next e) t) (omega (arith, le)))
@@ -115,7 +118,7 @@ module _ (g : Ground) (c : Context) (w : Site) (f : Facts g c w) where
   begun_walks at k i (Some e) is h t le =
       let one = stack_positive e in
       onto (expr_walks g c w f [] at e h.0 t (omega (arith, le))) (behind at (expr_size w e) (expr_code w at e) (expr_sized w at e))
-      (from_stack (sym (solid_above (kind_of e) [] (solid_from c.program (kind_of e) k h.1 (f.solid i k is))))
+      (from_stack (sym (solid_above (kind_of e) [] (goes_solid c.program (kind_of e) k h.1 (f.solid i k is))))
       (only (store_does g i (cell_of (kind_of e)) (cell_of k) [] [] (f.locals i k is) (f.goes (kind_of e) k h.1) refl
       (at + expr_size w e) (omega (arith, le, one)) (omega (arith, le)))))
 

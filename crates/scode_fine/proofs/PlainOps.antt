@@ -22,12 +22,12 @@ use Rattle.scode_image.specs.declared.image.ImageKind.{ImageKind}
 use Rattle.scode_code.specs.Kinds.{bool, int, long, object, statics, str}
 use Rattle.scode_code.specs.Wants.{meets}
 use Rattle.scode_code.specs.declared.needs.Need.TheVariants.{Reference}
+use Rattle.scode_code.proofs.Verifies.{all_go_to_themselves}
 use Rattle.scode_ops.specs.declared.op.Op.{Op}
 use Rattle.scode_ops.specs.declared.op.Op.TheVariants as op
 use Rattle.scode_emit.specs.Instructions.{arithmetic_op, binary_op, comparison_op, pop_code, text_op, unary_code}
 use Rattle.scode_entries.specs.Entries.{above}
 use Rattle.scode_fine.proofs.Builds.{Does, builds, pop_does, steps}
-use Rattle.scode_fine.proofs.Goings.{all_go_itself}
 use Rattle.scode_fine.proofs.Walks.{Ground, Stack, Stops, Walks, has_all, only, runs}
 
 -- ---- constants
@@ -156,13 +156,13 @@ same_does : (g : Ground) (a b : ImageKind) (below : Stack) → meets g.image Ref
     Does g op.RefEq (a ∷ b ∷ below) (bool ∷ below)
 same_does g a b below e f at low high =
     builds (a ∷ b ∷ below) (bool ∷ below) op.RefEq refl (both_met g.image a b below e f) refl refl
-    (all_go_itself g.image g.m.locals) refl refl (all_go_itself g.image (bool ∷ below)) low high
+    (all_go_to_themselves g.image g.m.locals) refl refl (all_go_to_themselves g.image (bool ∷ below)) low high
 
 other_does : (g : Ground) (a b : ImageKind) (below : Stack) → meets g.image Reference a ≡ true → meets g.image Reference b ≡ true →
     Does g op.RefNe (a ∷ b ∷ below) (bool ∷ below)
 other_does g a b below e f at low high =
     builds (a ∷ b ∷ below) (bool ∷ below) op.RefNe refl (both_met g.image a b below e f) refl refl
-    (all_go_itself g.image g.m.locals) refl refl (all_go_itself g.image (bool ∷ below)) low high
+    (all_go_to_themselves g.image g.m.locals) refl refl (all_go_to_themselves g.image (bool ∷ below)) low high
 
 -- operands of these kinds are those that the operator takes
 by_kinds : (g : Ground) (i : Op) (a b j k : Kind) (below next : Stack) → j ≡ a → k ≡ b → Does g i (above b (above a below)) next →

@@ -21,9 +21,11 @@ use Rattle.scode_entries.specs.declared.marks.Mark.{Mark}
 use Rattle.scode_entries.specs.Entries.{above, cell_of, expr_marks, labelled_marks, last_marks, mark, part_marks, stmt_marks, stmts_marks}
 use Rattle.scode_entries.specs.Stack.{stmt_stack, stmts_stack}
 use Rattle.scode_entries.proofs.Admits.{Each}
+use Rattle.scode_sim.proofs.Callees.{goes_solid}
+use Rattle.scode_sim.proofs.Frames.{IsSolid}
 use Rattle.scode_fine.proofs.Builds.{answer_does, if_does, jump_does, return_does, unless_does}
 use Rattle.scode_fine.proofs.Exprs.{Tells, behind, expr_walks}
-use Rattle.scode_fine.proofs.Facts.{Facts, IsSolid, solid_above, solid_from}
+use Rattle.scode_fine.proofs.Facts.{Facts, solid_above}
 use Rattle.scode_fine.proofs.Has.{each_back, each_front}
 use Rattle.scode_fine.proofs.Parts.{back_walks, begun_walks, drop_walks, last_walks, over_walks, test_walks}
 use Rattle.scode_fine.proofs.PlainOps.{equal_does, int_does, turn_does}
@@ -283,7 +285,7 @@ module _ (g : Ground) (c : Context) (w : Site) (f : Facts g c w) where
         let next = at + expr_size w e in
         let ends = mark (next + 1) [] ∷ [] in
         let low_one : length (cell_of (kind_of e) ∷ []) ≤ g.m.stack = omega (arith, le) in
-        let solid = solid_from c.program (kind_of e) c.result h.1 (solid_result c.result h.2) in
+        let solid = goes_solid c.program (kind_of e) c.result h.1 (solid_result c.result h.2) in
         both (to_stack (solid_above (kind_of e) [] solid) (expr_walks g c w f [] at e h.0 (each_front (Tells g c w f) (expr_marks w [] at e) ends t) (omega (arith, le))))
         (behind at (expr_size w e) (expr_code w at e) (expr_sized w at e))
         (Runs {to = next + 1} (answer_does g next (cell_of (kind_of e)) [] (f.answers (kind_of e) [] h.2 h.1) low_one) refl

@@ -11,6 +11,7 @@ use Rattle.sed_typed.specs.Kinds.{read_kind}
 use Rattle.sed_typed.specs.TypedExpr.{Context, GoesTo}
 use Rattle.scode_image.specs.declared.image.ImageKind.{ImageKind}
 use Rattle.scode_code.specs.Kinds.{all_go, goes_to, int}
+use Rattle.scode_code.proofs.Verifies.{all_go_to_themselves, goes_to_itself}
 use Rattle.scode_ops.specs.declared.op.Op.{Op}
 use Rattle.scode_ops.specs.declared.op.Op.TheVariants as op
 use Rattle.scode_emit.specs.declared.storage.Storage.{Storage}
@@ -21,7 +22,6 @@ use Rattle.scode_emit.proofs.Counts.{count}
 use Rattle.scode_entries.specs.Entries.{cell_of}
 use Rattle.scode_fine.proofs.Builds.{Does, dup_does, load_does, store_does}
 use Rattle.scode_fine.proofs.Facts.{Facts, goes_read}
-use Rattle.scode_fine.proofs.Goings.{all_go_itself, goes_to_itself}
 use Rattle.scode_fine.proofs.PlainOps.{to_byte_does, to_short_does}
 use Rattle.scode_fine.proofs.Walks.{Ground, Stack, Stops, Walks, onto, only, runs}
 
@@ -56,7 +56,7 @@ module _ (g : Ground) (c : Context) (w : Site) (f : Facts g c w) where
   wait_does : (p : Primitive) (below : Stack) → Does g (op.Store (waiting w p)) (cell_of (read_kind p) ∷ below) below
   wait_does p below =
       store_does g (waiting w p) (cell_of (read_kind p)) (cell_of (read_kind p)) below below (f.waits p)
-      (goes_to_itself g.image (cell_of (read_kind p))) (all_go_itself g.image below)
+      (goes_to_itself g.image (cell_of (read_kind p))) (all_go_to_themselves g.image below)
 
   waited_does : (p : Primitive) (below : Stack) → Does g (op.Load (waiting w p)) below (cell_of (read_kind p) ∷ below)
   waited_does p below = load_does g (waiting w p) (cell_of (read_kind p)) below (f.waits p)
@@ -70,7 +70,7 @@ module _ (g : Ground) (c : Context) (w : Site) (f : Facts g c w) where
   wait_index : (below : Stack) → Does g (op.Store (waiting_index w)) (int ∷ below) below
   wait_index below =
       store_does g (waiting_index w) int int below below f.waits_index (goes_to_itself g.image int)
-      (all_go_itself g.image below)
+      (all_go_to_themselves g.image below)
 
   waited_index : (below : Stack) → Does g (op.Load (waiting_index w)) below (int ∷ below)
   waited_index below = load_does g (waiting_index w) int below f.waits_index
@@ -108,7 +108,7 @@ module _ (g : Ground) (c : Context) (w : Site) (f : Facts g c w) where
       Walks g at (Some (cell_of l ∷ stack)) (put_code s) [] [] (Some below)
   put_walks at l (AsLocal {i = i} {k = k} {below = below} e) goes low =
       only (store_does g i (cell_of l) (cell_of k) below below (f.locals i k e) (f.goes l k goes)
-      (all_go_itself g.image below) at (omega (arith, low)) (omega (arith, low)))
+      (all_go_to_themselves g.image below) at (omega (arith, low)) (omega (arith, low)))
   put_walks at l (AsField {p = p} {offset = offset} {below = below} o get put) goes low =
       subst (λ (k : Kind). Walks g at (Some (cell_of k ∷ o ∷ below)) (put_op p offset ∷ []) [] [] (Some below))
       (sym (goes_read c.program l p goes)) (only (put below at (omega (arith, low)) (omega (arith, low))))
@@ -134,7 +134,7 @@ module _ (g : Ground) (c : Context) (w : Site) (f : Facts g c w) where
   keep_walks at l (AsLocal {i = i} {k = k} {below = below} e) goes low =
       runs (dup_does g (cell_of l) below at (omega (arith, low)) (omega (arith, low)))
       (only (store_does g i (cell_of l) (cell_of k) (cell_of l ∷ below) (cell_of k ∷ below) (f.locals i k e) (f.goes l k goes)
-      (and_from (goes_to g.image (cell_of l) (cell_of k)) (all_go g.image below below) (f.goes l k goes) (all_go_itself g.image below))
+      (and_from (goes_to g.image (cell_of l) (cell_of k)) (all_go g.image below below) (f.goes l k goes) (all_go_to_themselves g.image below))
       _ (omega (arith, low)) (omega (arith, low))))
   keep_walks at l (AsField {p = p} {offset = offset} {below = below} o get put) goes low =
       subst (λ (k : Kind). Walks g at (Some (cell_of k ∷ o ∷ below)) (around w p (put_op p offset)) [] [] (Some (cell_of (read_kind p) ∷ below)))
@@ -167,7 +167,7 @@ module _ (g : Ground) (c : Context) (w : Site) (f : Facts g c w) where
   behind_walks {k = k} at New s goes low = keep_walks at k s goes low
   behind_walks at Old (AsLocal {i = i} {k = k} {below = below} e) goes low =
       only (store_does g i (cell_of k) (cell_of k) (cell_of k ∷ below) (cell_of k ∷ below) (f.locals i k e)
-      (goes_to_itself g.image (cell_of k)) (all_go_itself g.image (cell_of k ∷ below)) at (omega (arith, low)) (omega (arith, low)))
+      (goes_to_itself g.image (cell_of k)) (all_go_to_themselves g.image (cell_of k ∷ below)) at (omega (arith, low)) (omega (arith, low)))
   behind_walks at Old (AsField {p = p} {below = below} o get put) goes low =
       runs (put below at (omega (arith, low)) (omega (arith, low)))
       (only (waited_does p below _ (omega (arith, low)) (omega (arith, low))))

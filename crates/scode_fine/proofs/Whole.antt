@@ -27,6 +27,7 @@ use Rattle.scode_entries.specs.declared.marks.Mark.{Mark}
 use Rattle.scode_entries.specs.Entries.{body_marks, each_once, mark, stmt_marks}
 use Rattle.scode_entries.specs.Method.{entry_of, image_method, local_kinds}
 use Rattle.scode_entries.specs.Stack.{body_stack, stmt_stack}
+use Rattle.scode_made.proofs.MadeMethods.{by_two}
 use Rattle.scode_fine.proofs.Bodies.{body_walks}
 use Rattle.scode_fine.proofs.Clean.{clean}
 use Rattle.scode_fine.proofs.Exprs.{Tells}
@@ -35,7 +36,7 @@ use Rattle.scode_fine.proofs.Grounds.{context, facts, ground}
 use Rattle.scode_fine.proofs.Has.{Has, each_of}
 use Rattle.scode_fine.proofs.Images.{Known}
 use Rattle.scode_fine.proofs.MarkEntries.{marks_enter}
-use Rattle.scode_fine.proofs.Methods.{by_two, method_is}
+use Rattle.scode_fine.proofs.Methods.{method_is}
 use Rattle.scode_fine.proofs.Orders.{ordered}
 use Rattle.scode_fine.proofs.Points.{Coded}
 use Rattle.scode_fine.proofs.Stmts.{turns_of}

@@ -43,11 +43,11 @@ use Rattle.scode_made.proofs.Rows.{class_at, fields_past}
 -- ---- where a field's bytes stand
 
 -- behind the bytes of the fields before it stand its own
-pub record StandsAt (g : Field → List ℕ) (all : List Field) (behind : List ℕ) (i : ℕ) (f : Field) : Type 0 where
-  pub rest : List ℕ
-  pub is : drop (sum_by (λ x. length (g x)) (take i all)) (flat_map g all ++ behind) ≡ g f ++ rest
+record StandsAt (g : Field → List ℕ) (all : List Field) (behind : List ℕ) (i : ℕ) (f : Field) : Type 0 where
+  rest : List ℕ
+  is : drop (sum_by (λ x. length (g x)) (take i all)) (flat_map g all ++ behind) ≡ g f ++ rest
 
-pub stands_at : (g : Field → List ℕ) (all : List Field) (behind : List ℕ) (i : ℕ) (f : Field) → slice_get all i ≡ Some f → StandsAt g all behind i f
+stands_at : (g : Field → List ℕ) (all : List Field) (behind : List ℕ) (i : ℕ) (f : Field) → slice_get all i ≡ Some f → StandsAt g all behind i f
 stands_at g [] behind i f at = let never : ⊥ = cc in absurd never
 stands_at g (x ∷ xs) behind zero f at =
     record {
@@ -67,7 +67,7 @@ stands_at g (x ∷ xs) behind (suc i) f at =
           ∙ later.is;
     }
 
-pub sums_before : (a b : Field → ℕ) (all : List Field) → ((i : ℕ) (f : Field) → slice_get all i ≡ Some f → a f ≡ b f) → (i : ℕ) → sum_by a (take i all) ≡ sum_by b (take i all)
+sums_before : (a b : Field → ℕ) (all : List Field) → ((i : ℕ) (f : Field) → slice_get all i ≡ Some f → a f ≡ b f) → (i : ℕ) → sum_by a (take i all) ≡ sum_by b (take i all)
 sums_before a b [] h i = by_many i
   where
     by_many : (n : ℕ) → sum_by a (take n []) ≡ sum_by b (take n [])
@@ -78,6 +78,30 @@ sums_before a b (x ∷ xs) h (suc i) =
     let rest = sums_before a b xs (λ k f at. h (suc k) f at) i in
     let here : a x ≡ b x = h 0 x refl in
     omega (arith, sum_by-cons a x (take i xs), sum_by-cons b x (take i xs), here, rest)
+
+-- fields of which each begins where those before it end: at each stand its first bytes
+pub first_bytes_stand : (program : Program) → Typed program → (depth : ℕ) (behind : List ℕ) (all : List Field)
+    (offset : ℕ → ℕ) → All (IsField program) all →
+    ((i : ℕ) (f : Field) → slice_get all i ≡ Some f
+    → form_size (data_within program depth) f.form ≡ field_width program f) →
+    ((i : ℕ) → offset i ≡ sum_by (field_width program) (take i all)) →
+    (i : ℕ) (f : Field) → slice_get all i ≡ Some f →
+    (rest : List ℕ) × (drop (offset i) (fields_bytes (object_bytes program depth) all ++ behind)
+    ≡ field_bytes (object_bytes program depth) f.form f.initial ++ rest)
+first_bytes_stand program typed depth behind all offset known same at_offset i f at =
+    let stands = stands_at own all behind i f at in
+    let begins : offset i ≡ sum_by (λ x. length (own x)) (take i all) =
+    at_offset i ∙ sums_before (field_width program) (λ x. length (own x)) all as_many i in
+    (stands.rest, ap (λ (n : ℕ). drop n (fields_bytes (object_bytes program depth) all ++ behind)) begins ∙ stands.is)
+  where
+    own : Field → List ℕ
+    own x = field_bytes (object_bytes program depth) x.form x.initial
+
+    as_many : (k : ℕ) (x : Field) → slice_get all k ≡ Some x → field_width program x ≡ length (own x)
+    as_many k x there =
+        let is : IsField program x = all_at (IsField program) all k x there known in
+        sym (field_many (data_within program depth) (object_bytes program depth)
+        (objects_many program typed depth) x.form x.initial is.initial ∙ same k x there)
 
 -- ---- fields
 
@@ -192,14 +216,6 @@ module _ (program : Program) (typed : Typed program) (sums : (class : ℕ) → d
       bytes : List ℕ
       bytes = fields_bytes first all ++ behind
 
-      own : Field → List ℕ
-      own f = field_bytes first f.form f.initial
-
-      as_many : (i : ℕ) (f : Field) → slice_get all i ≡ Some f → field_width program f ≡ length (own f)
-      as_many i f at =
-          let is : IsField program f = all_at (IsField program) all i f at known in
-          sym (field_many (data_within program depth) first (objects_many program typed depth) f.form f.initial is.initial ∙ same i f at)
-
       is_read : (i : ℕ) (f : Field) (behind : List ℕ) (g : FieldForm) → IsForm program f g → form_size (data_within program depth) g ≡ form_size (data_size program) g →
           IsRead (object_held (image_of program) depth) first (object_begun program depth) (path ++ i ∷ []) behind bytes (offset i) g
       is_read i f behind (form.Prim p) is full = tt
@@ -212,10 +228,9 @@ module _ (program : Program) (typed : Typed program) (sums : (class : ℕ) → d
           field_held (object_held (image_of program) depth) (path ++ i ∷ []) f.form bytes (offset i) ≡ begun (object_begun program depth) (path ++ i ∷ []) f.form f.initial
       one i f at =
           let is : IsField program f = all_at (IsField program) all i f at known in
-          let stands = stands_at own all behind i f at in
-          let here : offset i ≡ sum_by (λ x. length (own x)) (take i all) = at_offset i ∙ sums_before (field_width program) (λ x. length (own x)) all as_many i in
-          field_back (object_held (image_of program) depth) first (object_begun program depth) (path ++ i ∷ []) stands.rest bytes (offset i) f.form f.initial is.initial
-          (is_read i f stands.rest f.form is.form (same i f at)) (ap (λ (n : ℕ). drop n bytes) here ∙ stands.is)
+          let stands = first_bytes_stand program typed depth behind all offset known same at_offset i f at in
+          field_back (object_held (image_of program) depth) first (object_begun program depth) (path ++ i ∷ []) stands.0 bytes (offset i) f.form f.initial is.initial
+          (is_read i f stands.0 f.form is.form (same i f at)) stands.1
 
   objects_read : (depth : ℕ) → depth ≤ levels → AreRead depth
   objects_read zero h class path behind full = refl

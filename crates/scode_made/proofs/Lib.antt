@@ -1,5 +1,4 @@
 pub mod Places
-pub mod Laid
 pub mod Rows
 pub mod PlacedFields
 pub mod MadeFields

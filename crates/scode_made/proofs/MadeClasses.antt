@@ -15,7 +15,7 @@ use Rattle.scode_emit.specs.Rows.{offset_at, room_at}
 use Rattle.scode_gen.specs.Generated.{image_layout, image_of}
 use Rattle.scode_gen.specs.ImageFields.{class_fields}
 use Rattle.scode_sim.specs.Made.{HasFields}
-use Rattle.scode_made.proofs.Laid.{IsLaid}
+use Rattle.scode_made.specs.Laid.{IsLaid}
 use Rattle.scode_made.proofs.MadeFields.{placed_has}
 use Rattle.scode_made.proofs.MadeStatics.{stand_apart}
 use Rattle.scode_made.proofs.Offsets.{offset_said}

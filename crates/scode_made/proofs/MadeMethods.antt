@@ -1,6 +1,6 @@
 -- A method as it stands in the image: its receiver, its parameters, and what its locals begin as.
 use Rattle.std.proofs.Common.{◌≡◌, ℕ, ◌+◌, ◌%◌, ◌==◌, Bool, true, false, not, cond, List, [], ◌∷◌, ◌++◌, map, pos, Option, Some, None, refl, ap, sym, subst, ◌∙◌}
-use Rattle.std.specs.Prelude.{All, IfSome, is_none, slice_get}
+use Rattle.std.specs.Prelude.{All, IfSome, is_none, nat_le, slice_get}
 use Rattle.std.specs.Option.{option_map, option_map_or}
 use Rattle.std.proofs.lemmas.List.{length-map}
 use Rattle.std.proofs.lemmas.List.Elements.{All-append, All-cons, All-head, All-nil, All-tail}
@@ -12,6 +12,7 @@ use Rattle.sed_typed.specs.declared.program.Program.{Program}
 use Rattle.sed_typed.specs.declared.statement.Stmt.{Stmt}
 use Rattle.sed_typed.specs.Locals.{Declared, declared_in}
 use Rattle.sed_typed.specs.Typed.{IsBody, IsMethod, IsStorable, Typed, declared_by, locals_of, receiver_of}
+use Rattle.sed_typed.specs.TypedExpr.{IsKindOf}
 use Rattle.sed_engine.specs.Values.{Val, Truth, Int, Long, zero_of}
 use Rattle.scode_code.specs.Calls as machine
 use Rattle.scode_entries.specs.Entries.{cell_of}
@@ -43,13 +44,34 @@ locals_begin program (k ∷ ks) h =
     ap (λ (v : Val). v ∷ map machine.zero_of (map cell_of ks ++ waiting_kinds)) (zero_is program k (All-head (IsStorable program) k ks h))
     ∙ ap (λ (vs : List Val). zero_of k ∷ vs) (locals_begin program ks (All-tail (IsStorable program) k ks h))
 
+-- ---- flags: 1 says that a method has a receiver, and 2 that it has no body
+
 pub by_flags : (static abstract : Bool) → (((cond static 0 1) + (cond abstract 2 0)) % 2 == 1) ≡ not static
 by_flags true true = refl
 by_flags true false = refl
 by_flags false true = refl
 by_flags false false = refl
 
+pub by_two : (static abstract : Bool) → nat_le 2 ((cond static 0 1) + (cond abstract 2 0)) ≡ abstract
+by_two true true = refl
+by_two true false = refl
+by_two false true = refl
+by_two false false = refl
+
+pub with_body : (o : Option Stmt) → (o ≡ None → ⊥) → is_none o ≡ false
+with_body None h = absurd (h refl)
+with_body (Some body) h = refl
+
 -- ---- methods
+
+-- what is stored is of a kind of the program
+pub storable_kind : (program : Program) (k : Kind) → IsStorable program k → IsKindOf program k
+storable_kind program kind.Void h = absurd h
+storable_kind program kind.Bool h = tt
+storable_kind program kind.Int h = tt
+storable_kind program kind.Long h = tt
+storable_kind program kind.Text h = tt
+storable_kind program (kind.Object class) h = h
 
 -- no local is void
 pub storable : (program : Program) (m : Method) → IsMethod program m → All (IsStorable program) (locals_of m)

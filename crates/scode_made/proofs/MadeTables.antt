@@ -20,7 +20,7 @@ use Rattle.scode_image.specs.declared.image.ImageClass.{ImageClass}
 use Rattle.scode_code.specs.Calls.{table_method}
 use Rattle.scode_emit.specs.Rows.{place_at}
 use Rattle.scode_gen.specs.Generated.{image_layout, image_of}
-use Rattle.scode_made.proofs.Laid.{IsTabled}
+use Rattle.scode_made.specs.Laid.{IsTabled}
 use Rattle.scode_made.proofs.Places.{all_at}
 use Rattle.scode_made.proofs.Rows.{class_at, row_at}
 use Rattle.scode_made.proofs.TablePlaces.{method_place}

@@ -39,7 +39,7 @@ use Rattle.scode_image.specs.declared.image.ImageSlot.{ImageSlot}
 use Rattle.scode_code.specs.Root as machine
 use Rattle.scode_gen.specs.Generated.{image_of}
 use Rattle.scode_gen.specs.ImageSlots.{image_slot, image_slots, slot_place}
-use Rattle.scode_made.proofs.Laid.{IsTabled}
+use Rattle.scode_made.specs.Laid.{IsTabled}
 use Rattle.scode_made.proofs.MadeSchema.{schema_back}
 use Rattle.scode_made.proofs.MadeTables.{in_table, placed}
 use Rattle.scode_made.proofs.Places.{numbered}

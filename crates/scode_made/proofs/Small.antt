@@ -21,7 +21,7 @@ use Rattle.scode_entries.specs.Small.{HasSmallNumbers}
 use Rattle.scode_gen.specs.Generated.{image_layout}
 use Rattle.scode_gen.specs.ImageFields.{class_fields, fields_placed, image_field}
 use Rattle.scode_sim.specs.Made.{room_of_form}
-use Rattle.scode_made.proofs.Laid.{IsLaid}
+use Rattle.scode_made.specs.Laid.{IsLaid}
 use Rattle.scode_made.proofs.MadeFields.{offset_there, room_there}
 use Rattle.scode_made.proofs.Places.{all_at}
 use Rattle.scode_made.proofs.PlacedFields.{placed_at}

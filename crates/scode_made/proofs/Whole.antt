@@ -7,7 +7,7 @@ use Rattle.scode_ops.specs.Codes.{IsOp}
 use Rattle.scode_emit.specs.Method.{code_of}
 use Rattle.scode_gen.specs.Generated.{image_layout, image_of}
 use Rattle.scode_sim.specs.Made.{IsMade}
-use Rattle.scode_made.proofs.Laid.{IsLaid, IsTabled}
+use Rattle.scode_made.specs.Laid.{IsLaid, IsTabled}
 use Rattle.scode_made.proofs.MadeClasses.{classes_have, inherited_stay}
 use Rattle.scode_made.proofs.MadeMethods.{methods_made}
 use Rattle.scode_made.proofs.MadeStatics.{statics_have}

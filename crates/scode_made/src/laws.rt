@@ -19,6 +19,7 @@ ghost use Rattle.scode_code.specs.Steps.{steps};
 ghost use Rattle.scode_code.specs.Tables.{schema_of};
 ghost use Rattle.scode_entries.specs.Cases.{EachCaseOf, Has32Bits};
 ghost use Rattle.scode_gen.specs.Generated.{IsShort, image_layout, image_of};
+ghost use Rattle.scode_made.specs.Laid.{IsLaid, IsTabled};
 ghost use Rattle.scode_sim.specs.Made.{IsMade};
 ghost use Rattle.scode_sim.specs.Reaches.{IsOver, begun_with, setting_of};
 
@@ -36,14 +37,11 @@ use sed_layout::{
     virtual_methods_have_places,
 };
 
-/// Where the methods of a typed program are short, its image has what the compiler's law asks: its methods, its texts,
-/// its fields and statics, and its virtual methods at their places.
-pub fn images_are_made()
-    ensures { (program : AnyProgram) → Typed program → IsSpelledOut program
-        → All (λ (m : AnyMethod). EachCaseOf Has32Bits m.body) program.methods
-        → All (IsShort program) program.methods → IsMade program (image_layout program) (image_of program) }
+/// Of a typed program, all that the laws of layouts say of where its data lie, and of its tables of virtual methods.
+pub fn typed_programs_are_laid()
+    ensures laid { (program : AnyProgram) → Typed program → IsLaid program }
+    ensures tabled { (program : AnyProgram) → Typed program → IsTabled program }
 {
-    code_exists();
     fields_do_not_overlap();
     fields_lie_within();
     fields_take_bytes();
@@ -55,6 +53,17 @@ pub fn images_are_made()
     statics_lie_within();
     tables_have_each_virtual_method();
     virtual_methods_have_places();
+}
+
+/// Where the methods of a typed program are short, its image has what the compiler's law asks: its methods, its texts,
+/// its fields and statics, and its virtual methods at their places.
+pub fn images_are_made()
+    ensures { (program : AnyProgram) → Typed program → IsSpelledOut program
+        → All (λ (m : AnyMethod). EachCaseOf Has32Bits m.body) program.methods
+        → All (IsShort program) program.methods → IsMade program (image_layout program) (image_of program) }
+{
+    code_exists();
+    typed_programs_are_laid();
 }
 
 /// The image tells the kits, classes and slots of its program, and no others.
@@ -69,12 +78,8 @@ pub fn roots_run_the_same_methods()
     ensures { (program : AnyProgram) (q : Question) → Typed program → MayAsk (code_of program) q
         → machine.root_method (image_of program) q.class q.which ≡ root_method program q.class q.which }
 {
-    names_keep_their_places();
-    numbers_are_small();
-    places_hold_the_nearest_method();
     system_methods_have_the_first_places();
-    tables_have_each_virtual_method();
-    virtual_methods_have_places();
+    typed_programs_are_laid();
     what_may_be_asked();
 }
 

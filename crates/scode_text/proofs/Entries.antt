@@ -1,5 +1,5 @@
 -- The entries of a typed method have a spelling, and are not too many.
-use Rattle.std.proofs.Common.{◌≡◌, ℕ, suc, ◌+◌, ◌<◌, ◌≤◌, ◌==◌, Bool, true, false, if◌then◌else◌, List, [], ◌∷◌, length, map, slice_index, Option, Some, None, refl, subst, arith}
+use Rattle.std.proofs.Common.{◌≡◌, ℕ, suc, ◌+◌, ◌<◌, ◌≤◌, false, List, [], ◌∷◌, length, map, slice_index, Option, Some, None, refl, subst, arith}
 use Rattle.std.specs.Prelude.{All, IfSome}
 use Rattle.std.specs.List.Sorted.{IsStrictlyIncreasing}
 use Rattle.std.proofs.lemmas.List.{length-map, length-reverse}
@@ -16,29 +16,15 @@ use Rattle.scode_emit.specs.Site.{Layout, Site}
 use Rattle.scode_emit.specs.Sizes.{body_size, end_size, stmt_size}
 use Rattle.scode_emit.specs.Method.{site_of}
 use Rattle.scode_entries.specs.declared.marks.Mark.{Mark}
-use Rattle.scode_entries.specs.Entries.{body_marks, each_once, stmt_marks, with_mark, with_marks}
+use Rattle.scode_entries.specs.Entries.{body_marks, each_once, stmt_marks}
 use Rattle.scode_entries.specs.Method.{entry_of}
 use Rattle.scode_entries.proofs.Admits.{Each}
 use Rattle.scode_entries.proofs.Ascend.{Ascends, stmt_ascends}
 use Rattle.scode_entries.proofs.Tall.{body_within, stmt_low}
+use Rattle.scode_entries.proofs.Entering.{each_told}
 use Rattle.scode_text.proofs.ToldKinds.{IsToldKind, reversed_told, storable_are_kinds}
 use Rattle.scode_text.proofs.MarkKinds.{AreTold, stmt_told}
 use Rattle.scode_text.proofs.Parts.{AreToldFrom, entry_told}
-
--- ---- marks that are told once
-
-each_with : (P : Mark → Type 0) (told : List Mark) (m : Mark) → Each P told → P m → Each P (with_mark told m)
-each_with P [] m h p = (p, tt)
-each_with P (l ∷ []) m h p = cases (l.place == m.place)
-  where
-    cases : (b : Bool) → Each P (if b then l ∷ [] else l ∷ m ∷ [])
-    cases true = h
-    cases false = (h.0, (p, tt))
-each_with P (l ∷ k ∷ told) m h p = (h.0, each_with P (k ∷ told) m h.1 p)
-
-each_told : (P : Mark → Type 0) (told ms : List Mark) → Each P told → Each P ms → Each P (with_marks told ms)
-each_told P told [] h g = h
-each_told P told (m ∷ ms) h g = each_told P (with_mark told m) ms (each_with P told m h g.0) g.1
 
 -- ---- places
 

@@ -2,7 +2,6 @@ pub mod Forms
 pub mod Names
 pub mod Lists
 pub mod ToldKinds
-pub mod LinkKinds
 pub mod MarkKinds
 pub mod Parts
 pub mod Counted

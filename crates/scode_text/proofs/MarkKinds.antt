@@ -19,7 +19,7 @@ use Rattle.sed_typed.specs.Typed.{Typed}
 use Rattle.sed_typed.specs.TypedExpr.{Context, IsKindOf, IsExpr, IsPlace, IsLink, AreExprs, AreLinks}
 use Rattle.sed_typed.specs.TypedStmt.{Around, IsStmt, AreStmts, IsBegun, IsTest, IsLast, in_loop, in_switch}
 use Rattle.sed_engine.proofs.Below.{at_place}
-use Rattle.sed_engine.proofs.KindsThere.{kind_is_there}
+use Rattle.sed_engine.proofs.KindsThere.{kind_is_there, of_link, of_place}
 use Rattle.scode_image.specs.declared.image.ImageKind.{ImageKind}
 use Rattle.scode_code.specs.Kinds.{bool, object, statics}
 use Rattle.scode_emit.specs.Site.{Site}
@@ -29,7 +29,6 @@ use Rattle.scode_entries.specs.declared.marks.Mark.{Mark}
 use Rattle.scode_entries.specs.Entries.{mark, above, with_holder, with_index, with_place, with_wanted, with_old, expr_marks, place_marks, link_marks, exprs_marks, links_marks, drop_marks, part_marks, last_marks, stmt_marks, stmts_marks, labelled_marks}
 use Rattle.scode_entries.proofs.Admits.{Each, each-append}
 use Rattle.scode_text.proofs.ToldKinds.{IsToldKind, cell_told, object_told, plain_told, statics_told}
-use Rattle.scode_text.proofs.LinkKinds.{link_is_there, place_is_there}
 
 abbrev pub AreTold : List ImageKind → Type 0
 AreTold ks = Each IsToldKind ks
@@ -86,7 +85,7 @@ module _ (c : Context) (w : Site) (typed : Typed c.program) (known : c.class < l
   old_on : (g : Gives) (target : Place) (below : List ImageKind) → IsPlace c target → AreTold below → AreTold (with_old g target below)
   old_on g target below h b =
       let on = with_place target below in
-      above_told (place_kind target) (with_wanted g target on) (place_is_there c typed known locals target h) (wanted_told g target on h (place_on target below h b))
+      above_told (place_kind target) (with_wanted g target on) (of_place c typed known locals target h) (wanted_told g target on h (place_on target below h b))
 
   -- of `&&` and `||`
   truth_told : (below : List ImageKind) (at other : ℕ) (e : Expr) → AreTold below → AreToldMarks (expr_marks w below at e) →
@@ -171,7 +170,7 @@ module _ (c : Context) (w : Site) (typed : Typed c.program) (known : c.class < l
     links_told below at k (more_of-Link l ls) is h b =
         let next = at + link_size w k l in
         two (link_marks w below at k l) (links_marks w below next (link_kind l) ls) (link_told below at k l is h.0 b)
-        (links_told below next (link_kind l) ls (link_is_there c typed known locals l k h.0) h.1 b)
+        (links_told below next (link_kind l) ls (of_link c typed known locals l k h.0) h.1 b)
 
   -- ---- statements
 

@@ -16,6 +16,7 @@ use Rattle.scode_code.specs.Kinds.{plain, object, statics}
 use Rattle.scode_entries.specs.Entries.{cell_of}
 use Rattle.scode_entries.specs.Method.{waiting_kinds}
 use Rattle.scode_entries.proofs.Admits.{Each}
+use Rattle.scode_made.proofs.MadeMethods.{storable_kind}
 use Rattle.scode_text.proofs.Forms.{HasBytes, then_bytes, u1_to_bytes, u2_bytes}
 
 abbrev pub IsToldKind : ImageKind → Type 0
@@ -52,17 +53,8 @@ module _ (program : Program) (few : length program.schema.classes ≤ 1024) wher
   pub cells_told : (ks : List Kind) → All (IsKindOf program) ks → All IsToldKind (map cell_of ks)
   cells_told ks h = All-map IsToldKind cell_of ks (All-weaker (IsKindOf program) (λ (k : Kind). IsToldKind (cell_of k)) cell_told ks h)
 
--- what is stored is of a kind of the program
-storable_is_kind : (program : Program) (k : Kind) → IsStorable program k → IsKindOf program k
-storable_is_kind program variant.Void h = absurd h
-storable_is_kind program variant.Bool h = tt
-storable_is_kind program variant.Int h = tt
-storable_is_kind program variant.Long h = tt
-storable_is_kind program variant.Text h = tt
-storable_is_kind program (variant.Object class) h = h
-
 pub storable_are_kinds : (program : Program) (ks : List Kind) → All (IsStorable program) ks → All (IsKindOf program) ks
-storable_are_kinds program ks h = All-weaker (IsStorable program) (IsKindOf program) (storable_is_kind program) ks h
+storable_are_kinds program ks h = All-weaker (IsStorable program) (IsKindOf program) (storable_kind program) ks h
 
 pub waiting_told : All IsToldKind waiting_kinds
 waiting_told =

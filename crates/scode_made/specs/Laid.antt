@@ -1,6 +1,6 @@
 -- What the laws of layouts say of a program and of its tables.
-use Rattle.std.proofs.Common.{◌≡◌, ℕ, ◌+◌, ◌<◌, ◌≤◌, List, false, length, map, Some}
-use Rattle.std.specs.Prelude.{All, IsSomeAnd, IsTrue, is_some, slice_get}
+use Rattle.std.specs.Prelude.{◌≡◌, ◌+◌, ◌<◌, ◌≤◌, ℕ, false, List, length, map, Some, All, IsSomeAnd, IsTrue, is_some}
+use Rattle.std.specs.Prelude.{slice_get}
 use Rattle.std.specs.Option.{option_map_or}
 use Rattle.sed_typed.specs.declared.program.Field.{Field}
 use Rattle.sed_typed.specs.declared.program.Program.{Program}
@@ -30,7 +30,8 @@ pub record IsLaid (program : Program) : Type 0 where
 
 -- What they say of its tables.
 pub record IsTabled (program : Program) : Type 0 where
-  pub keeps_places : (above class : ℕ) → IsTrue (is_below program.schema.classes above class) → KeepsPlaces program above class
+  pub keeps_places : (above class : ℕ) → IsTrue (is_below program.schema.classes above class) →
+      KeepsPlaces program above class
   pub has_place : (class : ℕ) (name : List ℕ) →
       is_some (place_of program class name) ≡ option_map_or (λ m. m.is_virtual) (nearest program class name) false
   pub at_place : (class place : ℕ) (name : List ℕ) → place_of program class name ≡ Some place →
