@@ -5,3 +5,4 @@ pub mod Limits
 pub mod Reading
 pub mod Telling
 pub mod Opens
+pub mod Bytes

@@ -11,8 +11,8 @@ use Rattle.sed_typed.specs.declared.schema.SlotInfo.{SlotInfo}
 use Rattle.sed_engine.specs.Code.{Meaning}
 use Rattle.sed_engine.specs.Whole.{KeepsLimits}
 use Rattle.sed_wire.specs.Spelling.{can_be_held}
-use Rattle.prop_values.specs.Read.{CanBeHeld, config_type_of, types_in}
-use Rattle.prop_values.proofs.SchemaLemmas.{can_hold}
+use Rattle.node_table.specs.Read.{CanBeHeld, config_type_of, types_in}
+use Rattle.node_table.proofs.SchemaLemmas.{can_hold}
 use Rattle.comp_tree.specs.Application.{Link}
 use Rattle.comp_tree.specs.Parts.{class_bytes, link_bytes, no_id, u1, u2}
 use Rattle.app_file.specs.Reading.{IsFront}

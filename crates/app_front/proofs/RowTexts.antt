@@ -16,10 +16,10 @@ use Rattle.sed_typed.specs.declared.number.TypeNo.{TypeNo}
 use Rattle.sed_typed.specs.declared.schema.ClassInfo.{ClassInfo}
 use Rattle.sed_engine.specs.Code.{Meaning}
 use Rattle.sed_wire.specs.Text.{is_character, is_text}
-use Rattle.prop_values.specs.Properties.{config_types}
-use Rattle.prop_values.specs.Read.{types_in}
-use Rattle.prop_values.specs.Values.{spelling_of_all}
-use Rattle.prop_values.proofs.ConfigLemmas.{types_are_config}
+use Rattle.node_table.specs.Properties.{config_types}
+use Rattle.node_table.specs.Read.{types_in}
+use Rattle.node_table.specs.Values.{spelling_of_all}
+use Rattle.node_table.proofs.ConfigLemmas.{types_are_config}
 use Rattle.comp_tree.specs.Application.{Link}
 use Rattle.comp_tree.specs.Parts.{class_bytes, link_bytes, no_id, text, u1, u2}
 use Rattle.app_file.specs.Text.{id_text, row_text}

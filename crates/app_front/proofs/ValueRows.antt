@@ -8,8 +8,8 @@ use Rattle.sed_value.specs.declared.value.Value.{Value}
 use Rattle.sed_typed.specs.declared.schema.SlotInfo.{SlotInfo}
 use Rattle.sed_wire.specs.Reading.{Reads}
 use Rattle.sed_wire.specs.Spelling.{Spells}
-use Rattle.prop_values.specs.Read.{config_type_of, types_in}
-use Rattle.prop_values.proofs.ConfigLemmas.{IsNext, asked_next, next_slot}
+use Rattle.node_table.specs.Read.{config_type_of, types_in}
+use Rattle.node_table.proofs.ConfigLemmas.{IsNext, asked_next, next_slot}
 use Rattle.sed_wire.specs.Form.{pair_reads}
 use Rattle.sed_wire.specs.FormReading.{Reading, Found, Stuck, read_on}
 use Rattle.sed_wire.proofs.Rows.{with_front}

@@ -9,7 +9,7 @@ use Rattle.sed_value.specs.declared.value.Value.{Value}
 use Rattle.sed_wire.specs.Spelling.{SpellsValue, can_be_held}
 use Rattle.sed_wire.proofs.NumberLemmas.{written_spells, written_spells_signed}
 use Rattle.sed_wire.proofs.ValueLemmas.{OfType, of_bool, of_byte, of_short, of_int, of_long, of_buf, of_type, one_value}
-use Rattle.prop_values.specs.Values.{spelling_of, spelling_of_all}
+use Rattle.node_table.specs.Values.{spelling_of, spelling_of_all}
 use Rattle.app_front.specs.Rows.{AreOfTypes}
 use Rattle.app_front.specs.ValueForm as form
 use Rattle.app_front.proofs.Texts.{Texts}

@@ -8,3 +8,9 @@ pub mod LinkForm
 pub mod RowForm
 pub mod Rows
 pub mod ValueForm
+pub mod TreeRows
+pub mod Tree
+pub mod Chains
+pub mod Reached
+pub mod Visits
+pub mod Root

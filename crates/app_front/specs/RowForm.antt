@@ -15,7 +15,7 @@ use Rattle.sed_typed.specs.Classes.{slots}
 use Rattle.sed_typed.specs.Schemas.{numbered, type_at}
 use Rattle.sed_typed.specs.declared.number.TypeNo.{TypeNo}
 use Rattle.sed_typed.specs.declared.schema.ClassInfo.{ClassInfo}
-use Rattle.prop_values.specs.Read.{types_in}
+use Rattle.node_table.specs.Read.{types_in}
 use Rattle.sed_wire.specs.Form.{Form, given, only, seen_as, then, ◌&◌}
 use Rattle.sed_wire.specs.Leaves.{mark, number, text}
 use Rattle.comp_tree.specs.Parts.{no_id}

@@ -9,8 +9,8 @@ use Rattle.sed_value.specs.declared.kit.KitRef.{KitRef}
 use Rattle.sed_typed.specs.Schemas.{type_at}
 use Rattle.sed_typed.specs.declared.schema.ClassInfo.{ClassInfo}
 use Rattle.sed_engine.specs.Code.{Meaning}
-use Rattle.prop_values.specs.Properties.{config_types}
-pub use Rattle.prop_values.specs.Values.{AreOfTypes}
+use Rattle.node_table.specs.Properties.{config_types}
+pub use Rattle.node_table.specs.Values.{AreOfTypes}
 use Rattle.comp_tree.specs.Application.{Link}
 use Rattle.comp_tree.specs.Parts.{no_id}
 use Rattle.app_file.specs.Reading.{HasNoFront, HasWrongKits, IsFront}

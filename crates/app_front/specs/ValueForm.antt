@@ -21,8 +21,8 @@ use Rattle.sed_wire.specs.Number.{number_of}
 use Rattle.sed_wire.specs.Spelling.{Spells, SpellsValue}
 use Rattle.sed_wire.proofs.FrontLemmas.{number_of-below}
 use Rattle.sed_wire.proofs.ValueLemmas.{one_value}
-use Rattle.prop_values.specs.Values.{value_of}
-use Rattle.prop_values.proofs.ReadLemmas.{found}
+use Rattle.node_table.specs.Values.{value_of}
+use Rattle.node_table.proofs.ReadLemmas.{found}
 use Rattle.sed_wire.specs.Form.{Form, begins_again, field, found_eq, given, not_found, not_stuck, stuck_eq, then}
 use Rattle.sed_wire.specs.FormReading.{Found, Stuck, ReadsAs}
 use Rattle.sed_wire.specs.Row.{listed}

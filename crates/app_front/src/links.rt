@@ -3,11 +3,11 @@ ghost use Rattle.std.specs.Prelude.{◌≡◌};
 ghost use Rattle.sed_wire.specs.Gives.{Gives};
 ghost use Rattle.app_front.specs.LinkForm as form;
 
-use link_table::LinkRec;
 use sed_value::{Id, Items};
 use sed_wire::fields::{mark_1, u1, u2};
 use sed_wire::{Halt, Reader};
 use std::alloc::Global;
+use sub_table::LinkRec;
 
 // The links up to the mark behind them, where they are fewer than so many.
 pub(crate) fn links(alloc: Global, reader: &mut Reader, most: usize) -> Result<Items<LinkRec>, Halt>

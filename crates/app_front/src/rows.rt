@@ -1,8 +1,8 @@
 //! Components as a file tells of them.
 
-use link_table::LinkRec;
 use sed_typed::TypeNo;
 use sed_value::{Id, Items, Name, Value};
+use sub_table::LinkRec;
 
 /// A component as a file tells of it: its id, its class, its name, its parent, its first child and the sibling behind
 /// it, where there is one, and the values of its config properties in the order of the slots.

@@ -2,7 +2,7 @@
 ghost use Rattle.std.specs.Prelude.{◌≡◌, ◌<◌, IfSome, IsTrue, length, slice_get};
 ghost use Rattle.std.specs.Option.{option_and_then};
 ghost use Rattle.sed_wire.specs.Spelling.{can_be_held};
-ghost use Rattle.prop_values.specs.Read.{CanBeHeld, config_type_of, types_in};
+ghost use Rattle.node_table.specs.Read.{CanBeHeld, config_type_of, types_in};
 ghost use Rattle.sed_wire.specs.Gives.{Gives};
 ghost use Rattle.app_front.specs.ValueForm as form;
 

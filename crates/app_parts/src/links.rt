@@ -5,11 +5,11 @@ ghost use Rattle.std.specs.List.{flat_map};
 ghost use Rattle.comp_tree.specs.Parts.{link_bytes, link_part, links_at};
 
 use link_prop::App;
-use link_table::LinkRec;
 use sed_engine::Engine;
 use sed_value::Id;
 use sed_value::limits::MOST_LINKS_AT_COMPONENT;
 use sed_wire::Writer;
+use sub_table::LinkRec;
 
 // How many links there may be at a component.
 const MOST_AT_COMPONENT: u8 = MOST_LINKS_AT_COMPONENT as u8;

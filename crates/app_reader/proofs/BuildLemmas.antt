@@ -12,15 +12,15 @@ use Rattle.comp_tree.specs.Application.{Application, ById, children_of, data_siz
 use Rattle.comp_tree.specs.Loads.{AreToLoad, IsToLoad}
 use Rattle.comp_tree.specs.Shape.{IsTree}
 use Rattle.comp_tree.specs.declared.loaded.Loaded.{Loaded}
-use Rattle.row_tree.specs.Rows.{Ascend, place_of}
-use Rattle.row_tree.specs.Tree.{list_at}
-use Rattle.row_tree.specs.declared.rows.TreeRow.{TreeRow}
+use Rattle.app_front.specs.TreeRows.{Ascend, place_of}
+use Rattle.app_front.specs.Tree.{list_at}
+use Rattle.app_front.specs.declared.tree_rows.TreeRow.{TreeRow}
 use Rattle.app_file.specs.Formed.{IsFormed}
 use Rattle.app_file.specs.Limits.{limit_passed}
 use Rattle.app_front.specs.Rows.{IsToldRow}
 use Rattle.app_front.specs.declared.rows.FileRow.{FileRow}
-use Rattle.app_told.specs.FormedFile.{IsAppRow, IsOtherRow, tree_row, tree_rows}
-use Rattle.app_told.proofs.RowsById.{all_map, at_each, of_some}
+use Rattle.app_reader.specs.FormedFile.{IsAppRow, IsOtherRow, tree_row, tree_rows}
+use Rattle.app_reader.proofs.RowsById.{all_map, at_each, of_some}
 use Rattle.app_reader.specs.Entries.{entries_of, entry_of, id_there, places_of}
 use Rattle.app_reader.specs.Ready.{AreReady, application_told, components_told}
 use Rattle.app_reader.specs.declared.ready.FormedRows.{FormedRows}

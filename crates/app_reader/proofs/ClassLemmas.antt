@@ -6,7 +6,7 @@ use Rattle.sed_typed.specs.SysTypes.{app_type, component_type}
 use Rattle.sed_typed.specs.declared.schema.ClassInfo.{ClassInfo}
 use Rattle.sed_engine.specs.Code.{Meaning, is_creatable}
 use Rattle.comp_tree.specs.Refusals.{is_abstract_class, is_for_components, is_sys_type}
-pub use Rattle.app_told.proofs.Objects.{app_creatable}
+pub use Rattle.app_reader.proofs.Objects.{app_creatable}
 
 front_of : (a b c : Bool) → IsTrue (a && b && c) → IsTrue a
 front_of true b c is = refl

@@ -14,15 +14,15 @@ use Rattle.sed_engine.specs.Code.{Meaning}
 use Rattle.comp_tree.specs.Application.{Component}
 use Rattle.comp_tree.specs.declared.loaded.Loaded.{Loaded}
 use Rattle.comp_tree.specs.Loads.{loaded, loaded_component}
-use Rattle.row_tree.specs.Rows.{Ascend, id_at}
-use Rattle.row_tree.specs.Tree.{children_in, list_at}
-use Rattle.row_tree.specs.declared.rows.TreeRow.{TreeRow}
-use Rattle.row_tree.proofs.Places.{found_place}
+use Rattle.app_front.specs.TreeRows.{Ascend, id_at}
+use Rattle.app_front.specs.Tree.{children_in, list_at}
+use Rattle.app_front.specs.declared.tree_rows.TreeRow.{TreeRow}
+use Rattle.app_front.proofs.TreePlaces.{found_place}
 use Rattle.app_file.specs.Telling.{told_by, told_component, told_entries}
 use Rattle.app_front.specs.Rows.{told_row}
 use Rattle.app_front.specs.declared.rows.FileRow.{FileRow}
-use Rattle.app_told.specs.FormedFile.{tree_row, tree_rows}
-use Rattle.app_told.proofs.RowsById.{sorted_of}
+use Rattle.app_reader.specs.FormedFile.{tree_row, tree_rows}
+use Rattle.app_reader.proofs.RowsById.{sorted_of}
 use Rattle.app_reader.specs.Entries.{entries_of, entry_of, entry_with, ids_there, places_of}
 
 -- ---- one entry more

@@ -6,8 +6,8 @@ use Rattle.std.proofs.lemmas.Bool.Decides.{nat_tests}
 use Rattle.sed_engine.specs.Code.{Meaning}
 use Rattle.comp_tree.specs.Application.{data_size_of}
 use Rattle.app_file.specs.Limits.{first_passed, limit_passed, limits_passed}
-use Rattle.app_told.specs.FormedFile.{tree_rows}
-use Rattle.app_limits.specs.Passed.{passed_by}
+use Rattle.app_reader.specs.FormedFile.{tree_rows}
+use Rattle.app_reader.specs.Passed.{passed_by}
 use Rattle.app_reader.specs.Ready.{application_told, components_told}
 use Rattle.app_reader.specs.declared.ready.FormedRows.{FormedRows}
 use Rattle.sed_value.proofs.Truths.{or_left as first_false, or_right as rest_false}

@@ -8,8 +8,8 @@ use Rattle.app_file.specs.declared.refusal.AppRefusal.{AppRefusal}
 use Rattle.app_file.specs.declared.refusal.AppRefusal.TheVariants.{NotAnApp, WrongKits, OverLimit, Memory}
 use Rattle.app_front.specs.Rows.{AreRows, HasNoRows, IsRowsAnswer, IsRowsOutcome}
 use Rattle.app_front.specs.declared.rows.FileRows.{FileRows}
-use Rattle.app_told.specs.FormedFile.{IsFormedFile}
-use Rattle.app_told.specs.Tells.{AreToldBy, Tells}
+use Rattle.app_reader.specs.FormedFile.{IsFormedFile}
+use Rattle.app_reader.specs.Tells.{AreToldBy, Tells}
 
 module _ (m : Meaning) (bytes : List ℕ) where
   pub rows_found : (r : Result FileRows AppRefusal) → IsRowsOutcome m bytes r → IfOk r (λ f. AreRows m bytes f)

@@ -4,15 +4,15 @@ use Rattle.std.specs.List.{All}
 use Rattle.sed_typed.specs.Contents.{Contents}
 use Rattle.sed_engine.specs.Code.{Meaning}
 use Rattle.comp_tree.specs.Application.{Application, ById, Components}
-use Rattle.row_tree.specs.Reached.{StayWithin}
-use Rattle.row_tree.specs.Tree.{children_in}
+use Rattle.app_front.specs.Reached.{StayWithin}
+use Rattle.app_front.specs.Tree.{children_in}
 use Rattle.app_file.specs.Formed.{IsFormed}
 use Rattle.app_file.specs.Limits.{first_passed}
 use Rattle.app_file.specs.Telling.{told_application, told_by}
 use Rattle.app_front.specs.Rows.{IsToldRow}
-use Rattle.app_told.specs.FormedFile.{IsFormedFile, tree_rows}
-use Rattle.app_told.specs.Tells.{rows_told}
-use Rattle.app_limits.specs.Passed.{passed_by}
+use Rattle.app_reader.specs.FormedFile.{IsFormedFile, tree_rows}
+use Rattle.app_reader.specs.Tells.{rows_told}
+use Rattle.app_reader.specs.Passed.{passed_by}
 use Rattle.app_reader.specs.declared.ready.FormedRows.{FormedRows}
 
 -- the children of each id

@@ -7,9 +7,9 @@ ghost use Rattle.comp_tree.specs.Marks.{all_parts, marks_at};
 ghost use Rattle.app_reader.specs.Ready.{AreReady, components_told, tree_with};
 
 use crate::entries::entries;
+use crate::limits_of_rows_are_those_told;
 use crate::ready::FormedRows;
 use app_file::what_passes_no_limit_is_whole;
-use app_limits::limits_of_rows_are_those_told;
 use comp_tree::Tree;
 use sed_engine::{AddRefusal, Engine};
 use std::alloc::Global;

@@ -8,9 +8,9 @@ ghost use Rattle.link_prop.specs.Marks.{is_marked};
 ghost use Rattle.link_prop.specs.Marks.AppPart.{OfLinks};
 
 use crate::building::tree_built;
+use crate::limits_of_rows_are_those_told;
 use crate::ready::ready_rows;
 use app_file::{AppRefusal, what_passes_no_limit_is_whole};
-use app_limits::limits_of_rows_are_those_told;
 use link_prop::App;
 use sed_engine::{AddRefusal, Engine};
 use std::alloc::Global;

@@ -4,17 +4,15 @@ ghost use Rattle.sed_engine.specs.Code.{Meaning};
 ghost use Rattle.comp_tree.specs.Application.{Application};
 ghost use Rattle.app_file.specs.Reading.{IsRefusedFor, StandsFor};
 ghost use Rattle.app_front.specs.Rows.{AreRows};
-ghost use Rattle.app_told.specs.Tells.{Tells};
+ghost use Rattle.app_reader.specs.Tells.{Tells};
 ghost use Rattle.app_reader.specs.Ready.{AreReady, application_told};
 
-use app_file::AppRefusal;
-use app_formed::{formed, schema_can_be_told, tree_of};
-use app_front::{FileRows, read_rows};
-use app_limits::{limit_passed, limits_of_rows_are_those_told};
-use app_told::{
-    bytes_that_stand_are_rows, files_that_tell_are_formed, formed_files_tell, rows_that_tell_stand,
+use crate::{
+    bytes_that_stand_are_rows, files_that_tell_are_formed, formed, formed_files_tell, limit_passed,
+    limits_of_rows_are_those_told, rows_that_tell_stand, schema_can_be_told, tree_of,
 };
-use row_tree::TreeRefusal;
+use app_file::AppRefusal;
+use app_front::{FileRows, TreeRefusal, read_rows};
 use sed_engine::Engine;
 use sed_value::Items;
 use std::alloc::Global;

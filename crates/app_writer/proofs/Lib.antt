@@ -3,3 +3,7 @@ pub mod RowsLeft
 pub mod Siblings
 pub mod FoundRows
 pub mod Lengths
+pub mod FirstText
+pub mod NewStores
+pub mod SmallApp
+pub mod AlikeTexts

@@ -18,7 +18,7 @@ use Rattle.comp_tree.specs.Allowed.{IsKindToAdd, IsNewChild, MayAdd, child_rows,
 use Rattle.comp_tree.specs.Application.{Component, Components, children_of, greatest_depth, is_live, most_children, most_components, name_of, parent_of}
 use Rattle.comp_tree.specs.Held.{Nodes, by_id_of, component_of, name_in, parent_in}
 use Rattle.comp_tree.specs.Order.{depth, most_levels}
-use Rattle.prop_values.specs.Read.{refusal_of_values}
+use Rattle.node_table.specs.Read.{refusal_of_values}
 use Rattle.comp_tree.specs.Refusals.{config_types, config_types_of, first_refusal, is_abstract_class, is_child_named, is_for_components, passes_limit, refusals_of_add}
 use Rattle.comp_tree.specs.Values.{are_bad_values, have_long_buffer}
 use Rattle.comp_tree.proofs.EditLemmas.{children_is, first_refusal-append, name_is, or_else}

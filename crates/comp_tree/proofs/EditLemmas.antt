@@ -24,9 +24,9 @@ use Rattle.node_table.specs.declared.node.Node.{Node}
 use Rattle.comp_tree.specs.Application.{ById, Component, Components, change_at, children_of, name_of, object_of, parent_of, value_at, with_components}
 use Rattle.comp_tree.specs.Held.{Held, IsHeld, IsTreeOf, Nodes, IsPlaced, by_id_of, children_in, component_of, components_of, contents_at, name_in}
 use Rattle.comp_tree.specs.Links.{has_changed, store, with_value}
-use Rattle.prop_values.specs.Read.{AreTaken, IsRefusedValue}
+use Rattle.node_table.specs.Read.{AreTaken, IsRefusedValue}
 use Rattle.comp_tree.specs.Refusals.{action_argument, invoke_types, are_each_once, argument_types, first_refusal, ids_of, is_other_child_named, refusals_of_invoke, refusals_of_read, refusals_of_rename, refusals_of_reorder, refusals_of_write, write_types}
-use Rattle.prop_values.specs.Same.{is_same_value}
+use Rattle.node_table.specs.Same.{is_same_value}
 use Rattle.comp_tree.specs.Told.{IsGreatest}
 use Rattle.comp_tree.specs.Values.{are_bad_values, have_long_buffer, taken}
 use Rattle.comp_tree.proofs.HeldLemmas.{get-by_id, component_with}

@@ -17,7 +17,7 @@ use Rattle.sed_value.specs.declared.value.Value.{Value}
 use Rattle.sed_typed.specs.declared.number.TypeNo.{TypeNo}
 use Rattle.sed_engine.specs.declared.call.Place.{Place}
 use Rattle.sed_engine.specs.Code.{Meaning, Object, Places, new_object}
-use Rattle.prop_values.specs.Properties.{config_slots, with_slots}
+use Rattle.node_table.specs.Properties.{config_slots, with_slots}
 use Rattle.node_table.specs.declared.node.Node.{Node}
 use Rattle.comp_tree.specs.declared.loaded.Loaded.{Loaded}
 use Rattle.comp_tree.specs.Application.{ById, Component, children_of, data_size_of, is_live, parent_of}

@@ -7,7 +7,7 @@ use Rattle.std.specs.Ordering.{nat_cmp}
 use Rattle.std.specs.Cmp.{nat_cmp_total}
 pub use Rattle.std.proofs.lemmas.Option.{same_Some as some_is}
 pub use Rattle.sed_value.proofs.Orders.{tied_apart}
-pub use Rattle.prop_values.proofs.MapLemmas.{get_put, get_beside, put_same, put_twice}
+pub use Rattle.node_table.proofs.MapLemmas.{get_put, get_beside, put_same, put_twice}
 pub use Rattle.sed_value.proofs.Maps.{get-map_values, len-map_values, put_back, taken_out, kept_beside}
 
 module _ {V : Type 0} where

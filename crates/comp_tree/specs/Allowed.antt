@@ -10,8 +10,8 @@ use Rattle.sed_engine.specs.Code.{Meaning, is_creatable}
 use Rattle.comp_tree.specs.Application.{ById, Components, children_of, greatest_depth, is_live, most_children}
 use Rattle.comp_tree.specs.Application.{most_components}
 use Rattle.comp_tree.specs.Order.{depth}
-use Rattle.prop_values.specs.Properties.{config_types}
-use Rattle.prop_values.specs.Read.{refusal_of_values}
+use Rattle.node_table.specs.Properties.{config_types}
+use Rattle.node_table.specs.Read.{refusal_of_values}
 use Rattle.comp_tree.specs.Refusals.{first_refusal, has_no_type, is_abstract_type, is_child_named, passes_limit}
 use Rattle.comp_tree.specs.Refusals.{refusals_of_add}
 

@@ -10,7 +10,7 @@ use Rattle.sed_typed.specs.declared.schema.SlotForm.{SlotForm}
 use Rattle.sed_typed.specs.Contents.{Contents}
 pub use Rattle.node_table.specs.Limits.{most_children, most_components}
 use Rattle.sed_engine.specs.Code.{Meaning, Object, property_type, slot_form, slot_value}
-pub use Rattle.link_table.specs.Link.{Link, most_links}
+pub use Rattle.sub_table.specs.Link.{Link, most_links}
 
 -- a component: its class, its name, its parent, which the App alone has not, its children in their order, its values by
 -- path, and its fault, 0 where it has none

@@ -19,7 +19,7 @@ use Rattle.comp_tree.specs.Parts.{part_of, text, u1}
 use Rattle.comp_tree.specs.Refusals.{first_refusal, refusals_of_add, refusals_of_clear, refusals_of_delete}
 use Rattle.comp_tree.specs.Refusals.{refusals_of_invoke, refusals_of_link, refusals_of_part, refusals_of_read}
 use Rattle.comp_tree.specs.Refusals.{refusals_of_rename, refusals_of_reorder, refusals_of_unlink, refusals_of_write}
-use Rattle.prop_values.specs.Values.{spelling_of}
+use Rattle.node_table.specs.Values.{spelling_of}
 
 pub data Command : Type 0 where
   Add : (parent kit number : ℕ) (name config : List ℕ) → Command

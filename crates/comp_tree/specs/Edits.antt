@@ -16,9 +16,9 @@ use Rattle.comp_tree.specs.Application.{ById, Component, Components, change_at, 
 use Rattle.comp_tree.specs.Calls.{Call, Ran, call_each, run_at}
 use Rattle.comp_tree.specs.Links.{has_changed, store}
 use Rattle.comp_tree.specs.Order.{least_free, subtree}
-pub use Rattle.prop_values.specs.Properties.{first_of}
-use Rattle.prop_values.specs.Properties.{config_slots, config_types, with_slots}
-use Rattle.prop_values.specs.Values.{taken}
+pub use Rattle.node_table.specs.Properties.{first_of}
+use Rattle.node_table.specs.Properties.{config_slots, config_types, with_slots}
+use Rattle.node_table.specs.Values.{taken}
 use Rattle.comp_tree.specs.Refusals.{ids_of, invoke_types, write_types}
 
 -- ---- parts of a component that change

@@ -4,13 +4,13 @@ use Rattle.std.specs.List.{fold}
 use Rattle.sed_value.specs.SlotType.{goes_with}
 use Rattle.sed_value.specs.declared.slot_type.SlotType.{SlotType}
 use Rattle.sed_value.specs.declared.value.Value.{Value}
-pub use Rattle.link_table.specs.Links.{is_same_link, has_target, is_before, with_link, without_link, without_links_at}
-pub use Rattle.link_table.specs.Links.{links_into}
+pub use Rattle.sub_table.specs.Links.{is_same_link, has_target, is_before, with_link, without_link, without_links_at}
+pub use Rattle.sub_table.specs.Links.{links_into}
 use Rattle.sed_engine.specs.declared.call.Callback.TheVariants.{Changed}
 use Rattle.sed_engine.specs.Code.{Meaning, with_slot}
 use Rattle.comp_tree.specs.Application.{Component, Components, Link, change_at, object_of, value_at, with_components}
 use Rattle.comp_tree.specs.Calls.{Call, Counted, then_run}
-use Rattle.prop_values.specs.Same.{is_same_value}
+use Rattle.node_table.specs.Same.{is_same_value}
 
 -- ---- which slots go together
 

@@ -6,8 +6,8 @@ use Rattle.std.specs.FinMap as map
 use Rattle.sed_value.specs.declared.id.Id.{Id}
 use Rattle.sed_typed.specs.Contents.{Contents}
 use Rattle.sed_engine.specs.Code.{Meaning, is_creatable, new_object}
-use Rattle.prop_values.specs.Properties.{config_slots, config_types, with_slots}
-use Rattle.prop_values.specs.Values.{AreOfTypes}
+use Rattle.node_table.specs.Properties.{config_slots, config_types, with_slots}
+use Rattle.node_table.specs.Values.{AreOfTypes}
 use Rattle.comp_tree.specs.declared.loaded.Loaded.{Loaded}
 use Rattle.comp_tree.specs.Application.{ById, Component, Components, children_of, is_live, most_children}
 use Rattle.comp_tree.specs.Application.{most_components, parent_of}

@@ -6,13 +6,13 @@ use Rattle.sed_value.specs.declared.value.Value.{Value}
 use Rattle.sed_typed.specs.declared.schema.ClassInfo.{ClassInfo}
 use Rattle.sed_typed.specs.Contents.{Contents}
 use Rattle.sed_engine.specs.Code.{Meaning, new_object, slot_value}
-pub use Rattle.link_table.specs.Links.{links_at}
-pub use Rattle.prop_values.specs.Properties.{is_property_form, is_config, is_runtime, slots_that, config_slots}
-pub use Rattle.prop_values.specs.Properties.{runtime_slots, with_slots}
+pub use Rattle.sub_table.specs.Links.{links_at}
+pub use Rattle.node_table.specs.Properties.{is_property_form, is_config, is_runtime, slots_that, config_slots}
+pub use Rattle.node_table.specs.Properties.{runtime_slots, with_slots}
 pub use Rattle.sed_wire.specs.Number.{u1, u2}
 use Rattle.sed_value.specs.Mapped.{map_values}
 use Rattle.comp_tree.specs.Application.{Application, ById, Component, Link, object_of}
-use Rattle.prop_values.specs.Values.{spelling_of_all}
+use Rattle.node_table.specs.Values.{spelling_of_all}
 
 -- ---- the properties of a class
 

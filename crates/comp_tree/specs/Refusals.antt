@@ -23,15 +23,15 @@ use Rattle.sed_typed.specs.Schemas.{type_at as class_numbered}
 use Rattle.sed_typed.specs.SysTypes as typed
 use Rattle.sed_typed.specs.TypedSchema.{is_abstract}
 use Rattle.sed_engine.specs.Code.{Meaning}
-pub use Rattle.prop_values.specs.Properties.{config_types, argument_types}
-pub use Rattle.prop_values.specs.Rows.{first_refusal}
+pub use Rattle.node_table.specs.Properties.{config_types, argument_types}
+pub use Rattle.node_table.specs.Rows.{first_refusal}
 use Rattle.comp_tree.specs.Application.{ById, Components, Link, children_of, data_size_of, fault_of, form_at}
 use Rattle.comp_tree.specs.Application.{greatest_depth, is_live, most_children, most_components, most_links}
 use Rattle.comp_tree.specs.Application.{most_links_at_component, name_of, parent_of, type_at}
 use Rattle.comp_tree.specs.Links.{go_together_if_there, has_target, is_same_link}
 use Rattle.comp_tree.specs.Order.{depth}
 use Rattle.comp_tree.specs.Parts.{links_at}
-use Rattle.prop_values.specs.Values.{are_bad_values, have_long_buffer}
+use Rattle.node_table.specs.Values.{are_bad_values, have_long_buffer}
 
 -- ---- the conditions
 

@@ -8,8 +8,7 @@ ghost use Rattle.comp_tree.specs.Marks.{all_parts, marks_in, parts_at};
 ghost use Rattle.comp_tree.specs.Loads.{IsToLoad, loaded, loaded_component};
 
 use crate::loaded::Loaded;
-use node_table::{Children, Marks, Node, Nodes};
-use prop_values::store_values;
+use node_table::{Children, Marks, Node, Nodes, store_values};
 use sed_engine::{AddRefusal, Engine, Place};
 use sed_value::Id;
 

@@ -24,8 +24,7 @@ mod running;
 mod subtree;
 
 use crate::entry::Entry;
-use node_table::{Children, Marks, Node, Nodes};
-use prop_values::form_of;
+use node_table::{Children, Marks, Node, Nodes, form_of};
 use sed_engine::{AddRefusal, Engine, Place};
 use sed_typed::{Schema, SlotForm, SlotNo, TypeNo};
 use sed_value::{Id, Name, Refusal, SlotBuf};

@@ -5,3 +5,11 @@ pub mod ReaderLemmas
 pub mod SendingLemmas
 pub mod ShownLemmas
 pub mod WritingLemmas
+pub mod AheadLemmas
+pub mod DoneTo
+pub mod KeptLemmas
+pub mod NumberLemmas
+pub mod PostedLemmas
+pub mod ReceiverLemmas
+pub mod SenderLemmas
+pub mod TakenLemmas

@@ -9,3 +9,9 @@ pub mod Sending
 pub mod Shown
 pub mod View
 pub mod Writing
+pub mod Acks
+pub mod Numbers
+pub mod Posted
+pub mod Receiving
+pub mod Outgoing
+pub mod TakenIndexes

@@ -3,7 +3,7 @@ use Rattle.std.proofs.Common.{◌≡◌, ℕ, ◌+◌, ◌*◌, ◌/◌, ◌%◌
 use Rattle.std.specs.Prelude.{slice_index}
 use Rattle.std.specs.Int.{bit_at}
 use Rattle.std.proofs.lemmas.Nat.Bits.{bit_at-suc, bit_at_lowest}
-use Rattle.dasp_window.specs.Acks.{SaysMore}
+use Rattle.dasp_msg.specs.Acks.{SaysMore}
 use Rattle.dasp_session.specs.Letters.{taken_above, byte_above}
 use Rattle.dasp_session.specs.Hearing.{first_four}
 use Rattle.dasp_msg.specs.AckMore.{AreFirstFour}

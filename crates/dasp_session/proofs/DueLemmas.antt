@@ -6,10 +6,10 @@ use Rattle.std.specs.Option.{option_map}
 use Rattle.std.proofs.lemmas.Bool.{cases_Bool, and_left, and_right, or_parts, or_from, or_left, or_right, cond-true, cond-false, eq-eqb, ne_eqb}
 use Rattle.std.proofs.lemmas.Int.{ints}
 use Rattle.std.proofs.lemmas.List.Sums.{sum_by-cons}
-use Rattle.dasp_window.specs.declared.message.Message.{Message as Posted}
-use Rattle.dasp_window.specs.declared.due.Due.TheVariants.{Nothing, Resend, Spent}
-use Rattle.dasp_window.specs.Numbers.{wire_number}
-use Rattle.dasp_window.specs.Posted.{first_open, open_part, is_waiting, is_due, is_spent, first_due, due_from, due_of, message_of, bytes_at, sent_again, resent, after_resend}
+use Rattle.dasp_msg.specs.declared.outgoing.Message.{Message as Posted}
+use Rattle.dasp_msg.specs.declared.due.Due.TheVariants.{Nothing, Resend, Spent}
+use Rattle.dasp_msg.specs.Numbers.{wire_number}
+use Rattle.dasp_msg.specs.Posted.{first_open, open_part, is_waiting, is_due, is_spent, first_due, due_from, due_of, message_of, bytes_at, sent_again, resent, after_resend}
 use Rattle.dasp_msg.specs.Shown.{Message}
 use Rattle.dasp_session.specs.Letters.{datagram}
 use Rattle.dasp_session.specs.Session.{Session}

@@ -3,7 +3,7 @@ use Rattle.std.proofs.Common.{◌≡◌, true, false, List, [], ◌++◌, refl, 
 use Rattle.std.specs.List.{list_any}
 use Rattle.std.proofs.lemmas.List.{append-nil, map-append}
 use Rattle.sed_outside.specs.declared.addr.Addr.{Addr}
-use Rattle.dasp_window.specs.Posted.{is_spent}
+use Rattle.dasp_msg.specs.Posted.{is_spent}
 use Rattle.dasp_msg.specs.Shown.{Message}
 use Rattle.dasp_session.specs.declared.place.Place.{Place}
 use Rattle.dasp_session.specs.Doing.{Does, Goes, Resends, resends_of}

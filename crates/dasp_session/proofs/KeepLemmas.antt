@@ -2,13 +2,13 @@
 use Rattle.std.proofs.Common.{◌≡◌, ℕ, Bool, true, false, List, [], ◌∷◌, sym, ◌∙◌, ap, subst, ℤ}
 use Rattle.std.specs.Prelude.{Option, Some, is_some, ◌&&◌}
 use Rattle.std.proofs.lemmas.Bool.{cond-true, cond-false, and_from}
-use Rattle.dasp_users.specs.declared.user.User.{User}
-use Rattle.dasp_window.specs.declared.message.Message.{Message as Posted}
-use Rattle.dasp_window.specs.declared.receiver.Taken.{Taken}
-use Rattle.dasp_window.specs.Posted.{has_room}
-use Rattle.dasp_window.specs.Receiving.{GapBits, ReceivesLike}
-use Rattle.dasp_window.specs.Sending.{Window, SendsLike}
-use Rattle.dasp_window.specs.TakenIndexes.{taken_as}
+use Rattle.dasp_session.specs.declared.user.User.{User}
+use Rattle.dasp_msg.specs.declared.outgoing.Message.{Message as Posted}
+use Rattle.dasp_msg.specs.declared.receiver.Taken.{Taken}
+use Rattle.dasp_msg.specs.Posted.{has_room}
+use Rattle.dasp_msg.specs.Receiving.{GapBits, ReceivesLike}
+use Rattle.dasp_msg.specs.Outgoing.{Window, SendsLike}
+use Rattle.dasp_msg.specs.TakenIndexes.{taken_as}
 use Rattle.dasp_msg.specs.declared.kind.MsgKind.{MsgKind}
 use Rattle.dasp_msg.specs.Shown.{Message}
 use Rattle.dasp_session.specs.declared.handed.Effect.{Effect as Told}
@@ -17,7 +17,7 @@ use Rattle.dasp_session.specs.Closing.{not_known, timed_out}
 use Rattle.dasp_session.specs.Doing.{Does, IsEffect}
 use Rattle.dasp_session.specs.Hearing.{Step, nothing, silent, ends, hears, after_acks, is_proof, is_authenticated, refused, authenticated, taken_in, delivered, answered, in_session}
 use Rattle.dasp_session.specs.Keeping.{seen, Like}
-use Rattle.dasp_window.specs.Acks.{ack_of}
+use Rattle.dasp_msg.specs.Acks.{ack_of}
 use Rattle.dasp_msg.specs.declared.kind.MsgKind.TheVariants.{KeepAlive, Datagram}
 use Rattle.dasp_session.specs.Letters.{welcome, close, datagram, keep_alive, addressed, bare, with_acks, carrying, more_of}
 use Rattle.dasp_session.specs.Outbox.{Datagram as Text, Sends}

@@ -1,3 +1,6 @@
+pub mod BitLemmas
+pub mod LineLemmas
+pub mod FileLemmas
 pub mod AckLemmas
 pub mod DueLemmas
 pub mod GoesLemmas

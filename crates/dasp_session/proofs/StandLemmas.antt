@@ -4,11 +4,11 @@ use Rattle.std.specs.Prelude.{Option, Some, None, is_some, slice_get, ◌&&◌, 
 use Rattle.std.specs.Option.{option_map_or}
 use Rattle.std.proofs.lemmas.Bool.{cases_Bool, cond_both, cond-true, cond-false, both_ways, and_parts, ltb-true, eq-eqb}
 use Rattle.sed_outside.specs.declared.addr.Addr.{Addr}
-use Rattle.dasp_users.specs.declared.user.User.{User}
-use Rattle.dasp_window.specs.declared.receiver.Taken.{Taken}
-use Rattle.dasp_window.specs.declared.receiver.Taken.TheVariants.{New, Repeat, Outside}
-use Rattle.dasp_window.specs.Posted.{has_room}
-use Rattle.dasp_window.specs.TakenIndexes.{taken_as}
+use Rattle.dasp_session.specs.declared.user.User.{User}
+use Rattle.dasp_msg.specs.declared.receiver.Taken.{Taken}
+use Rattle.dasp_msg.specs.declared.receiver.Taken.TheVariants.{New, Repeat, Outside}
+use Rattle.dasp_msg.specs.Posted.{has_room}
+use Rattle.dasp_msg.specs.TakenIndexes.{taken_as}
 use Rattle.dasp_msg.specs.declared.kind.MsgKind.{MsgKind}
 use Rattle.dasp_msg.specs.declared.kind.MsgKind.TheVariants.{Hello, Challenge, Authenticate, Welcome, KeepAlive, Datagram, Close}
 use Rattle.dasp_msg.specs.Message.{IsMessage, IsMalformed}

@@ -1,7 +1,7 @@
 -- What a call does in one place.
 use Rattle.std.specs.Prelude.{◌≡◌, ℕ, ℤ, Bool, true, false, ◌&&◌, is_some, nat_lt, List, [], ◌++◌, length}
 use Rattle.std.specs.List.{list_any}
-use Rattle.dasp_window.specs.Posted.{is_spent}
+use Rattle.dasp_msg.specs.Posted.{is_spent}
 use Rattle.dasp_msg.specs.Shown.{Message}
 use Rattle.dasp_session.specs.declared.handed.Effect.{Effect as Kept}
 use Rattle.dasp_session.specs.declared.handed.Effect.TheVariants.{Nothing, Ended, Payload}

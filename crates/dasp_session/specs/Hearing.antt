@@ -3,14 +3,14 @@ use Rattle.std.specs.Prelude.{ℕ, ℤ, Bool, true, false, ◌&&◌, ◌||◌, n
 use Rattle.std.specs.Prelude.{slice_index, if◌then◌else◌}
 use Rattle.std.specs.Option.{option_map, option_map_or}
 use Rattle.std.specs.Cmp.Lexicographic.{pointwise}
-use Rattle.dasp_users.specs.declared.user.User.{User}
-use Rattle.dasp_users.specs.Digest.{digest_of}
-use Rattle.dasp_users.specs.UsersFile.{credential_of}
-use Rattle.dasp_window.specs.declared.message.Message.{Message as Posted}
-use Rattle.dasp_window.specs.declared.receiver.Taken.{Taken}
-use Rattle.dasp_window.specs.declared.receiver.Taken.TheVariants.{New, Repeat, Outside}
-use Rattle.dasp_window.specs.Posted.{has_room, after_ack}
-use Rattle.dasp_window.specs.TakenIndexes.{taken_as, after_take}
+use Rattle.dasp_session.specs.declared.user.User.{User}
+use Rattle.dasp_session.specs.Digest.{digest_of}
+use Rattle.dasp_session.specs.UsersFile.{credential_of}
+use Rattle.dasp_msg.specs.declared.outgoing.Message.{Message as Posted}
+use Rattle.dasp_msg.specs.declared.receiver.Taken.{Taken}
+use Rattle.dasp_msg.specs.declared.receiver.Taken.TheVariants.{New, Repeat, Outside}
+use Rattle.dasp_msg.specs.Posted.{has_room, after_ack}
+use Rattle.dasp_msg.specs.TakenIndexes.{taken_as, after_take}
 use Rattle.dasp_msg.specs.declared.kind.MsgKind.{MsgKind}
 use Rattle.dasp_msg.specs.declared.kind.MsgKind.TheVariants.{Hello, Challenge, Authenticate, Welcome, KeepAlive}
 use Rattle.dasp_msg.specs.declared.kind.MsgKind.TheVariants.{Datagram, Close}

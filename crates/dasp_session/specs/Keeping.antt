@@ -2,9 +2,9 @@
 use Rattle.std.specs.Prelude.{◌≡◌, ℕ, suc, ◌%◌, Bool, true, false, ◌&&◌, ◌==◌, is_none, Option, Some, None, List, []}
 use Rattle.std.specs.Prelude.{◌∷◌, ⊤}
 use Rattle.sed_outside.specs.declared.addr.Addr.{Addr}
-use Rattle.dasp_window.specs.declared.message.Message.{Message as Posted}
-use Rattle.dasp_window.specs.Receiving.{ReceivesLike}
-use Rattle.dasp_window.specs.Sending.{SendsLike}
+use Rattle.dasp_msg.specs.declared.outgoing.Message.{Message as Posted}
+use Rattle.dasp_msg.specs.Receiving.{ReceivesLike}
+use Rattle.dasp_msg.specs.Outgoing.{SendsLike}
 use Rattle.dasp_session.specs.declared.place.Place.{Place}
 use Rattle.dasp_session.specs.declared.place.Start.{Start}
 use Rattle.dasp_session.specs.Looking.{is_address}

@@ -1,8 +1,8 @@
 -- The messages that a node sends.
 use Rattle.std.specs.Prelude.{ℕ, ◌+◌, ◌*◌, Option, Some, None, List, [], ◌∷◌, map, codes, if◌then◌else◌}
 use Rattle.sed_outside.specs.declared.addr.Addr.{Addr}
-use Rattle.dasp_window.specs.Acks.{ack_of, digit}
-use Rattle.dasp_window.specs.TakenIndexes.{is_taken, is_ahead, first_gap}
+use Rattle.dasp_msg.specs.Acks.{ack_of, digit}
+use Rattle.dasp_msg.specs.TakenIndexes.{is_taken, is_ahead, first_gap}
 use Rattle.dasp_msg.specs.declared.kind.MsgKind.{MsgKind}
 use Rattle.dasp_msg.specs.declared.kind.MsgKind.TheVariants.{Challenge, Welcome, KeepAlive, Datagram, Close}
 use Rattle.dasp_msg.specs.Shown.{Message, without_fields}

@@ -1,6 +1,9 @@
-pub use Rattle.dasp_users.specs.Digest.{nonce_of, digest_of}
-pub use Rattle.dasp_users.specs.UsersFile.{credential_of}
-pub use Rattle.dasp_window.specs.Numbers.{wire_number}
+pub use Rattle.hex.specs.Hex.{encode_lower}
+pub use Rattle.sha1.specs.Sha1.{sha1}
+pub mod Digest
+pub mod Line
+pub mod UsersFile
+pub use Rattle.dasp_msg.specs.Numbers.{wire_number}
 pub use Rattle.dasp_msg.specs.Message.{IsMessage, IsMalformed}
 pub use Rattle.dasp_msg.specs.Sending.{IsSentAs}
 pub mod Closing

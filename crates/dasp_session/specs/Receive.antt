@@ -5,8 +5,8 @@ use Rattle.std.specs.Int.{int_max}
 use Rattle.std.specs.Option.{option_map_or}
 use Rattle.std.specs.Cmp.Lexicographic.{pointwise}
 use Rattle.sed_outside.specs.declared.addr.Addr.{Addr}
-use Rattle.dasp_users.specs.declared.user.User.{User}
-use Rattle.dasp_users.specs.Digest.{nonce_of}
+use Rattle.dasp_session.specs.declared.user.User.{User}
+use Rattle.dasp_session.specs.Digest.{nonce_of}
 use Rattle.dasp_msg.specs.declared.kind.MsgKind.{MsgKind}
 use Rattle.dasp_msg.specs.declared.kind.MsgKind.TheVariants.{Hello}
 use Rattle.dasp_msg.specs.Shown.{Message}

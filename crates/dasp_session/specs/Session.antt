@@ -1,8 +1,8 @@
 -- Sessions, with all that was ever taken and posted in them.
 use Rattle.std.specs.Prelude.{ℕ, ℤ, Bool, Option, List}
 use Rattle.sed_outside.specs.declared.addr.Addr.{Addr}
-use Rattle.dasp_users.specs.declared.user.User.{User}
-use Rattle.dasp_window.specs.declared.message.Message.{Message as Posted}
+use Rattle.dasp_session.specs.declared.user.User.{User}
+use Rattle.dasp_msg.specs.declared.outgoing.Message.{Message as Posted}
 
 pub record Session : Type 0 where
   pub id : ℕ

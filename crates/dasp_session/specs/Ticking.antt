@@ -2,9 +2,9 @@
 use Rattle.std.specs.Prelude.{ℕ, suc, ℤ, pos, ◌+ℤ◌, int_le, Bool, false, ◌&&◌, ◌||◌, not, Some, List, [], ◌∷◌, length}
 use Rattle.std.specs.Prelude.{map, if◌then◌else◌}
 use Rattle.std.specs.List.{list_any}
-use Rattle.dasp_window.specs.declared.message.Message.{Message as Posted}
-use Rattle.dasp_window.specs.Numbers.{wire_number}
-use Rattle.dasp_window.specs.Posted.{is_due, is_spent, sent_again, after_push}
+use Rattle.dasp_msg.specs.declared.outgoing.Message.{Message as Posted}
+use Rattle.dasp_msg.specs.Numbers.{wire_number}
+use Rattle.dasp_msg.specs.Posted.{is_due, is_spent, sent_again, after_push}
 use Rattle.dasp_msg.specs.Shown.{Message}
 use Rattle.dasp_session.specs.Closing.{timed_out}
 use Rattle.dasp_session.specs.Hearing.{Step, nothing, silent, ends}

@@ -2,8 +2,8 @@
 ghost use Rattle.std.specs.Prelude.{◌≡◌, ℕ, ◌+◌, ◌<◌, ◌≤◌, true, false, Some, List, [], length, MatchOption};
 ghost use Rattle.std.specs.Option.{option_map};
 ghost use Rattle.dasp_msg.specs.View.{message_of};
-ghost use Rattle.dasp_window.specs.declared.message.Message.{Message as Posted};
-ghost use Rattle.dasp_window.specs.Sending.{SendsLike};
+ghost use Rattle.dasp_msg.specs.declared.outgoing.Message.{Message as Posted};
+ghost use Rattle.dasp_msg.specs.Outgoing.{SendsLike};
 ghost use Rattle.dasp_session.specs.Session.{Session};
 ghost use Rattle.dasp_session.specs.Hearing as hearing;
 ghost use Rattle.dasp_session.specs.Keeping.{Like};
@@ -14,9 +14,8 @@ use crate::handed::Effect;
 use crate::letters::{close, welcome};
 use crate::outbox::Outbox;
 use crate::place::Place;
-use dasp_msg::{Msg, MsgKind, ack_more_bytes};
-use dasp_users::{LONGEST_USER, Users, digest, is_same_digest};
-use dasp_window::{Sender, Taken};
+use crate::{LONGEST_USER, Users, digest, is_same_digest};
+use dasp_msg::{Msg, MsgKind, Sender, Taken, ack_more_bytes};
 use sed_value::InPlace;
 
 // The error code of a user that is not known, or did not show that it is the one.

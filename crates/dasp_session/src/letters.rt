@@ -2,13 +2,12 @@
 ghost use Rattle.std.specs.Prelude.{◌≡◌, ◌<◌, ◌≤◌, ℕ, Some, None, if◌then◌else◌, List, length, slice_index};
 ghost use Rattle.std.specs.Option.{option_map, ForSome};
 ghost use Rattle.dasp_msg.specs.View.{message_of};
-ghost use Rattle.dasp_window.specs.Acks.{ack_of};
-ghost use Rattle.dasp_window.specs.Receiving.{ReceivesLike};
+ghost use Rattle.dasp_msg.specs.Acks.{ack_of};
+ghost use Rattle.dasp_msg.specs.Receiving.{ReceivesLike};
 ghost use Rattle.dasp_session.specs.Letters as letters;
 ghost use Rattle.dasp_session.specs.Outbox.{CanGo};
 
-use dasp_msg::{Msg, MsgKind};
-use dasp_window::Receiver;
+use dasp_msg::{Msg, MsgKind, Receiver};
 
 /// What a session acknowledges.
 #[derive(Drop)]

@@ -2,9 +2,9 @@
 ghost use Rattle.std.specs.Prelude.{◌≡◌, ◌+◌, ◌<◌, ◌≤◌, true, false, List, length, count_by, not};
 ghost use Rattle.std.specs.Prelude.{if◌then◌else◌};
 ghost use Rattle.std.specs.List.{list_any};
-ghost use Rattle.dasp_window.specs.declared.message.Message.{Message as Posted};
-ghost use Rattle.dasp_window.specs.Posted.{is_due, is_spent};
-ghost use Rattle.dasp_window.specs.Sending.{SendsLike};
+ghost use Rattle.dasp_msg.specs.declared.outgoing.Message.{Message as Posted};
+ghost use Rattle.dasp_msg.specs.Posted.{is_due, is_spent};
+ghost use Rattle.dasp_msg.specs.Outgoing.{SendsLike};
 ghost use Rattle.dasp_session.specs.Session.{Session};
 ghost use Rattle.dasp_session.specs.Ticking as ticking;
 ghost use Rattle.dasp_session.specs.Keeping.{Like};
@@ -14,7 +14,7 @@ ghost use Rattle.dasp_session.specs.Outbox.{Datagram};
 use crate::letters::{Acks, close, datagram, keep_alive};
 use crate::outbox::Outbox;
 use crate::place::Place;
-use dasp_window::{Due, Sender};
+use dasp_msg::{Due, Sender};
 
 // The error code of a session that was silent too long, or whose message was sent too often.
 const TIMED_OUT: u16 = 0xe5;

@@ -4,9 +4,9 @@ use Rattle.std.specs.Prelude.{◌≢◌, Contains, Option}
 use Rattle.sed_outside.specs.Cause.{Rose}
 use Rattle.sed_outside.specs.Files.{Contents}
 use Rattle.sed_outside.specs.declared.files.Files.{Ghosts}
-use Rattle.file_steps.specs.Steps.{Read, UnlessFree, Agree}
-use Rattle.file_steps.specs.Reads.{HasReads, AreGiven, AreKnown, failed_names}
-use Rattle.file_steps.proofs.One.{IsOne, told_agree}
+use Rattle.sed_outside.specs.Steps.{Read, UnlessFree, Agree}
+use Rattle.sed_outside.specs.Reads.{HasReads, AreGiven, AreKnown, failed_names}
+use Rattle.sed_outside.proofs.One.{IsOne, told_agree}
 use Rattle.input_files.specs.declared.refusal.InputRefusal.{InputRefusal}
 use Rattle.input_files.specs.declared.refusal.InputRefusal.TheVariants.{FileFault, BadUsers, ShortSecret, BadRecord, Memory}
 use Rattle.input_files.specs.Refusals.{is_want, IsFileFault, EndsAs, failed_in}

@@ -1,11 +1,11 @@
 -- What is read of an input file is one, and which reads failed.
 use Rattle.std.proofs.Common.{◌≡◌, ℕ, List, [], Result, Ok, Err, refl, sym, ap, ◌∙◌, arith}
-use Rattle.file_steps.specs.Steps.{Read, Decides}
-use Rattle.file_steps.specs.Reads.{TextOf, failed_names}
-use Rattle.file_steps.proofs.One.{IsOne, one_then, one_decides, one_text}
-use Rattle.file_steps.proofs.Failing.{end_names, Fails, fails_then, fails_decides, fails_text}
-use Rattle.dasp_users.specs.declared.user.User.{User}
-use Rattle.dasp_users.specs.UsersFile.{IsUsersFile}
+use Rattle.sed_outside.specs.Steps.{Read, Decides}
+use Rattle.sed_outside.specs.Reads.{TextOf, failed_names}
+use Rattle.sed_outside.proofs.One.{IsOne, one_then, one_decides, one_text}
+use Rattle.sed_outside.proofs.Failing.{end_names, Fails, fails_then, fails_decides, fails_text}
+use Rattle.dasp_session.specs.declared.user.User.{User}
+use Rattle.dasp_session.specs.UsersFile.{IsUsersFile}
 use Rattle.replay_log.specs.Entry.{Entry}
 use Rattle.replay_log.specs.Record.{IsRecord, IsRefusedAt}
 use Rattle.input_files.specs.declared.refusal.InputRefusal.{InputRefusal}

@@ -1,9 +1,9 @@
 -- An input file that is read, and what its text decides.
 use Rattle.std.proofs.Common.{◌≡◌, List, ℕ, Result, Ok, Err, subst}
 use Rattle.sed_outside.specs.declared.files.Files.{Ghosts}
-use Rattle.file_steps.specs.Steps.{Decides, UnlessFree}
-use Rattle.file_steps.specs.Reads.{HasReads, TextOf}
-use Rattle.file_steps.proofs.Joining.{stops_then, decides_then}
+use Rattle.sed_outside.specs.Steps.{Decides, UnlessFree}
+use Rattle.sed_outside.specs.Reads.{HasReads, TextOf}
+use Rattle.sed_outside.proofs.Joining.{stops_then, decides_then}
 use Rattle.input_files.specs.declared.refusal.InputRefusal.{InputRefusal}
 use Rattle.input_files.specs.declared.refusal.InputRefusal.TheVariants.{FileFault}
 use Rattle.input_files.specs.Refusals.{is_want}

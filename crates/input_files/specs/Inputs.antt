@@ -1,9 +1,9 @@
 -- Input files are read: the users file, the secret file and the record.
 use Rattle.std.specs.Prelude.{◌≡◌, ◌≤◌, ◌<◌, ℕ, List, length, take, Result, Ok, Err}
-use Rattle.file_steps.specs.Steps.{Read, Decides, AndThen}
-use Rattle.file_steps.specs.Reads.{TextOf}
-use Rattle.dasp_users.specs.declared.user.User.{User}
-use Rattle.dasp_users.specs.UsersFile.{IsUsersFile}
+use Rattle.sed_outside.specs.Steps.{Read, Decides, AndThen}
+use Rattle.sed_outside.specs.Reads.{TextOf}
+use Rattle.dasp_session.specs.declared.user.User.{User}
+use Rattle.dasp_session.specs.UsersFile.{IsUsersFile}
 use Rattle.replay_log.specs.Entry.{Entry}
 use Rattle.replay_log.specs.Record.{IsRecord, IsRefusedAt}
 use Rattle.input_files.specs.declared.refusal.InputRefusal.{InputRefusal}

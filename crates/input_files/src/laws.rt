@@ -1,13 +1,13 @@
 //! Laws of what is read of input files. Each is the contract of a function that does nothing.
 ghost use Rattle.std.specs.Prelude.{◌≡◌, ℕ, List, Result};
-ghost use Rattle.file_steps.specs.Steps.{Read, Agree};
-ghost use Rattle.file_steps.specs.Reads.{failed_names};
-ghost use Rattle.dasp_users.specs.declared.user.User.{User};
+ghost use Rattle.sed_outside.specs.Steps.{Read, Agree};
+ghost use Rattle.sed_outside.specs.Reads.{failed_names};
+ghost use Rattle.dasp_session.specs.declared.user.User.{User};
 ghost use Rattle.input_files.specs.declared.refusal.InputRefusal.{InputRefusal};
 ghost use Rattle.input_files.specs.Refusals.{failed_in};
 ghost use Rattle.input_files.specs.Inputs.{UsersRead, SecretRead, RecordRead};
 
-use dasp_users::users_files_are_one;
+use dasp_session::users_files_are_one;
 use replay_log::refusals_are_one;
 
 /// What the same reads give is one: where two rows of reads give the same wherever they read one name at one place,

@@ -1,7 +1,7 @@
 //! The record of what reached a node.
 ghost use Rattle.std.specs.Prelude.{◌≡◌, ◌≢◌, ℕ, List, Result, Err, IfOk, MatchResult};
-ghost use Rattle.file_steps.specs.Steps.{Read, UnlessFree};
-ghost use Rattle.file_steps.specs.Reads.{AreKnown, HasReads};
+ghost use Rattle.sed_outside.specs.Steps.{Read, UnlessFree};
+ghost use Rattle.sed_outside.specs.Reads.{AreKnown, HasReads};
 ghost use Rattle.sed_outside.specs.Cause.{Rose};
 ghost use Rattle.replay_log.specs.Record.{IsRefusedAt};
 ghost use Rattle.input_files.specs.declared.refusal.InputRefusal.{InputRefusal};

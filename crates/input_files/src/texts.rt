@@ -1,13 +1,12 @@
 //! The text of an input file.
 ghost use Rattle.std.specs.Prelude.{◌≡◌, ◌⊎◌};
-ghost use Rattle.file_steps.specs.Steps.{UnlessFree};
-ghost use Rattle.file_steps.specs.Reads.{HasReads, TextOf};
+ghost use Rattle.sed_outside.specs.Steps.{UnlessFree};
+ghost use Rattle.sed_outside.specs.Reads.{HasReads, TextOf};
 ghost use Rattle.input_files.specs.Refusals.{is_want};
 
 use crate::refusal::InputRefusal;
-use file_steps::read_text;
 use kit_manifest::Text;
-use sed_outside::{FileFault, Files};
+use sed_outside::{FileFault, Files, read_text};
 use sed_value::Items;
 use std::alloc::Global;
 

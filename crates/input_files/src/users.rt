@@ -1,9 +1,9 @@
 //! The users file.
 ghost use Rattle.std.specs.Prelude.{◌≡◌, ◌≢◌, ℕ, List, Result, Err};
-ghost use Rattle.file_steps.specs.Steps.{Read, UnlessFree};
-ghost use Rattle.file_steps.specs.Reads.{AreKnown, HasReads};
+ghost use Rattle.sed_outside.specs.Steps.{Read, UnlessFree};
+ghost use Rattle.sed_outside.specs.Reads.{AreKnown, HasReads};
 ghost use Rattle.sed_outside.specs.Cause.{Rose};
-ghost use Rattle.dasp_users.specs.declared.user.User.{User};
+ghost use Rattle.dasp_session.specs.declared.user.User.{User};
 ghost use Rattle.input_files.specs.declared.refusal.InputRefusal.{InputRefusal};
 ghost use Rattle.input_files.specs.Refusals.{is_want, IsFileFault, EndsAs};
 ghost use Rattle.input_files.specs.Inputs.{UsersRead, AreUsersOf};
@@ -11,7 +11,7 @@ ghost use Rattle.input_files.specs.Inputs.{UsersRead, AreUsersOf};
 use crate::laws::{failed_inputs_are_told, inputs_agree};
 use crate::refusal::InputRefusal;
 use crate::texts::text_in;
-use dasp_users::{Users, UsersRefusal};
+use dasp_session::{Users, UsersRefusal};
 use sed_outside::Files;
 use std::alloc::Global;
 

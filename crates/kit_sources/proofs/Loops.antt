@@ -6,9 +6,9 @@ use Rattle.std.proofs.Math.ListN.{get_or-map}
 use Rattle.std.proofs.lemmas.List.{length-map, get_or_read, flat_map_more, take_more}
 use Rattle.std.proofs.lemmas.List.Elements.{All-append, Contains-get_or}
 use Rattle.sed_outside.specs.declared.files.Files.{Ghosts}
-use Rattle.file_steps.specs.Steps.{Read, Each, UnlessFree}
-use Rattle.file_steps.specs.Reads.{HasReads}
-use Rattle.file_steps.proofs.Rows.{row_wants}
+use Rattle.sed_outside.specs.Steps.{Read, Each, UnlessFree}
+use Rattle.sed_outside.specs.Reads.{HasReads}
+use Rattle.sed_outside.proofs.Rows.{row_wants}
 use Rattle.kit_sources.specs.declared.refusal.SourcesRefusal.{SourcesRefusal}
 use Rattle.kit_sources.specs.declared.refusal.SourcesRefusal.TheVariants.{Memory}
 use Rattle.kit_sources.specs.Refusals.{is_want}

@@ -8,7 +8,7 @@ use Rattle.std.proofs.lemmas.List.Concat.{length-flat_map}
 use Rattle.std.proofs.lemmas.List.Sums.{sum_by-cons}
 use Rattle.std.proofs.lemmas.List.Elements.{Contains-get_or}
 use Rattle.sed_value.specs.Names.{is_kit_name}
-use Rattle.file_steps.specs.Steps.{Read, stops, goes_on, Each}
+use Rattle.sed_outside.specs.Steps.{Read, stops, goes_on, Each}
 use Rattle.kit_manifest.specs.Order.{name_of, DependsOn, IsOrderOf, IsPermutationOf}
 use Rattle.kit_manifest.specs.declared.manifest.Manifest.{Manifest}
 use Rattle.kit_manifest.proofs.Orders.{IsOrder-permutation}

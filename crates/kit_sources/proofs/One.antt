@@ -7,10 +7,10 @@ use Rattle.sed_lexer.specs.Lexes.{Lexes}
 use Rattle.sed_parser.specs.Derives as grammar
 use Rattle.sed_parser.specs.Derives.{Derives}
 use Rattle.sed_units.specs.declared.classes.Unit.{Unit as TheUnit}
-use Rattle.file_steps.specs.Steps.{Read, Decides, Each}
-use Rattle.file_steps.specs.Reads.{TextOf, failed_names}
-use Rattle.file_steps.proofs.One.{IsOne, one_then, one_decides, one_each, one_text}
-use Rattle.file_steps.proofs.Failing.{end_names, Fails, fails_decides, fails_value, fails_then, fails_each, fails_text}
+use Rattle.sed_outside.specs.Steps.{Read, Decides, Each}
+use Rattle.sed_outside.specs.Reads.{TextOf, failed_names}
+use Rattle.sed_outside.proofs.One.{IsOne, one_then, one_decides, one_each, one_text}
+use Rattle.sed_outside.proofs.Failing.{end_names, Fails, fails_decides, fails_value, fails_then, fails_each, fails_text}
 use Rattle.kit_manifest.specs.Order.{IsOrderOf, IsListRefusal}
 use Rattle.kit_manifest.specs.Reading.{HasDocument, IsManifest, IsTextRefusal}
 use Rattle.kit_manifest.specs.declared.fault.ManifestFault.{ManifestFault}

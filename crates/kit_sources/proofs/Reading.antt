@@ -2,9 +2,9 @@
 use Rattle.std.proofs.Common.{◌≡◌, List, ℕ, Result, Ok, Err, refl, sym, subst, inl, inr}
 use Rattle.std.specs.Prelude.{◌⊎◌}
 use Rattle.sed_outside.specs.declared.files.Files.{Ghosts}
-use Rattle.file_steps.specs.Steps.{UnlessFree}
-use Rattle.file_steps.specs.Reads.{HasReads, TextOf}
-use Rattle.file_steps.proofs.Joining.{stops_then, decides_then}
+use Rattle.sed_outside.specs.Steps.{UnlessFree}
+use Rattle.sed_outside.specs.Reads.{HasReads, TextOf}
+use Rattle.sed_outside.proofs.Joining.{stops_then, decides_then}
 use Rattle.kit_manifest.specs.declared.manifest.Manifest.{Manifest}
 use Rattle.kit_sources.specs.declared.refusal.SourcesRefusal.{SourcesRefusal}
 use Rattle.kit_sources.specs.declared.refusal.SourcesRefusal.TheVariants.{FileFault, Refused, Memory}

@@ -3,9 +3,9 @@ use Rattle.std.proofs.Common.{◌≡◌, ◌<◌, ℕ, suc, List, [], ◌∷◌,
 use Rattle.std.proofs.lemmas.List.{get_or_read, length-map}
 use Rattle.std.specs.Prelude.{All}
 use Rattle.sed_outside.specs.declared.files.Files.{Ghosts}
-use Rattle.file_steps.specs.Steps.{Read, Decides, stops, goes_on, Each, UnlessFree}
-use Rattle.file_steps.specs.Reads.{HasReads}
-use Rattle.file_steps.proofs.Joining.{no_reads, stops_then, goes_then, decides_then, decided}
+use Rattle.sed_outside.specs.Steps.{Read, Decides, stops, goes_on, Each, UnlessFree}
+use Rattle.sed_outside.specs.Reads.{HasReads}
+use Rattle.sed_outside.proofs.Joining.{no_reads, stops_then, goes_then, decides_then, decided}
 use Rattle.kit_manifest.specs.declared.manifest.Manifest.{Manifest}
 use Rattle.sed_classes.specs.declared.kit_units.KitUnits.{KitUnits}
 use Rattle.sed_units.specs.declared.classes.Unit.{Unit as TheUnit}

@@ -1,5 +1,5 @@
-pub use Rattle.file_steps.specs.Steps
-pub use Rattle.file_steps.specs.Reads
+pub use Rattle.sed_outside.specs.Steps
+pub use Rattle.sed_outside.specs.Reads
 pub mod Text
 pub mod Refusals
 pub mod Sources

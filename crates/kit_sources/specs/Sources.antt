@@ -2,8 +2,8 @@
 use Rattle.std.specs.Prelude.{◌≡◌, ℕ, List, [], map, slice_index_or, Result, Ok, String, string_bytes}
 use Rattle.std.specs.List.{flat_map}
 use Rattle.std.specs.declared.alloc.Global.{Global}
-use Rattle.file_steps.specs.Steps.{Read, Decides, AndThen, Each}
-use Rattle.file_steps.specs.Reads.{TextOf}
+use Rattle.sed_outside.specs.Steps.{Read, Decides, AndThen, Each}
+use Rattle.sed_outside.specs.Reads.{TextOf}
 use Rattle.kit_manifest.specs.declared.manifest.Manifest.{Manifest}
 use Rattle.sed_units.specs.declared.classes.Unit.{Unit as TheUnit}
 use Rattle.sed_classes.specs.declared.kit_units.KitUnits.{KitUnits}

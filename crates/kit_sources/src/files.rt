@@ -1,11 +1,10 @@
 //! The text of a file.
-ghost use Rattle.file_steps.specs.Steps.{UnlessFree};
-ghost use Rattle.file_steps.specs.Reads.{HasReads, TextOf};
+ghost use Rattle.sed_outside.specs.Steps.{UnlessFree};
+ghost use Rattle.sed_outside.specs.Reads.{HasReads, TextOf};
 ghost use Rattle.kit_sources.specs.Refusals.{is_want};
 
 use crate::refusal::{SourcesRefusal, file_fault};
-use file_steps::read_text;
-use sed_outside::{FileFault, Files};
+use sed_outside::{FileFault, Files, read_text};
 use sed_value::Items;
 use std::alloc::Global;
 

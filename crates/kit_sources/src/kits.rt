@@ -1,7 +1,7 @@
 //! The sources of kits.
 ghost use Rattle.std.specs.Prelude.{◌≡◌, ◌++◌, ◌<◌, All, IfOk, OnOk, length};
-ghost use Rattle.file_steps.specs.Steps.{Each, UnlessFree};
-ghost use Rattle.file_steps.specs.Reads.{HasReads};
+ghost use Rattle.sed_outside.specs.Steps.{Each, UnlessFree};
+ghost use Rattle.sed_outside.specs.Reads.{HasReads};
 ghost use Rattle.kit_sources.specs.Refusals.{is_want};
 ghost use Rattle.kit_sources.specs.Sources.{SourceRead, KitRead, KitsAt, KnownRead, KitsRead};
 ghost use Rattle.kit_sources.specs.Sources.{manifest_at, files_in, names_of};

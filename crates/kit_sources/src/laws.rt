@@ -3,8 +3,8 @@ ghost use Rattle.std.specs.Prelude.{◌≡◌, ◌≤◌, ℕ, All, IsTrue, List
 ghost use Rattle.std.specs.Str.{bytes_eq};
 ghost use Rattle.sed_value.specs.Names.{is_kit_name};
 ghost use Rattle.sed_units.specs.declared.classes.Unit.{Unit as TheUnit};
-ghost use Rattle.file_steps.specs.Steps.{Read, Agree};
-ghost use Rattle.file_steps.specs.Reads.{failed_names};
+ghost use Rattle.sed_outside.specs.Steps.{Read, Agree};
+ghost use Rattle.sed_outside.specs.Reads.{failed_names};
 ghost use Rattle.sed_classes.specs.Schema.{kit_names};
 ghost use Rattle.sed_classes.specs.declared.kit_units.KitUnits.{KitUnits};
 ghost use Rattle.kit_sources.specs.declared.refusal.SourcesRefusal.{SourcesRefusal};

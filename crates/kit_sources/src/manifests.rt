@@ -1,7 +1,7 @@
 //! The manifests of kits, and their order.
 ghost use Rattle.std.specs.Prelude.{◌≡◌, ◌<◌, ◌⊎◌, All, IfOk, length};
-ghost use Rattle.file_steps.specs.Steps.{Each, UnlessFree};
-ghost use Rattle.file_steps.specs.Reads.{HasReads};
+ghost use Rattle.sed_outside.specs.Steps.{Each, UnlessFree};
+ghost use Rattle.sed_outside.specs.Reads.{HasReads};
 ghost use Rattle.kit_sources.specs.Refusals.{is_want, name_at, IsOrdered, IsTextManifest, IsWhyOfManifest, Says};
 ghost use Rattle.kit_sources.specs.Sources.{ManifestRead, names_of};
 

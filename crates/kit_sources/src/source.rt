@@ -1,7 +1,7 @@
 //! One source: the unit of its text.
 ghost use Rattle.std.specs.Prelude.{◌≡◌, IfOk, IsTrue};
-ghost use Rattle.file_steps.specs.Steps.{UnlessFree};
-ghost use Rattle.file_steps.specs.Reads.{HasReads};
+ghost use Rattle.sed_outside.specs.Steps.{UnlessFree};
+ghost use Rattle.sed_outside.specs.Reads.{HasReads};
 ghost use Rattle.sed_value.specs.Value as bytes;
 ghost use Rattle.kit_sources.specs.Refusals.{is_want, Says};
 ghost use Rattle.kit_sources.specs.Sources.{SourceRead};

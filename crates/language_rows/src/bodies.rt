@@ -2,13 +2,12 @@
 //! to there.
 use crate::texts::{add, joined, unit_of};
 use rows::{Case, CaseFault};
-use sed_bodies::{expression, place_of};
+use sed_bodies::{Body, expression, place_of};
+use sed_body_rules::{Locals, local_kind};
 use sed_classes::{Based, Classes, KitUnits, sys_classes};
 use sed_faults::Fault;
-use sed_members::Body;
 use sed_names::Lookup;
 use sed_program::{Spelled, Tables, View, note_bodies};
-use sed_scope::{Locals, local_kind};
 use sed_statements::{Enclosing, judged_method, judged_params};
 use sed_terms::Judged;
 use sed_typed::Kind;

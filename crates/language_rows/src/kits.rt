@@ -3,9 +3,9 @@
 use crate::texts::{add, joined};
 use kit_manifest::{Manifest, Text, order_kits, read_manifest};
 use rows::{Case, CaseFault};
-use sed_kits::{KitsRefusal, load_kits};
+use sed_check::{KitsRefusal, load_kits};
+use sed_classes::{canonical_text, checksum};
 use sed_outside::MemFiles;
-use sed_schema::{canonical_text, checksum};
 use sed_typed::{Program, Schema};
 use sed_value::{Items, KitName};
 

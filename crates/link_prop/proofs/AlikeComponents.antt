@@ -14,7 +14,7 @@ use Rattle.sed_engine.specs.declared.call.Callback.TheVariants.{Changed, Start}
 use Rattle.sed_engine.specs.declared.call.Root.{Root}
 use Rattle.sed_engine.specs.declared.call.Root.TheVariants.{Execute, Action, Callback}
 use Rattle.sed_engine.specs.Code.{Meaning, slot_form, property_type, root_of}
-use Rattle.link_table.specs.Link.{Link}
+use Rattle.sub_table.specs.Link.{Link}
 use Rattle.comp_tree.specs.Application.{ById, Component, Components, change_at, is_live, object_of, type_at, with_components}
 use Rattle.comp_tree.specs.Calls.{Call, callback_argument, ended, execute_at, not_run, run_at}
 use Rattle.comp_tree.specs.Edits.{added, after_add, after_clear, after_invoke, after_rename, after_reorder, after_write, first_of, with_child, with_name, without_fault}

@@ -8,8 +8,8 @@ use Rattle.sed_value.specs.declared.refusal.Refusal.{Refusal}
 use Rattle.sed_engine.specs.declared.engine.Engine.{Ghosts}
 use Rattle.node_table.specs.declared.marks.Parts.{Parts}
 use Rattle.node_table.specs.Marks.{all_parts, without_parts}
-use Rattle.link_table.specs.Link.{Link}
-use Rattle.link_marks.specs.Marked.{Marked, has_mark}
+use Rattle.sub_table.specs.Link.{Link}
+use Rattle.sub_table.specs.Marked.{Marked, has_mark}
 use Rattle.comp_tree.specs.Application.{is_live}
 use Rattle.comp_tree.specs.Held.{Held, components_of}
 use Rattle.comp_tree.specs.Marks.{KeepsMarks, Part, added_at, is_among, marks_at, no_marks, parts_in}

@@ -6,8 +6,8 @@ use Rattle.std.proofs.lemmas.Bool.{eqb-true, or_parts as neither}
 use Rattle.std.proofs.lemmas.List.Elements.{All-cons, All-filter, All-head, All-tail}
 use Rattle.sed_value.specs.declared.refusal.Refusal.{Refusal}
 use Rattle.sed_engine.specs.Code.{Meaning}
-use Rattle.link_table.specs.Link.{Link, most_links}
-use Rattle.link_table.specs.Links.{has_target, is_before, is_same_link, links_at, with_link, without_link}
+use Rattle.sub_table.specs.Link.{Link, most_links}
+use Rattle.sub_table.specs.Links.{has_target, is_before, is_same_link, links_at, with_link, without_link}
 use Rattle.comp_tree.specs.Application.{ById, is_live, most_links_at_component, type_at}
 use Rattle.comp_tree.specs.Links.{go_together_if_there}
 use Rattle.comp_tree.specs.Refusals.{first_refusal, refusals_of_link}

@@ -8,8 +8,8 @@ use Rattle.std.proofs.lemmas.List.Sums.{fold_more}
 use Rattle.sed_engine.specs.declared.call.Callback.TheVariants.{Changed}
 use Rattle.sed_engine.specs.declared.call.Root.TheVariants.{Callback}
 use Rattle.sed_engine.specs.Code.{Meaning}
-use Rattle.link_table.specs.Link.{Link, most_links}
-use Rattle.link_table.specs.Links.{links_into}
+use Rattle.sub_table.specs.Link.{Link, most_links}
+use Rattle.sub_table.specs.Links.{links_into}
 use Rattle.comp_tree.specs.Application.{Components, is_live, value_at}
 use Rattle.comp_tree.specs.Calls.{Call, Counted, callback_argument, then_run}
 use Rattle.comp_tree.specs.Links.{copy, copy_along, has_changed, with_value}

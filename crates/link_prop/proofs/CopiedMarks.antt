@@ -5,8 +5,8 @@ use Rattle.std.specs.List.{All, filter}
 use Rattle.std.proofs.lemmas.Bool.{eqb-true}
 use Rattle.std.proofs.lemmas.List.Elements.{filter_passes}
 use Rattle.sed_engine.specs.declared.engine.Engine.{Ghosts}
-use Rattle.link_table.specs.Link.{Link}
-use Rattle.link_table.specs.Links.{links_into}
+use Rattle.sub_table.specs.Link.{Link}
+use Rattle.sub_table.specs.Links.{links_into}
 use Rattle.comp_tree.specs.Application.{is_live}
 use Rattle.comp_tree.specs.Held.{Held, components_of}
 use Rattle.comp_tree.specs.Marks.{KeepsMarks, Part, is_among, values_at}

@@ -15,8 +15,8 @@ use Rattle.sed_engine.specs.declared.call.Root.TheVariants.{Callback}
 use Rattle.sed_engine.specs.Code.{Meaning, root_of}
 use Rattle.sed_value.specs.declared.value.Value.{Value}
 use Rattle.sed_value.proofs.Orders.{put_at, put_beside}
-use Rattle.link_table.specs.Link.{Link}
-use Rattle.link_table.specs.Links.{links_at, without_links_at}
+use Rattle.sub_table.specs.Link.{Link}
+use Rattle.sub_table.specs.Links.{links_at, without_links_at}
 use Rattle.comp_tree.specs.Application.{ById, Component, Components, change_at, children_of, object_of, parent_of}
 use Rattle.comp_tree.specs.Calls.{Call, Counted, call_each, callback_argument, ended, not_run, run_at, then_run, with_end}
 use Rattle.comp_tree.specs.Edits.{after_delete, removed, without_all, without_child}

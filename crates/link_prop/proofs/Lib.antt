@@ -6,3 +6,6 @@ pub mod LinkParts
 pub mod AppMarks
 pub mod Masks
 pub mod CopiedMarks
+pub mod CallLemmas
+pub mod CountedCalls
+pub mod CycleMarks

@@ -3,9 +3,9 @@ use Rattle.std.proofs.Common.{ℕ, zero, suc, ◌≡◌, ◌≤◌, Bool, true, 
 use Rattle.std.specs.Prelude.{not, filter, List, [], ◌∷◌, ◌==◌, ◌||◌, ◌&&◌, ◌++◌, if◌then◌else◌}
 use Rattle.std.specs.List.{flat_map, list_any}
 use Rattle.std.proofs.lemmas.Bool.{eqb-true}
-use Rattle.link_table.specs.Link.{Link}
-use Rattle.link_table.specs.Links.{is_before, is_same_link, links_at, with_link, without_link, without_links_at}
-use Rattle.link_table.specs.Marks.{AreMarked, is_at_mark, is_marked}
+use Rattle.sub_table.specs.Link.{Link}
+use Rattle.sub_table.specs.Links.{is_before, is_same_link, links_at, with_link, without_link, without_links_at}
+use Rattle.sub_table.specs.Marks.{AreMarked, is_at_mark, is_marked}
 use Rattle.comp_tree.specs.Parts.{link_bytes, link_part, no_id, u2}
 use Rattle.link_prop.specs.Marks.{links_at_ends, links_with}
 pub use Rattle.std.proofs.lemmas.Bool.{or_parts as neither}

@@ -1,8 +1,8 @@
 -- Tests of the two ends of a link, as the table of refusals has them.
 use Rattle.std.specs.Prelude.{Bool, ◌||◌, not, is_none}
 use Rattle.sed_engine.specs.Code.{Meaning}
-use Rattle.link_table.specs.Link.{Link}
-use Rattle.link_table.specs.Links.{has_target}
+use Rattle.sub_table.specs.Link.{Link}
+use Rattle.sub_table.specs.Links.{has_target}
 use Rattle.comp_tree.specs.Application.{ById, form_at, is_live, type_at}
 use Rattle.comp_tree.specs.Links.{go_together_if_there}
 

@@ -1,3 +1,4 @@
 pub mod Linked
 pub mod Ends
 pub mod Marks
+pub mod CycleMarks

@@ -4,9 +4,9 @@ use Rattle.std.specs.List.{All}
 use Rattle.std.specs.Coded.{Coded, code_by, coded×, coded_bool, coded_list, coded_ℕ}
 use Rattle.sed_engine.specs.declared.engine.Engine.{Ghosts}
 use Rattle.sed_engine.specs.Code.{Meaning}
-use Rattle.link_table.specs.Link.{Link}
-use Rattle.link_table.specs.Links.{links_at}
-use Rattle.link_marks.specs.Marked.{Marked}
+use Rattle.sub_table.specs.Link.{Link}
+use Rattle.sub_table.specs.Links.{links_at}
+use Rattle.sub_table.specs.Marked.{Marked}
 use Rattle.comp_tree.specs.Application.{Application, ById, most_links_at_component}
 use Rattle.comp_tree.specs.Held.{Held, components_of, held_code}
 use Rattle.node_table.specs.declared.node.Node.{Node}

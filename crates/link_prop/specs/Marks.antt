@@ -5,9 +5,9 @@ use Rattle.std.specs.Prelude.{List}
 use Rattle.std.specs.List.{list_any}
 use Rattle.sed_engine.specs.declared.engine.Engine.{Ghosts}
 pub use Rattle.node_table.specs.declared.marks.Parts.{Parts}
-use Rattle.link_table.specs.Link.{Link}
-use Rattle.link_table.specs.Links.{links_at}
-pub use Rattle.link_marks.specs.Marked.{has_mark}
+use Rattle.sub_table.specs.Link.{Link}
+use Rattle.sub_table.specs.Links.{links_at}
+pub use Rattle.sub_table.specs.Marked.{has_mark}
 pub use Rattle.comp_tree.specs.Marks.{Part, added_at, is_among, marks_at, mask_of, no_marks, part_at, parts_in}
 pub use Rattle.comp_tree.specs.Marks.{tree_above, tree_at, values_at}
 use Rattle.comp_tree.specs.Application.{is_live}

@@ -2,7 +2,7 @@
 ghost use Rattle.std.specs.Prelude.{◌≡◌, ◌≤◌, ◌<◌, ℕ, true, [], not, IsTrue, IsSome, IfOk, OnOk, OnErr, MatchResult};
 ghost use Rattle.std.specs.Prelude.{Some, None, length, slice_get};
 ghost use Rattle.std.specs.FinMap as map;
-ghost use Rattle.link_table.specs.Links.{links_at, with_link, without_link};
+ghost use Rattle.sub_table.specs.Links.{links_at, with_link, without_link};
 ghost use Rattle.comp_tree.specs.Application.{fault_of, most_links, most_links_at_component};
 ghost use Rattle.comp_tree.specs.Calls.{Call, execute_at};
 ghost use Rattle.comp_tree.specs.Edit.{is_save};
@@ -21,12 +21,11 @@ mod linking;
 mod marking;
 
 use comp_tree::Tree;
-use link_marks::LinkMarks;
-use link_table::{LinkRec, Links};
 use sed_engine::Engine;
 use sed_value::{Id, Memory};
 use std::alloc::Global;
 use std::marker::Model;
+use sub_table::{LinkMarks, LinkRec, Links};
 
 /// The components of an application over an engine, the links between their slots, and the marks of what may have
 /// changed.

@@ -4,12 +4,22 @@
 //! gives the first refusal of its table and leaves all as it was. A call on the tree is the tree's own and leaves the
 //! links; no call lends the tree for writing, so no link is left at a component that is gone. Room for all links that
 //! there may be is taken when an application is made. Each call says besides which parts of which components it marks
-//! as such that may have changed; `laws` says what follows for many calls. Cycles (app_cycle), the written
-//! application file (app_writer), served requests (sox_serve) and events (sox_events) stand on it.
+//! as such that may have changed; `laws` says what follows for many calls.
+//!
+//! `cycle` visits the components depth first, a parent before its children: the links into each are copied, and then it
+//! is executed. `begin` calls `start` of each in the same order. Both leave the application that is defined of them and
+//! say how many root calls trapped; nothing here refuses or takes memory. The written application file (app_writer),
+//! served requests (sox_serve), events (sox_events) and the ticks of a node (sed_node) stand on this crate.
 #![tactic(auto)]
 
 pub mod app;
+mod cycles;
+mod end;
 mod ends;
 pub mod laws;
+mod starts;
 
 pub use app::App;
+pub use cycles::cycle;
+pub use end::CycleEnd;
+pub use starts::begin;

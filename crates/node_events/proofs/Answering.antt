@@ -12,7 +12,7 @@ use Rattle.dasp_session.specs.Letters.{Letter}
 use Rattle.dasp_session.specs.Receive.{Handing, none, ended_at, payload_at, received}
 use Rattle.sox_msg.specs.Answered.{Answered, refused}
 use Rattle.sox_msg.specs.Command.{Asked}
-use Rattle.sox_commands.specs.Answer.{Answer, answer, answer_by, answered_by, asks_for_save, command_of, refused_by}
+use Rattle.sox_serve.specs.Answer.{Answer, answer, answer_by, answered_by, asks_for_save, command_of, refused_by}
 use Rattle.node_events.specs.Delivering.{delivered, handed}
 use Rattle.node_events.specs.Heard.{asks, is_refused}
 use Rattle.node_events.specs.Mishap.{Mishap}

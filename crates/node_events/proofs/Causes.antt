@@ -16,8 +16,8 @@ use Rattle.sox_msg.specs.Answered as told
 use Rattle.sox_msg.specs.Answered.{Answered, refused}
 use Rattle.sox_msg.specs.Command.{Asked, add, read_part, delete, invoke, link, unlink, rename, reorder, read_slot, subscribe, unsubscribe, version, write, clear}
 use Rattle.sox_msg.specs.Refused.{IsRefusedFor}
-use Rattle.sox_commands.specs.Answer.{Answer, answer, answer_by, answered_by, asks_for_save, command_of, refused_by}
-use Rattle.sox_commands.specs.Table.{refusals_of}
+use Rattle.sox_serve.specs.Answer.{Answer, answer, answer_by, answered_by, asks_for_save, command_of, refused_by}
+use Rattle.sox_serve.specs.Table.{refusals_of}
 use Rattle.node_events.specs.Delivering.{delivered, handed}
 use Rattle.node_events.specs.Heard.{Heard, IsWish, Wish, asks, is_refused}
 use Rattle.node_events.specs.Mishap.{Mishap, disk_failed, is_disk_failed, is_no_memory, no_memory, nothing_wrong}

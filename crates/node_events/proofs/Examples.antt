@@ -10,14 +10,14 @@ use Rattle.comp_tree.specs.Application.{Application, ById, Component}
 use Rattle.comp_tree.specs.Parts.{Kept}
 use Rattle.app_file.specs.Text.{app_text}
 use Rattle.dasp_msg.specs.declared.kind.MsgKind.TheVariants.{Datagram}
-use Rattle.dasp_window.specs.Posted.{new_message}
+use Rattle.dasp_msg.specs.Posted.{new_message}
 use Rattle.dasp_session.specs.Letters.{bare, datagram, keep_alive}
 use Rattle.dasp_session.specs.Session.{Session, State}
 use Rattle.sub_table.specs.declared.part.Part.TheVariants.{Tree, Config, Runtime, Links}
 use Rattle.sub_table.specs.Table.{Subscriptions, nothing_subscribed, with_event, with_subscribed}
 use Rattle.sox_msg.specs.Answered.{refused}
 use Rattle.sox_msg.specs.Command.{subscribe}
-use Rattle.sox_commands.proofs.Building.{application, code, found, three}
+use Rattle.sox_serve.proofs.Building.{application, code, found, three}
 use Rattle.node_events.specs.Delivering.{delivered}
 use Rattle.node_events.specs.Events.{Telling, is_due, parts_at, parts_of, told_if_due}
 use Rattle.node_events.specs.Heard.{Heard, asks}

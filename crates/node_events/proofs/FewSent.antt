@@ -10,11 +10,11 @@ use Rattle.sed_engine.specs.Code.{Meaning}
 use Rattle.dasp_msg.specs.declared.kind.MsgKind.{MsgKind}
 use Rattle.dasp_msg.specs.declared.kind.MsgKind.TheVariants.{Hello, Challenge, Authenticate, Welcome, KeepAlive, Datagram, Close}
 use Rattle.dasp_msg.specs.Shown.{Message}
-use Rattle.dasp_users.specs.declared.user.User.{User}
-use Rattle.dasp_window.specs.declared.receiver.Taken.{Taken}
-use Rattle.dasp_window.specs.declared.receiver.Taken.TheVariants.{New, Repeat, Outside}
-use Rattle.dasp_window.specs.Posted.{has_room, is_due}
-use Rattle.dasp_window.specs.TakenIndexes.{taken_as}
+use Rattle.dasp_session.specs.declared.user.User.{User}
+use Rattle.dasp_msg.specs.declared.receiver.Taken.{Taken}
+use Rattle.dasp_msg.specs.declared.receiver.Taken.TheVariants.{New, Repeat, Outside}
+use Rattle.dasp_msg.specs.Posted.{has_room, is_due}
+use Rattle.dasp_msg.specs.TakenIndexes.{taken_as}
 use Rattle.dasp_session.specs.Closing.{other_digest, other_version, too_many}
 use Rattle.dasp_session.specs.Hearing.{Effect, nothing, ended, delivers, Step, answered, authenticated, delivered as delivered_in, ends, hears, in_session, is_authenticated, is_proof, refused, silent, taken_in}
 use Rattle.dasp_session.specs.Letters.{Letter, addressed, close, keep_alive, welcome}
@@ -23,7 +23,7 @@ use Rattle.dasp_session.specs.Receive.{Handing, Outcome, none, ended_at, payload
 use Rattle.dasp_session.specs.Session.{Session, State}
 use Rattle.dasp_session.specs.Ticking.{again_if_due, is_over, kept_up as kept_in, posted_in, resends, sent_all, ticked as ticked_in}
 use Rattle.sox_msg.specs.Command.{number_in}
-use Rattle.sox_commands.specs.Replies.{answered_text}
+use Rattle.sox_serve.specs.Replies.{answered_text}
 use Rattle.node_events.specs.Delivering.{delivered, handed}
 use Rattle.node_events.specs.Events.{PartAt, Telling, bytes_of, event_bytes, has_room_at, is_due as is_due_of, parts_of, then_call, told, told_all, told_if_due, with_last}
 use Rattle.node_events.specs.Heard.{Heard, Wish}

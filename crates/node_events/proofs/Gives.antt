@@ -7,8 +7,8 @@ use Rattle.dasp_msg.specs.Message.{IsMessage}
 use Rattle.dasp_msg.specs.Shown.{Message}
 use Rattle.sox_msg.specs.Command.{Asked, add, read_part, delete, invoke, link, unlink, rename, reorder, read_slot}
 use Rattle.sox_msg.specs.Command.{subscribe, unsubscribe, version, write, clear, body_of, letter_of, number_in, str, u2}
-use Rattle.sox_commands.specs.Answer.{command_of}
-use Rattle.app_laws.specs.Bytes.{GivesBytes}
+use Rattle.sox_serve.specs.Answer.{command_of}
+use Rattle.app_file.specs.Bytes.{GivesBytes}
 use Rattle.node_events.specs.Giving.{HeardGivesBytes, WishGivesBytes}
 use Rattle.node_events.specs.Heard.{Heard, IsHeard, IsWish, Wish, asks, is_refused}
 

@@ -8,10 +8,10 @@ use Rattle.comp_tree.specs.Application.{Application}
 use Rattle.comp_tree.specs.Cycle.{Cycle}
 use Rattle.comp_tree.specs.Edit.{Command, Edit, Edited}
 use Rattle.comp_tree.specs.Whole.{Whole}
-use Rattle.app_laws.specs.Bytes.{GivesBytes}
+use Rattle.app_file.specs.Bytes.{GivesBytes}
 use Rattle.sox_msg.specs.Answered.{Answered}
 use Rattle.sox_msg.specs.Command.{Asked}
-use Rattle.sox_commands.specs.Answer.{Answer, answer, answer_by, command_of, refused_by}
+use Rattle.sox_serve.specs.Answer.{Answer, answer, answer_by, command_of, refused_by}
 use Rattle.dasp_session.specs.Letters.{Letter}
 use Rattle.dasp_session.specs.Receive.{Handing, none, ended_at, payload_at, received}
 use Rattle.node_events.specs.Delivering.{delivered, handed}

@@ -13,8 +13,8 @@ use Rattle.app_file.specs.Text.{app_text}
 use Rattle.sox_msg.specs.Answered.{Answered, refused}
 use Rattle.sox_msg.specs.Answered as told
 use Rattle.sox_msg.specs.Command.{Asked, add, read_part, delete, invoke, link, unlink, rename, reorder, read_slot, subscribe, unsubscribe, version, write, clear}
-use Rattle.sox_commands.specs.Answer.{Answer, answer, asks_for_save, refused_by}
-use Rattle.sox_commands.specs.Table.{refusals_of}
+use Rattle.sox_serve.specs.Answer.{Answer, answer, asks_for_save, refused_by}
+use Rattle.sox_serve.specs.Table.{refusals_of}
 use Rattle.node_events.specs.Heard.{asks}
 use Rattle.node_events.specs.Mishap.{Mishap, is_disk_failed, nothing_wrong, no_memory, disk_failed}
 use Rattle.node_events.specs.Node.{Node, Setup}

@@ -19,7 +19,7 @@ use Rattle.dasp_session.specs.Receive.{Handing, Outcome, none, ended_at, payload
 use Rattle.dasp_session.specs.Session.{Session, State}
 use Rattle.dasp_session.specs.Ticking.{kept_up as step_kept, posted_in, ticked as step_ticked}
 use Rattle.sox_msg.specs.Command.{number_in}
-use Rattle.sox_commands.specs.Replies.{answered_text}
+use Rattle.sox_serve.specs.Replies.{answered_text}
 use Rattle.node_events.specs.Delivering.{delivered, handed}
 use Rattle.node_events.specs.Events.{PartAt, Telling, bytes_of, event_bytes, has_room_at, is_due, parts_of, then_call, told as told_of, told_all, told_if_due}
 use Rattle.node_events.specs.Heard.{Heard, Wish}

@@ -8,11 +8,11 @@ use Rattle.sed_outside.specs.declared.addr.Addr.{Addr}
 use Rattle.dasp_msg.specs.declared.kind.MsgKind.{MsgKind}
 use Rattle.dasp_msg.specs.declared.kind.MsgKind.TheVariants.{Hello, Challenge, Authenticate, Welcome, KeepAlive, Datagram, Close}
 use Rattle.dasp_msg.specs.Shown.{Message}
-use Rattle.dasp_users.specs.declared.user.User.{User}
-use Rattle.dasp_window.specs.declared.receiver.Taken.{Taken}
-use Rattle.dasp_window.specs.declared.receiver.Taken.TheVariants.{New, Repeat, Outside}
-use Rattle.dasp_window.specs.Posted.{has_room}
-use Rattle.dasp_window.specs.TakenIndexes.{taken_as}
+use Rattle.dasp_session.specs.declared.user.User.{User}
+use Rattle.dasp_msg.specs.declared.receiver.Taken.{Taken}
+use Rattle.dasp_msg.specs.declared.receiver.Taken.TheVariants.{New, Repeat, Outside}
+use Rattle.dasp_msg.specs.Posted.{has_room}
+use Rattle.dasp_msg.specs.TakenIndexes.{taken_as}
 use Rattle.dasp_session.specs.Closing.{other_digest, other_version, too_many}
 use Rattle.dasp_session.specs.Hearing.{Effect, nothing, ended, delivers, Step, answered, authenticated, delivered, ends, hears, in_session, is_authenticated, is_proof, refused, silent, taken_in}
 use Rattle.dasp_session.specs.Letters.{close, keep_alive, welcome}

@@ -17,10 +17,10 @@ use Rattle.dasp_session.specs.Receive.{Handing, none, ended_at, payload_at, keep
 use Rattle.dasp_session.specs.Session.{State}
 use Rattle.sox_msg.specs.Answered.{Answered}
 use Rattle.sox_msg.specs.Command.{number_in}
-use Rattle.sox_commands.specs.Answer.{Answer}
-use Rattle.sox_commands.specs.Replies.{answered_text}
-use Rattle.sox_commands.specs.declared.served.Served.{Served}
-use Rattle.sox_commands.specs.declared.served.Served.TheVariants.{Replied, SaveAsked, Subscribe, Unsubscribe, Deleted}
+use Rattle.sox_serve.specs.Answer.{Answer}
+use Rattle.sox_serve.specs.Replies.{answered_text}
+use Rattle.sox_serve.specs.declared.served.Served.{Served}
+use Rattle.sox_serve.specs.declared.served.Served.TheVariants.{Replied, SaveAsked, Subscribe, Unsubscribe, Deleted}
 use Rattle.node_events.specs.Delivering.{delivered, handed}
 use Rattle.node_events.specs.Events.{PartAt, Telling, bytes_of, differs_from, event_bytes, has_room_at, is_due, parts_of, then_call, told, told_all, told_if_due}
 use Rattle.node_events.specs.Heard.{Heard, Wish, asks, is_refused}

@@ -13,8 +13,8 @@ use Rattle.dasp_session.specs.Letters.{Letter}
 use Rattle.dasp_session.specs.Receive.{Handing, none, ended_at, payload_at, received}
 use Rattle.sox_msg.specs.Answered.{Answered, added, done, refused}
 use Rattle.sox_msg.specs.Command.{Asked, add, read_part, delete, invoke, link, unlink, rename, reorder, read_slot, subscribe, unsubscribe, version, write, clear}
-use Rattle.sox_commands.specs.Answer.{Answer, answer, answer_by, command_of, may_want_memory, refused_by}
-use Rattle.sox_commands.specs.Table.{link_between}
+use Rattle.sox_serve.specs.Answer.{Answer, answer, answer_by, command_of, may_want_memory, refused_by}
+use Rattle.sox_serve.specs.Table.{link_between}
 use Rattle.node_events.specs.Delivering.{delivered, handed, replied}
 use Rattle.node_events.specs.Heard.{Heard, Wish, asks, is_refused}
 use Rattle.node_events.specs.Mishap.{Mishap, is_disk_failed, is_no_memory}

@@ -25,9 +25,9 @@ use Rattle.dasp_session.specs.Letters.{Letter}
 use Rattle.dasp_session.specs.Receive.{Handing, none, ended_at, payload_at, received, tick_of}
 use Rattle.sox_msg.specs.Answered.{Answered}
 use Rattle.sox_msg.specs.Command.{Asked, add, read_part, delete, invoke, link, unlink, rename, reorder, read_slot, subscribe, unsubscribe, version, write, clear}
-use Rattle.sox_commands.specs.Answer.{Answer, answer, answer_by, refused_by, served_by}
-use Rattle.sox_commands.specs.Table.{link_between}
-use Rattle.sox_commands.specs.declared.served.Served.TheVariants.{Replied, SaveAsked}
+use Rattle.sox_serve.specs.Answer.{Answer, answer, answer_by, refused_by, served_by}
+use Rattle.sox_serve.specs.Table.{link_between}
+use Rattle.sox_serve.specs.declared.served.Served.TheVariants.{Replied, SaveAsked}
 use Rattle.node_events.specs.Delivering.{delivered, handed}
 use Rattle.node_events.specs.Events.{PartAt, Telling, bytes_of, has_room_at, is_due, parts_of, then_call, told, told_if_due}
 use Rattle.node_events.specs.Heard.{Heard, Wish, asks, is_refused}

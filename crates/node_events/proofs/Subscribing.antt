@@ -17,9 +17,9 @@ use Rattle.sub_table.specs.Parts.{is_in}
 use Rattle.sub_table.specs.Table.{Subscriptions, is_at}
 use Rattle.sox_msg.specs.Answered.{Answered}
 use Rattle.sox_msg.specs.Command.{Asked, add, read_part, delete, invoke, link, unlink, rename, reorder, read_slot, subscribe, unsubscribe, version, write, clear}
-use Rattle.sox_commands.specs.Answer.{Answer, answer, answer_by, command_of, refused_by, served_by}
-use Rattle.sox_commands.specs.declared.served.Served.{Served}
-use Rattle.sox_commands.specs.declared.served.Served.TheVariants.{Replied, SaveAsked}
+use Rattle.sox_serve.specs.Answer.{Answer, answer, answer_by, command_of, refused_by, served_by}
+use Rattle.sox_serve.specs.declared.served.Served.{Served}
+use Rattle.sox_serve.specs.declared.served.Served.TheVariants.{Replied, SaveAsked}
 use Rattle.node_events.specs.Delivering.{handed}
 use Rattle.node_events.specs.Heard.{Heard, Wish, asks, is_refused}
 use Rattle.node_events.specs.Mishap.{Mishap}

@@ -6,12 +6,12 @@ use Rattle.sed_engine.specs.Code.{Meaning}
 use Rattle.dasp_msg.specs.declared.kind.MsgKind.{MsgKind}
 use Rattle.dasp_msg.specs.declared.kind.MsgKind.TheVariants.{Hello, Challenge, Authenticate, Welcome, KeepAlive, Datagram, Close}
 use Rattle.dasp_msg.specs.Shown.{Message}
-use Rattle.dasp_users.specs.declared.user.User.{User}
-use Rattle.dasp_window.specs.declared.receiver.Taken.{Taken}
-use Rattle.dasp_window.specs.declared.receiver.Taken.TheVariants.{New, Repeat, Outside}
-use Rattle.dasp_window.specs.Numbers.{wire_number}
-use Rattle.dasp_window.specs.Posted.{has_room}
-use Rattle.dasp_window.specs.TakenIndexes.{after_take, taken_as}
+use Rattle.dasp_session.specs.declared.user.User.{User}
+use Rattle.dasp_msg.specs.declared.receiver.Taken.{Taken}
+use Rattle.dasp_msg.specs.declared.receiver.Taken.TheVariants.{New, Repeat, Outside}
+use Rattle.dasp_msg.specs.Numbers.{wire_number}
+use Rattle.dasp_msg.specs.Posted.{has_room}
+use Rattle.dasp_msg.specs.TakenIndexes.{after_take, taken_as}
 use Rattle.dasp_session.specs.Closing.{not_known, other_digest, other_version, too_many}
 use Rattle.dasp_session.specs.Hearing.{Effect, nothing, ended, delivers, Step, answered, ends, hears, in_session, is_authenticated, is_proof, refused, silent, taken_in}
 use Rattle.dasp_session.specs.Letters.{Letter, addressed, close, datagram, welcome}
@@ -21,7 +21,7 @@ use Rattle.dasp_session.specs.Session.{Session, State}
 use Rattle.dasp_session.specs.Ticking.{posted_in}
 use Rattle.sox_msg.specs.Answered.{Answered}
 use Rattle.sox_msg.specs.Command.{number_in}
-use Rattle.sox_commands.specs.Replies.{answered_text}
+use Rattle.sox_serve.specs.Replies.{answered_text}
 use Rattle.node_events.specs.Delivering.{delivered, handed}
 use Rattle.node_events.specs.Heard.{Heard, Wish}
 use Rattle.node_events.specs.Mishap.{Mishap}

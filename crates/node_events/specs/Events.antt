@@ -13,7 +13,7 @@ use Rattle.sub_table.specs.declared.part.Part.TheVariants.{Tree, Config, Runtime
 use Rattle.sub_table.specs.Table.{Subscriptions, with_event}
 use Rattle.sox_msg.specs.Command.{u2}
 use Rattle.sox_events.specs.Due.{letter_of}
-use Rattle.dasp_window.specs.Posted.{has_room}
+use Rattle.dasp_msg.specs.Posted.{has_room}
 use Rattle.dasp_session.specs.Letters.{Letter}
 use Rattle.dasp_session.specs.Looking.{session_at}
 use Rattle.dasp_session.specs.Receive.{Outcome, post_of}

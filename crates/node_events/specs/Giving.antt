@@ -1,7 +1,7 @@
 -- What is heard gives bytes alone.
 use Rattle.std.specs.Prelude.{List, [], ◌∷◌, Option, Some, None, ⊤}
-use Rattle.app_laws.specs.Bytes.{GivesBytes}
-use Rattle.sox_commands.specs.Answer.{command_of}
+use Rattle.app_file.specs.Bytes.{GivesBytes}
+use Rattle.sox_serve.specs.Answer.{command_of}
 use Rattle.node_events.specs.Heard.{Heard, Wish, asks, is_refused}
 use Rattle.node_events.specs.Running.{Event, comes, passes}
 

@@ -1,10 +1,10 @@
 -- The events of a program that runs over a link and a clock.
 use Rattle.std.specs.Prelude.{ℕ, List, [], ◌∷◌, ◌++◌, map}
 use Rattle.std.specs.List.{flat_map}
-use Rattle.live_outside.specs.declared.datagram.Datagram.{Datagram}
-use Rattle.live_outside.specs.declared.polling.Polling.{Polling}
-use Rattle.live_outside.specs.Clock.{Moments}
-use Rattle.live_outside.specs.Rounds.{LiveCycle, live_cycles}
+use Rattle.sed_outside.specs.declared.datagram.Datagram.{Datagram}
+use Rattle.sed_outside.specs.declared.polling.Polling.{Polling}
+use Rattle.sed_outside.specs.Clock.{Moments}
+use Rattle.sed_outside.specs.Rounds.{LiveCycle, live_cycles}
 use Rattle.replay_log.specs.Entry.{Entry, datagram, tick}
 
 abbrev pub heard_as : Datagram → Entry

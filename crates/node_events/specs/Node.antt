@@ -4,8 +4,8 @@ use Rattle.std.specs.Option.{option_map_or}
 use Rattle.sed_engine.specs.Code.{Meaning}
 use Rattle.comp_tree.specs.Application.{Application, ById, is_live}
 use Rattle.comp_tree.specs.Cycle.{Begin}
-use Rattle.dasp_users.specs.declared.user.User.{User}
-use Rattle.dasp_window.specs.Posted.{open_part}
+use Rattle.dasp_session.specs.declared.user.User.{User}
+use Rattle.dasp_msg.specs.Posted.{open_part}
 use Rattle.dasp_session.specs.Hearing.{is_authenticated}
 use Rattle.dasp_session.specs.Looking.{session_at}
 use Rattle.dasp_session.specs.Receive.{new_state}

@@ -2,16 +2,16 @@
 use Rattle.std.specs.Prelude.{◌≡◌, ℕ, ℤ, false, Some, List, [], ◌∷◌, length}
 use Rattle.sed_outside.specs.declared.addr.Addr.{Addr}
 use Rattle.dasp_msg.specs.Shown.{Message}
-use Rattle.dasp_window.specs.Numbers.{wire_number}
-use Rattle.dasp_window.specs.Posted.{after_push}
-use Rattle.dasp_window.specs.TakenIndexes.{after_take}
+use Rattle.dasp_msg.specs.Numbers.{wire_number}
+use Rattle.dasp_msg.specs.Posted.{after_push}
+use Rattle.dasp_msg.specs.TakenIndexes.{after_take}
 use Rattle.dasp_session.specs.Hearing.{hears}
 use Rattle.dasp_session.specs.Letters.{Letter, datagram}
 use Rattle.dasp_session.specs.Looking.{Found, found_from, is_session_of, session_at}
 use Rattle.dasp_session.specs.Session.{Session}
 use Rattle.sox_msg.specs.Answered.{Answered}
 use Rattle.sox_msg.specs.Command.{number_in}
-use Rattle.sox_commands.specs.Replies.{answered_text}
+use Rattle.sox_serve.specs.Replies.{answered_text}
 use Rattle.node_events.specs.Delivering.{Delivery}
 use Rattle.node_events.specs.Node.{Node}
 

@@ -7,9 +7,9 @@ use Rattle.comp_tree.specs.Edit.{Edit}
 use Rattle.sub_table.specs.Table.{Subscriptions, with_subscribed, without_subscribed}
 use Rattle.sox_msg.specs.Answered.{Answered, refused}
 use Rattle.sox_msg.specs.Command.{Asked}
-use Rattle.sox_commands.specs.Answer.{Answer, answer, command_of, may_want_memory, refused_by}
-use Rattle.sox_commands.specs.declared.served.Served.{Served}
-use Rattle.sox_commands.specs.declared.served.Served.TheVariants.{Replied, SaveAsked, Subscribe, Unsubscribe, Deleted}
+use Rattle.sox_serve.specs.Answer.{Answer, answer, command_of, may_want_memory, refused_by}
+use Rattle.sox_serve.specs.declared.served.Served.{Served}
+use Rattle.sox_serve.specs.declared.served.Served.TheVariants.{Replied, SaveAsked, Subscribe, Unsubscribe, Deleted}
 use Rattle.node_events.specs.Heard.{Wish, asks, is_refused}
 use Rattle.node_events.specs.Mishap.{Mishap, is_no_memory}
 use Rattle.node_events.specs.Node.{Node, Setup, of_the_live}

@@ -9,7 +9,7 @@ ghost use Rattle.dasp_msg.specs.Shown.{Message};
 ghost use Rattle.dasp_session.specs.Looking.{found_from, is_session_of};
 ghost use Rattle.sox_msg.specs.Answered.{Answered, refused};
 ghost use Rattle.sox_msg.specs.Command.{Asked};
-ghost use Rattle.sox_commands.specs.Answer.{answer, asks_for_save};
+ghost use Rattle.sox_serve.specs.Answer.{answer, asks_for_save};
 ghost use Rattle.node_events.specs.Delivering.{delivered, leaves};
 ghost use Rattle.node_events.specs.Elsewhere.{IsAtOnePlace};
 ghost use Rattle.node_events.specs.Heard.{Heard as Hearing, IsWish, asks, is_refused};
@@ -19,7 +19,7 @@ ghost use Rattle.node_events.specs.Replying.{IsReplied};
 ghost use Rattle.node_events.specs.Saving.{Save, answer_to_save};
 
 use dasp_session::strangers_change_nothing;
-use sox_commands::{commands_are_refused_by_their_rows, refused_commands_change_nothing};
+use sox_serve::{commands_are_refused_by_their_rows, refused_commands_change_nothing};
 
 /// A datagram that is no message leaves a node as it was, and gets no answer. So does a message, but a hello, whose
 /// id or address is that of no live session.

@@ -3,7 +3,7 @@ ghost use Rattle.std.specs.Prelude.{◌≡◌, ◌≤◌, ◌+◌, ◌*◌, ℕ,
 ghost use Rattle.sed_outside.specs.declared.addr.Addr.{Addr as Address};
 ghost use Rattle.sed_engine.specs.Code.{Meaning};
 ghost use Rattle.comp_tree.specs.Application.{Application};
-ghost use Rattle.dasp_users.specs.declared.user.User.{User};
+ghost use Rattle.dasp_session.specs.declared.user.User.{User};
 ghost use Rattle.node_events.specs.Delivering.{delivered};
 ghost use Rattle.node_events.specs.Events.{Telling};
 ghost use Rattle.node_events.specs.Heard.{Heard as Hearing};

@@ -2,7 +2,7 @@
 ghost use Rattle.std.specs.Prelude.{◌≡◌, ◌⊎◌, ℕ, ℤ, List, None, false, is_some, true};
 ghost use Rattle.sed_engine.specs.Code.{Meaning};
 ghost use Rattle.comp_tree.specs.Application.{Application, is_live};
-ghost use Rattle.dasp_users.specs.declared.user.User.{User};
+ghost use Rattle.dasp_session.specs.declared.user.User.{User};
 ghost use Rattle.node_events.specs.Node.{Node as State, OnlyOfTheLive, OnlyOfTheOpen, Setup, opened};
 ghost use Rattle.node_events.specs.Events.{PartAt, Telling, told_if_due};
 ghost use Rattle.node_events.specs.Ticking.{at_place as visited, timed as in_time};

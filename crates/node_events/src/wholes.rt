@@ -5,13 +5,13 @@ ghost use Rattle.sed_engine.specs.Code.{Meaning};
 ghost use Rattle.sed_engine.specs.Whole.{IsWhole};
 ghost use Rattle.comp_tree.specs.Application.{Application};
 ghost use Rattle.comp_tree.specs.Whole.{Whole};
-ghost use Rattle.dasp_users.specs.declared.user.User.{User};
+ghost use Rattle.dasp_session.specs.declared.user.User.{User};
 ghost use Rattle.node_events.specs.Giving.{AllGiveBytes, EventGivesBytes, HeardGivesBytes};
 ghost use Rattle.node_events.specs.Heard.{Heard as Hearing, IsHeard};
 ghost use Rattle.node_events.specs.Node.{Node as State, Setup, opened};
 ghost use Rattle.node_events.specs.Running.{Event as Happening, one_event, run};
 
-use app_laws::{a_cycle_keeps_whole, an_edit_keeps_whole};
+use app_file::{a_cycle_keeps_whole, an_edit_keeps_whole};
 
 /// A node that begins with a whole application has a whole one after it has begun, after each event and after each run,
 /// where the code is whole and what the events give are bytes, as what bytes say does.

@@ -1,3 +1,10 @@
+pub mod MapLemmas
+pub mod MatchLemmas
+pub mod ReadLemmas
+pub mod SchemaLemmas
+pub mod ConfigLemmas
+pub mod GivenLemmas
+pub mod StoredLemmas
 pub mod IndexLemmas
 pub mod TakenLemmas
 pub mod MarkLemmas

@@ -1,3 +1,8 @@
+pub mod Rows
+pub mod Values
+pub mod Same
+pub mod Properties
+pub mod Read
 pub mod Limits
 pub mod Indexed
 pub mod Taken

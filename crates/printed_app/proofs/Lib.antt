@@ -1,3 +1,4 @@
+pub mod Sequence
 mod Dotted
 mod Entries
 mod Missing

@@ -8,8 +8,8 @@ use Rattle.std.specs.Prelude.{IsErr}
 use Rattle.sed_typed.specs.Classes.{reached}
 use Rattle.sed_outside.specs.declared.sink.Sink.{Ghosts}
 use Rattle.sed_outside.specs.declared.sink.SinkFault.{SinkFault}
-use Rattle.printed_text.specs.Puts.{Puts}
-use Rattle.printed_text.proofs.Sequence.{stops, text_is, then_put}
+use Rattle.printed_app.specs.Puts.{Puts}
+use Rattle.printed_app.proofs.Sequence.{stops, text_is, then_put}
 
 -- the last step stands behind the others
 pub flat_map-reverse : (f : ℕ → List ℕ) (x : ℕ) (xs : List ℕ) →

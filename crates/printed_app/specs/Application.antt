@@ -9,7 +9,7 @@ use Rattle.sed_typed.specs.declared.schema.ClassInfo.{ClassInfo}
 use Rattle.sed_typed.specs.declared.schema.SlotInfo.{SlotInfo}
 use Rattle.sed_typed.specs.Classes.{slots}
 use Rattle.sed_engine.specs.Code.{Meaning}
-use Rattle.printed_text.specs.Printed.{fault_line, line_end, property_line}
+use Rattle.printed_app.specs.Printed.{fault_line, line_end, property_line}
 use Rattle.comp_tree.specs.Application.{Application, ById, Component, Link, name_of, value_at}
 use Rattle.comp_tree.specs.Order.{ancestors, depth_first}
 use Rattle.comp_tree.specs.Parts.{is_property_form}

@@ -4,7 +4,7 @@ use Rattle.std.specs.Fmt.{decimal}
 use Rattle.std.specs.List.{join_with_byte}
 use Rattle.hex.specs.Hex.{encode_lower}
 use Rattle.sed_outside.specs.declared.addr.Addr.{Addr}
-use Rattle.printed_text.specs.Printed.{line_end}
+use Rattle.printed_app.specs.Printed.{line_end}
 
 abbrev pub dot : ℕ
 dot = 46

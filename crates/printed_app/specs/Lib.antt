@@ -1,3 +1,6 @@
+pub mod Printed
+pub mod Puts
+pub mod Collected
 pub mod Application
 pub mod Datagram
 pub mod Summary

@@ -1,7 +1,7 @@
 -- The printed form of what a run came to.
 use Rattle.std.specs.Prelude.{ℕ, List, ◌++◌, codes}
 use Rattle.std.specs.Fmt.{decimal}
-use Rattle.printed_text.specs.Printed.{line_end}
+use Rattle.printed_app.specs.Printed.{line_end}
 use Rattle.printed_app.specs.declared.summary.Summary.{Summary}
 
 -- `NAME N`

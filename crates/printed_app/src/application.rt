@@ -3,7 +3,7 @@ ghost use Rattle.std.specs.List.{flat_map};
 ghost use Rattle.comp_tree.specs.Held.{components_of};
 ghost use Rattle.comp_tree.specs.Order.{depth_first};
 ghost use Rattle.link_prop.specs.Linked.{application_of};
-ghost use Rattle.printed_text.specs.Puts.{Puts};
+ghost use Rattle.printed_app.specs.Puts.{Puts};
 ghost use Rattle.printed_app.specs.Application.{application_text, component_text};
 
 use crate::component::put_component;

@@ -2,14 +2,14 @@
 ghost use Rattle.std.specs.Prelude.{◌++◌, codes};
 ghost use Rattle.std.specs.Fmt.{decimal};
 ghost use Rattle.comp_tree.specs.Held.{components_of};
-ghost use Rattle.printed_text.specs.Printed.{fault_line};
-ghost use Rattle.printed_text.specs.Puts.{Puts};
+ghost use Rattle.printed_app.specs.Printed.{fault_line};
+ghost use Rattle.printed_app.specs.Puts.{Puts};
 ghost use Rattle.printed_app.specs.Application.{class_text, component_line, component_text, kit_name};
 
 use crate::path::put_path;
 use crate::properties::put_properties;
+use crate::{put_bytes, put_fault_line, put_number, put_word};
 use comp_tree::Tree;
-use printed_text::{put_bytes, put_fault_line, put_number, put_word};
 use sed_engine::Engine;
 use sed_outside::{Sink, SinkFault};
 use sed_typed::{ClassInfo, TypeNo};

@@ -1,15 +1,15 @@
 //! The links of an application.
 ghost use Rattle.std.specs.Prelude.{◌++◌, codes};
 ghost use Rattle.std.specs.List.{flat_map};
-ghost use Rattle.printed_text.specs.Printed.{line_end};
-ghost use Rattle.printed_text.specs.Puts.{Puts};
+ghost use Rattle.printed_app.specs.Printed.{line_end};
+ghost use Rattle.printed_app.specs.Puts.{Puts};
 ghost use Rattle.printed_app.specs.Application.{end_text, link_line};
 
+use crate::{put_bytes, put_number};
 use link_prop::App;
-use link_table::LinkRec;
-use printed_text::{put_bytes, put_number};
 use sed_engine::Engine;
 use sed_outside::{Sink, SinkFault};
+use sub_table::LinkRec;
 
 /// Puts a line for each link into a sink, in ascending order of the links' targets. Takes no memory of its own.
 pub fn put_links<E: Engine, O: Sink>(app: &App<E>, out: &mut O) -> Result<(), SinkFault>

@@ -5,11 +5,11 @@ ghost use Rattle.std.specs.Option.{option_map};
 ghost use Rattle.comp_tree.specs.Application.{name_of, parent_of};
 ghost use Rattle.comp_tree.specs.Held.{components_of};
 ghost use Rattle.sed_typed.specs.Classes.{reached};
-ghost use Rattle.printed_text.specs.Puts.{Puts};
+ghost use Rattle.printed_app.specs.Puts.{Puts};
 ghost use Rattle.printed_app.specs.Application.{path_text, step_text};
 
+use crate::put_bytes;
 use comp_tree::Tree;
-use printed_text::put_bytes;
 use sed_engine::Engine;
 use sed_outside::{Sink, SinkFault};
 use sed_value::Id;

@@ -4,12 +4,12 @@ ghost use Rattle.std.specs.FinMap as map;
 ghost use Rattle.std.specs.List.{enumerate_from, flat_map};
 ghost use Rattle.sed_typed.specs.Classes as classes;
 ghost use Rattle.comp_tree.specs.Held.{components_of};
-ghost use Rattle.printed_text.specs.Printed.{property_line};
-ghost use Rattle.printed_text.specs.Puts.{Puts};
+ghost use Rattle.printed_app.specs.Printed.{property_line};
+ghost use Rattle.printed_app.specs.Puts.{Puts};
 ghost use Rattle.printed_app.specs.Application.{property_lines, slot_line};
 
+use crate::{put_bytes, put_property_line};
 use comp_tree::Tree;
-use printed_text::{put_bytes, put_property_line};
 use sed_engine::Engine;
 use sed_outside::{Sink, SinkFault};
 use sed_typed::{SlotForm, SlotInfo, TypeNo};

@@ -1,9 +1,9 @@
 //! What a run came to.
 ghost use Rattle.std.specs.Prelude.{codes};
-ghost use Rattle.printed_text.specs.Puts.{Puts};
+ghost use Rattle.printed_app.specs.Puts.{Puts};
 ghost use Rattle.printed_app.specs.Summary.{count_line, summary_text};
 
-use printed_text::{put_bytes, put_number};
+use crate::{put_bytes, put_number};
 use sed_outside::{Sink, SinkFault};
 
 /// The counts of a run: its cycles, the datagrams that it took and those that it offered to be sent, the traps of its

@@ -1,8 +1,7 @@
 //! A disk and a link that note what is asked of them.
 
 use disk_model::{Disk, DiskFault};
-use live_outside::{Link, LinkFault, Polled};
-use sed_outside::Addr;
+use sed_outside::{Addr, Link, LinkFault, Polled};
 use std::alloc::Global;
 
 /// A disk or a link; how often a name was attached, or which ports were asked for; how many calls there were of the

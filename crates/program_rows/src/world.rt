@@ -1,9 +1,8 @@
 //! A world in memory for the call: files, a link, a clock, a disk and a sink, as the texts of a row say.
 use crate::watched::Watched;
 use disk_model::{Disk, MemDisk};
-use live_outside::{Clock, Link, MemClock, MemLink, Polling};
 use rows::{Case, CaseFault};
-use sed_outside::{Addr, Files, MemFiles, MemSink, Sink};
+use sed_outside::{Addr, Clock, Files, Link, MemClock, MemFiles, MemLink, MemSink, Polling, Sink};
 use sed_value::Items;
 use sedona_cli::sedona;
 use std::alloc::Global;

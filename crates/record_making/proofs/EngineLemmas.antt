@@ -14,8 +14,8 @@ use Rattle.sed_typed.specs.declared.schema.SlotInfo.{SlotInfo}
 use Rattle.sed_typed.specs.Classes.{slots}
 use Rattle.sed_engine.specs.Code.{Meaning, Object, Places, data_of, is_creatable, is_property, new_object, slot_value}
 use Rattle.sed_engine.specs.Whole.{HasTables}
-use Rattle.prop_values.specs.Properties.{config_slots}
-use Rattle.prop_values.specs.Values.{spelling_of_all}
+use Rattle.node_table.specs.Properties.{config_slots}
+use Rattle.node_table.specs.Values.{spelling_of_all}
 use Rattle.record_making.specs.declared.class.Sort.TheVariants.{Config}
 use Rattle.record_making.specs.Slots.{is_of, numbers_that}
 use Rattle.record_making.specs.Types.{initial_config}

@@ -6,9 +6,9 @@ use Rattle.std.specs.Cmp.Lexicographic.{pointwise, bytes_decides}
 use Rattle.std.proofs.lemmas.List.Elements.{All-tail}
 use Rattle.sed_engine.specs.Code.{Meaning}
 use Rattle.sed_engine.specs.Whole.{HasTables}
-use Rattle.dasp_users.specs.declared.user.User.{User}
-use Rattle.dasp_users.specs.Line.{IsUser, is_name_byte, is_user_name}
-use Rattle.dasp_users.specs.UsersFile.{AreUsers, credential_of}
+use Rattle.dasp_session.specs.declared.user.User.{User}
+use Rattle.dasp_session.specs.Line.{IsUser, is_name_byte, is_user_name}
+use Rattle.dasp_session.specs.UsersFile.{AreUsers, credential_of}
 use Rattle.replay_log.specs.Generated.{MayGenerate, is_user, is_user_byte}
 use Rattle.record_making.specs.declared.asked.GenAsked.{GenAsked}
 use Rattle.record_making.specs.Spec.{IsAllowed, spec_with}

@@ -20,9 +20,9 @@ use Rattle.sed_typed.specs.Sizes.{config_size, value_size}
 use Rattle.sed_engine.specs.Code.{Meaning, is_property, new_object, property_type, slot_path, slot_type, slot_value}
 use Rattle.sed_engine.specs.Fits.{form_at, form_of, is_kept, keeps}
 use Rattle.sed_engine.specs.Whole.{HasTables, field_form}
-use Rattle.prop_values.specs.Properties.{config_slots, is_config, is_property_form}
-use Rattle.prop_values.specs.Values.{spelling_of, spelling_of_all}
-use Rattle.prop_values.proofs.StoredLemmas.{kept_at}
+use Rattle.node_table.specs.Properties.{config_slots, is_config, is_property_form}
+use Rattle.node_table.specs.Values.{spelling_of, spelling_of_all}
+use Rattle.node_table.proofs.StoredLemmas.{kept_at}
 use Rattle.record_making.specs.Types.{initial_config}
 use Rattle.record_making.proofs.SlotLemmas.{numbers_from}
 use Rattle.app_parts.proofs.ValueLemmas.{spelling-size}

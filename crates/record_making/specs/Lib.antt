@@ -1,5 +1,5 @@
-pub use Rattle.dasp_users.specs.Digest.{nonce_of, digest_of}
-pub use Rattle.dasp_users.specs.UsersFile.{AreUsers, credential_of}
+pub use Rattle.dasp_session.specs.Digest.{nonce_of, digest_of}
+pub use Rattle.dasp_session.specs.UsersFile.{AreUsers, credential_of}
 pub use Rattle.replay_log.specs.Generated.{IsGenerated}
 pub mod Types
 pub mod Slots

@@ -2,7 +2,7 @@
 use Rattle.std.specs.Prelude.{ℕ, Bool, List, map, filter}
 use Rattle.std.specs.List.{enumerate_from}
 use Rattle.sed_typed.specs.declared.schema.SlotInfo.{SlotInfo}
-use Rattle.prop_values.specs.Properties.{is_config}
+use Rattle.node_table.specs.Properties.{is_config}
 use Rattle.record_making.specs.declared.class.Sort.{Sort}
 use Rattle.record_making.specs.declared.class.Sort.TheVariants.{Config, Int}
 use Rattle.record_making.specs.Types.{is_int}

@@ -2,9 +2,9 @@
 use Rattle.std.specs.Prelude.{ℕ, ◌≤◌, List, [], ◌∷◌, Option, IsSomeAnd}
 use Rattle.std.specs.Option.{option_map}
 use Rattle.sed_engine.specs.Code.{Meaning}
-use Rattle.dasp_users.specs.declared.user.User.{User}
-use Rattle.dasp_users.specs.Digest.{nonce_of, digest_of}
-use Rattle.dasp_users.specs.UsersFile.{credential_of}
+use Rattle.dasp_session.specs.declared.user.User.{User}
+use Rattle.dasp_session.specs.Digest.{nonce_of, digest_of}
+use Rattle.dasp_session.specs.UsersFile.{credential_of}
 use Rattle.replay_log.specs.declared.gen_spec.GenSpec.{GenSpec}
 use Rattle.replay_log.specs.declared.gen_spec.GenType.{GenType}
 use Rattle.replay_log.specs.Generated.{IsGenerated}

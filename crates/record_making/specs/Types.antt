@@ -12,8 +12,8 @@ use Rattle.sed_typed.specs.Schemas.{type_at}
 use Rattle.sed_typed.specs.SysTypes.{app_type}
 use Rattle.sed_typed.specs.TypedSchema.{types_of}
 use Rattle.sed_engine.specs.Code.{Meaning, new_object, slot_value}
-use Rattle.prop_values.specs.Properties.{config_slots, slots_that}
-use Rattle.prop_values.specs.Values.{spelling_of_all}
+use Rattle.node_table.specs.Properties.{config_slots, slots_that}
+use Rattle.node_table.specs.Values.{spelling_of_all}
 use Rattle.replay_log.specs.declared.gen_spec.GenType.{GenType}
 use Rattle.replay_log.specs.Generated.{for_each}
 

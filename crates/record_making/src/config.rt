@@ -3,7 +3,7 @@ ghost use Rattle.std.specs.Prelude.{◌≡◌, ◌≤◌, ◌++◌, map as map_l
 ghost use Rattle.std.specs.FinMap as map;
 ghost use Rattle.std.specs.List.{list_all};
 ghost use Rattle.sed_engine.specs.Code.{is_creatable, is_property, new_object, slot_value};
-ghost use Rattle.prop_values.specs.Values.{spelling_of, spelling_of_all};
+ghost use Rattle.node_table.specs.Values.{spelling_of, spelling_of_all};
 ghost use Rattle.record_making.specs.Types.{initial_config};
 
 use crate::class::{Sort, slots_that};

@@ -1,9 +1,9 @@
 //! Laws of the records that are generated for codes. Each is the contract of a function that does nothing.
 ghost use Rattle.std.specs.Prelude.{◌≡◌, ℕ, List, Some, IsTrue};
 ghost use Rattle.sed_engine.specs.Code.{Meaning};
-ghost use Rattle.dasp_users.specs.declared.user.User.{User};
-ghost use Rattle.dasp_users.specs.Digest.{nonce_of};
-ghost use Rattle.dasp_users.specs.UsersFile.{credential_of};
+ghost use Rattle.dasp_session.specs.declared.user.User.{User};
+ghost use Rattle.dasp_session.specs.Digest.{nonce_of};
+ghost use Rattle.dasp_session.specs.UsersFile.{credential_of};
 ghost use Rattle.dasp_session.specs.Hearing.{is_proof};
 ghost use Rattle.dasp_session.specs.Receive.{id_of};
 ghost use Rattle.record_making.specs.declared.asked.GenAsked.{GenAsked};

@@ -1,14 +1,14 @@
 //! Generating the record of a code.
 ghost use Rattle.std.specs.Prelude.{◌≡◌, ◌≤◌, ◌↔◌, None, IfOk, IsErrOf};
 ghost use Rattle.std.specs.FinMap as map;
-ghost use Rattle.dasp_users.specs.UsersFile.{AreUsers, credential_of};
+ghost use Rattle.dasp_session.specs.UsersFile.{AreUsers, credential_of};
 ghost use Rattle.replay_log.specs.Generated.{IsGenerated, MayGenerate};
 ghost use Rattle.record_making.specs.Spec.{IsAllowed, IsRecordOf, spec_with, wanted_digests};
 
 use crate::asked::GenAsked;
 use crate::refusal::RecordRefusal;
 use crate::types::drawn_types;
-use dasp_users::{Users, digest, nonce};
+use dasp_session::{Users, digest, nonce};
 use replay_log::{GenSpec, GenType, generate_record};
 use sed_engine::Engine;
 use sed_value::{Items, Memory};

@@ -21,10 +21,10 @@ use Rattle.scode_cells.specs.declared.cell.Cell.TheVariants as cell
 use Rattle.scode_vm.specs.Calling.{given_by}
 use Rattle.scode_vm.specs.Doings.{IsValue}
 use Rattle.scode_vm.specs.Seen.{val_of}
-use Rattle.scode_machine.specs.AtWork.{Rooted, Running, end_of, setting_of, shared_by}
+use Rattle.scode_engine.specs.AtWork.{Rooted, Running, end_of, setting_of, shared_by}
 use Rattle.scode_engine.specs.Answered.{IsAnswered, IsReady}
 use Rattle.scode_engine.specs.Lookups.{IsFound, argument_seen}
-use Rattle.scode_machine.specs.RootCall.{EndsAs, MayBegin, question_of}
+use Rattle.scode_engine.specs.RootCall.{EndsAs, MayBegin, question_of}
 
 -- a cell that is an argument stands for it wherever it is looked at
 record Given (w : Setting) (place : Place) (c : Option Cell) : Type 0 where

@@ -20,11 +20,11 @@ use Rattle.scode_sound.specs.Rooted.{root_end_of}
 use Rattle.scode_cells.specs.Frames.{Frames}
 use Rattle.scode_vm.specs.Doings.{HasCells}
 use Rattle.scode_whole.proofs.Whole.{first_rule}
-use Rattle.scode_machine.specs.AtWork.{Rooted, running_on}
-use Rattle.scode_objects.specs.Loaded.{IsLeftBy, IsLoaded, live_of, object_in, statics_of}
-use Rattle.scode_objects.proofs.Changes.{block_at, object_at}
+use Rattle.scode_engine.specs.AtWork.{Rooted, running_on}
+use Rattle.scode_engine.specs.Loaded.{IsLeftBy, IsLoaded, live_of, object_in, statics_of}
+use Rattle.scode_engine.proofs.Changes.{block_at, object_at}
 use Rattle.scode_engine.specs.Answered.{IsAnswered, IsReady}
-use Rattle.scode_machine.specs.RootCall.{question_of}
+use Rattle.scode_engine.specs.RootCall.{question_of}
 
 -- what may be asked is answered by the code's root call
 answered_so : (image : Image) (x : Question) → MayAsk (code_of image) x

@@ -1,3 +1,17 @@
+pub mod Sums
+pub mod Changes
+pub mod Adding
+pub mod Behind
+pub mod Parts
+pub mod Told
+pub mod Leaving
+pub mod Properties
+pub mod Fields
+pub mod Fetching
+pub mod Here
+pub mod Steps
+pub mod Begins
+pub mod Ends
 pub mod Answering
 pub mod Asking
 pub mod Enough

@@ -11,9 +11,9 @@ use Rattle.scode_sound.specs.Rooted.{root_end_of}
 use Rattle.scode_cells.specs.Frames.{Frames}
 use Rattle.scode_vm.specs.Doings.{HasCells}
 use Rattle.scode_access.specs.Within.{IsGround}
-use Rattle.scode_machine.specs.AtWork.{Rooted, Running, setting_of}
-use Rattle.scode_objects.specs.Loaded.{IsLeftBy}
-use Rattle.scode_machine.specs.RootCall.{question_of}
+use Rattle.scode_engine.specs.AtWork.{Rooted, Running, setting_of}
+use Rattle.scode_engine.specs.Loaded.{IsLeftBy}
+use Rattle.scode_engine.specs.RootCall.{question_of}
 
 -- This root may be asked with this argument: the image is verified, the object live, all blocks fit, there are cells
 -- enough, and no frame runs yet.

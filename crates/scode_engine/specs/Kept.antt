@@ -8,7 +8,7 @@ use Rattle.scode_mem.specs.Blocks.{Held}
 use Rattle.scode_mem.specs.Kept.{held_code}
 use Rattle.scode_cells.specs.declared.cell.Cell.{Cell}
 use Rattle.scode_cells.specs.Frames.{Frames}
-use Rattle.scode_objects.specs.Loaded.{IsLoaded}
+use Rattle.scode_engine.specs.Loaded.{IsLoaded}
 use Rattle.scode_vm.specs.Calling.{AreZeros}
 use Rattle.scode_vm.specs.Doings.{HasCells}
 

@@ -1,3 +1,8 @@
+pub mod Loaded
+pub mod Slots
+pub mod AtWork
+pub mod Root
+pub mod RootCall
 pub mod Answered
 pub mod Kept
 pub mod Lookups

@@ -3,7 +3,7 @@ ghost use Rattle.std.specs.Prelude.{◌≡◌};
 ghost use Rattle.sed_engine.specs.Root.{argument_of, end_of};
 ghost use Rattle.sed_engine.specs.State.{Shared};
 ghost use Rattle.sed_engine.specs.Stops.{there};
-ghost use Rattle.scode_machine.specs.AtWork.{Rooted, end_of as ended};
+ghost use Rattle.scode_engine.specs.AtWork.{Rooted, end_of as ended};
 ghost use Rattle.scode_engine.specs.Lookups.{IsFound, argument_seen};
 
 use scode_cells::Cell;

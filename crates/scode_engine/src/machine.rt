@@ -2,15 +2,13 @@
 ghost use Rattle.std.specs.Prelude.{◌≡◌, true, IfOk};
 ghost use Rattle.std.specs.FinMap as map;
 ghost use Rattle.scode_code.specs.Image.{meaning_of};
-ghost use Rattle.scode_objects.specs.Loaded.{live_of, statics_of};
+ghost use Rattle.scode_engine.specs.Loaded.{live_of, statics_of};
 
 use crate::calls::call;
 use crate::rooms::{most_cells, zeros_of};
+use crate::{add_object, get_slot, is_same_field, new_objects, remove_object, schema_of, set_slot};
 use scode_cells::{Cell, Cells};
 use scode_mem::Pool;
-use scode_objects::{
-    add_object, get_slot, is_same_field, new_objects, remove_object, schema_of, set_slot,
-};
 use scode_sound::verified_images_are_whole;
 use scode_verify::Verified;
 use sed_engine::{AddRefusal, CallEnd, Engine, Place, Root};

@@ -24,13 +24,13 @@ use Rattle.sed_terms.specs.SortKind.{kind_in}
 use Rattle.sed_terms.specs.Sorts.{sort_of, term_kind, term_kinds, is_kind}
 use Rattle.sed_terms.specs.Term.{Term, Absent, Node, leaf, with_item}
 use Rattle.sed_terms.specs.TypedTerm.{IsTerm, AreTerms}
-use Rattle.sed_conversions.specs.Conversions.{placed}
-use Rattle.sed_members.specs.declared.context.Body.{Body}
-use Rattle.sed_members.specs.declared.context.Callee.{Callee}
-use Rattle.sed_members.specs.Calls.{kind_at, params_of, argument, with_argument, callee_of, callee, reached, own_callee, super_callee, static_call, invocation, super_invocation, own_call, super_called, class_call, object_call, text_named, text_params, text_callee, text_called, no_method, called_by, called, system_call, params_by, params_behind}
+use Rattle.sed_body_rules.specs.Conversions.{placed}
+use Rattle.sed_bodies.specs.declared.context.Body.{Body}
+use Rattle.sed_bodies.specs.declared.context.Callee.{Callee}
+use Rattle.sed_bodies.specs.Calls.{kind_at, params_of, argument, with_argument, callee_of, callee, reached, own_callee, super_callee, static_call, invocation, super_invocation, own_call, super_called, class_call, object_call, text_named, text_params, text_callee, text_called, no_method, called_by, called, system_call, params_by, params_behind}
 use Rattle.sed_bodies.specs.Inside.{IsMethod, IsIn, IsReady, Goes}
-use Rattle.sed_members.specs.Members.{known, through, receiver, owner_of}
-use Rattle.sed_scope.specs.Scope.{Scope}
+use Rattle.sed_bodies.specs.Members.{known, through, receiver, owner_of}
+use Rattle.sed_body_rules.specs.Scope.{Scope}
 use Rattle.sed_bodies.proofs.MembersRight.{receiver_right, through_right}
 use Rattle.sed_bodies.proofs.Ready.{ready_value, kind_is}
 use Rattle.sed_bodies.proofs.Right.{one_right, after_right, joined_right, unless_right, some_right}

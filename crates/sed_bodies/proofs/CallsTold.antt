@@ -26,16 +26,16 @@ use Rattle.sed_terms.specs.Faults.{all_faults, least_fault, broken, told, joined
 use Rattle.sed_terms.specs.Forms.{bytes_of, size_of}
 use Rattle.sed_terms.specs.Sorts.{sort_of}
 use Rattle.sed_terms.specs.Term.{Term, leaf}
-use Rattle.sed_conversions.specs.Conversions.{placed}
-use Rattle.sed_members.specs.declared.context.Body.{Body}
-use Rattle.sed_members.specs.declared.context.Callee.{Callee}
-use Rattle.sed_members.specs.declared.context.Owner.{Owner}
-use Rattle.sed_members.specs.declared.context.Owner.TheVariants as owner
-use Rattle.sed_scope.specs.declared.local.Local.{Local}
-use Rattle.sed_members.specs.Calls.{argument, with_argument, callee_of, callee, reached, own_callee, super_callee, static_call, invocation, super_invocation, no_method, own_call, super_called, class_call, object_call, text_named, text_params, text_callee, text_called, called_by, called, system_call, params_behind}
-use Rattle.sed_members.specs.Literals.{integer, character, text, literal_of, literal_judged}
-use Rattle.sed_members.specs.Members.{known, field_of, static_term, static_of, define_of, own_member, class_member, through, object_member, buf_member, member_by, owner_of, member_of, named_by, named, receiver, fits, spelled, spelled_head}
-use Rattle.sed_scope.specs.Scope.{Scope, local_named}
+use Rattle.sed_body_rules.specs.Conversions.{placed}
+use Rattle.sed_bodies.specs.declared.context.Body.{Body}
+use Rattle.sed_bodies.specs.declared.context.Callee.{Callee}
+use Rattle.sed_bodies.specs.declared.context.Owner.{Owner}
+use Rattle.sed_bodies.specs.declared.context.Owner.TheVariants as owner
+use Rattle.sed_body_rules.specs.declared.local.Local.{Local}
+use Rattle.sed_bodies.specs.Calls.{argument, with_argument, callee_of, callee, reached, own_callee, super_callee, static_call, invocation, super_invocation, no_method, own_call, super_called, class_call, object_call, text_named, text_params, text_callee, text_called, called_by, called, system_call, params_behind}
+use Rattle.sed_bodies.specs.Literals.{integer, character, text, literal_of, literal_judged}
+use Rattle.sed_bodies.specs.Members.{known, field_of, static_term, static_of, define_of, own_member, class_member, through, object_member, buf_member, member_by, owner_of, member_of, named_by, named, receiver, fits, spelled, spelled_head}
+use Rattle.sed_body_rules.specs.Scope.{Scope, local_named}
 use Rattle.sed_bodies.proofs.Told.{Both, after_told, joined_told, unless_told, some_told}
 
 abbrev All : Type 0

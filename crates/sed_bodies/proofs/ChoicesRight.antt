@@ -13,14 +13,14 @@ use Rattle.sed_terms.specs.Forms.{has_elements, indexed}
 use Rattle.sed_terms.specs.Sorts.{sort_of, term_kind, is_value}
 use Rattle.sed_terms.specs.Term.{Term, Node}
 use Rattle.sed_terms.specs.TypedTerm.{IsTerm}
-use Rattle.sed_operands.specs.Choices.{equal_branches, branches, branched, chosen}
-use Rattle.sed_conversions.specs.Conversions.{is_number, is_int, is_operand, same_kind, meeting, in_width, beside}
-use Rattle.sed_operands.specs.Operands.{element}
-use Rattle.sed_conversions.specs.Wants.{wants, truth}
+use Rattle.sed_body_rules.specs.Choices.{equal_branches, branches, branched, chosen}
+use Rattle.sed_body_rules.specs.Conversions.{is_number, is_int, is_operand, same_kind, meeting, in_width, beside}
+use Rattle.sed_body_rules.specs.Operands.{element}
+use Rattle.sed_body_rules.specs.Wants.{wants, truth}
 use Rattle.sed_bodies.proofs.OperandsRight.{Passes, IsTruth, wants_right, truth_right, beside_ready, sort_of_ready, in_both}
 use Rattle.sed_bodies.specs.Inside.{IsReady, HasKinds}
 use Rattle.sed_bodies.proofs.Ready.{ready_value, int_is}
-use Rattle.sed_conversions.specs.Values.{number_value, int_value}
+use Rattle.sed_body_rules.specs.Values.{number_value, int_value}
 use Rattle.sed_bodies.proofs.Right.{after_right, joined_right, unless_right, some_right}
 
 -- ---- indexes

@@ -22,17 +22,17 @@ use Rattle.sed_terms.specs.declared.judged.Judged.TheVariants.{Sound, Unknown}
 use Rattle.sed_terms.specs.Faults.{all_faults, broken, after, Right}
 use Rattle.sed_terms.specs.Term.{Term, Absent, leaf}
 use Rattle.sed_terms.specs.declared.sign.Sign.TheVariants as sign
-use Rattle.sed_operands.specs.Operands.{form_of}
-use Rattle.sed_stores.specs.Stores.{arithmetic_of}
-use Rattle.sed_members.specs.declared.context.Before.{Before}
-use Rattle.sed_members.specs.declared.context.Before.TheVariants.{Value, Class, System}
-use Rattle.sed_members.specs.declared.context.Body.{Body}
-use Rattle.sed_members.specs.Calls.{row_length, kind_at, argument, with_argument, params_of, params_behind}
+use Rattle.sed_body_rules.specs.Operands.{form_of}
+use Rattle.sed_body_rules.specs.Stores.{arithmetic_of}
+use Rattle.sed_bodies.specs.declared.context.Before.{Before}
+use Rattle.sed_bodies.specs.declared.context.Before.TheVariants.{Value, Class, System}
+use Rattle.sed_bodies.specs.declared.context.Body.{Body}
+use Rattle.sed_bodies.specs.Calls.{row_length, kind_at, argument, with_argument, params_of, params_behind}
 use Rattle.sed_bodies.specs.Expressions.{prefixed, counting, stored_by, super_method, first_by, judge, judge_args, judge_step, judge_class, judge_system, judge_first, judge_links}
 use Rattle.sed_bodies.specs.Inside.{IsIn, IsReady}
-use Rattle.sed_members.specs.Members.{receiver, before_link, spelled_head, named, class_member, member_of}
+use Rattle.sed_bodies.specs.Members.{receiver, before_link, spelled_head, named, class_member, member_of}
 use Rattle.sed_bodies.specs.Places.{place_of, may_name}
-use Rattle.sed_scope.specs.Scope.{Scope}
+use Rattle.sed_body_rules.specs.Scope.{Scope}
 use Rattle.sed_bodies.proofs.CallsRight.{AreArguments, AllKinds, Supplies, IsFound, some_kind, with_argument_right, own_call_right, super_called_right, class_call_right, called_right, system_right}
 use Rattle.sed_bodies.proofs.ChoicesRight.{element_right, chosen_right}
 use Rattle.sed_bodies.proofs.LiteralsRight.{literal_right}

@@ -16,17 +16,17 @@ use Rattle.sed_terms.specs.declared.judged.Judged.{Judged}
 use Rattle.sed_terms.specs.declared.judged.Judged.TheVariants.{Sound, Unknown}
 use Rattle.sed_terms.specs.Faults.{all_faults, least_fault, broken, told}
 use Rattle.sed_terms.specs.Term.{Term, Absent}
-use Rattle.sed_operands.specs.Choices.{chosen}
-use Rattle.sed_operands.specs.Operands.{cast, form_of, operated, element}
-use Rattle.sed_stores.specs.Stores.{counted, arithmetic_of}
-use Rattle.sed_members.specs.declared.context.Before.{Before}
-use Rattle.sed_members.specs.declared.context.Before.TheVariants.{Value, Class, System}
-use Rattle.sed_members.specs.declared.context.Body.{Body}
-use Rattle.sed_members.specs.Calls.{row_length, kind_at, argument, with_argument, params_of, own_call, super_called, class_call, params_behind, called, system_call}
+use Rattle.sed_body_rules.specs.Choices.{chosen}
+use Rattle.sed_body_rules.specs.Operands.{cast, form_of, operated, element}
+use Rattle.sed_body_rules.specs.Stores.{counted, arithmetic_of}
+use Rattle.sed_bodies.specs.declared.context.Before.{Before}
+use Rattle.sed_bodies.specs.declared.context.Before.TheVariants.{Value, Class, System}
+use Rattle.sed_bodies.specs.declared.context.Body.{Body}
+use Rattle.sed_bodies.specs.Calls.{row_length, kind_at, argument, with_argument, params_of, own_call, super_called, class_call, params_behind, called, system_call}
 use Rattle.sed_bodies.specs.Expressions.{prefixed, counting, stored_by, super_method, first_by, judge, judge_args, judge_step, judge_class, judge_system, judge_first, judge_links}
-use Rattle.sed_members.specs.Members.{member_of, before_link, spelled, spelled_head, named, class_member}
+use Rattle.sed_bodies.specs.Members.{member_of, before_link, spelled, spelled_head, named, class_member}
 use Rattle.sed_bodies.specs.Places.{place_of, may_name}
-use Rattle.sed_scope.specs.Scope.{Scope}
+use Rattle.sed_body_rules.specs.Scope.{Scope}
 use Rattle.sed_bodies.proofs.CallsTold.{literal_told, receiver_told, class_told, member_told, named_told, argument_told, with_argument_told, own_call_told, super_called_told, class_call_told, called_told, params_told, system_told, spelled_told, head_told}
 use Rattle.sed_bodies.proofs.OperandsTold.{negated_told, opposite_told, flipped_told, cast_told, operated_told, element_told, chosen_told, assigned_told, compound_told, counted_told}
 use Rattle.sed_bodies.proofs.Told.{Both}

@@ -1,3 +1,4 @@
+pub mod Owners
 pub mod Rows
 pub mod LinkRows
 pub mod Right

@@ -7,8 +7,8 @@ use Rattle.sed_faults.specs.declared.fault.Fault.{Fault}
 use Rattle.sed_terms.specs.declared.judged.Judged.{Judged}
 use Rattle.sed_terms.specs.Faults.{least_fault}
 use Rattle.sed_terms.specs.Term.{Term}
-use Rattle.sed_members.specs.declared.context.Body.{Body}
-use Rattle.sed_scope.specs.Scope.{Scope}
+use Rattle.sed_bodies.specs.declared.context.Body.{Body}
+use Rattle.sed_body_rules.specs.Scope.{Scope}
 use Rattle.sed_bodies.specs.Expressions.{judge, judge_first, judge_links}
 
 pub no_links : (n : Names) (b : Body) (s : Scope) (at : ℕ) (x : Tree) (links : List Tree) → length links ≡ 0 →

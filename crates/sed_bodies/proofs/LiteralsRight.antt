@@ -19,10 +19,10 @@ use Rattle.sed_units.specs.declared.leaves.LiteralKind.TheVariants as literal
 use Rattle.sed_typed.specs.TypedExpr.{Context}
 use Rattle.sed_names.specs.Names.{Names}
 use Rattle.sed_terms.specs.Faults.{all_faults, broken, Right}
-use Rattle.sed_members.specs.declared.context.Body.{Body}
+use Rattle.sed_bodies.specs.declared.context.Body.{Body}
 use Rattle.sed_bodies.specs.Inside.{IsIn, IsReady}
-use Rattle.sed_members.specs.Literals.{integer, character, text, literal_of, literal_judged}
-use Rattle.sed_scope.specs.Scope.{Scope}
+use Rattle.sed_bodies.specs.Literals.{integer, character, text, literal_of, literal_judged}
+use Rattle.sed_body_rules.specs.Scope.{Scope}
 use Rattle.sed_bodies.proofs.Right.{one_right}
 use Rattle.std.proofs.lemmas.Bool.{eqb-true as same_byte}
 

@@ -28,11 +28,11 @@ use Rattle.sed_terms.specs.SortKind.{kind_in}
 use Rattle.sed_terms.specs.Sorts.{sort_of, term_kind, is_kind}
 use Rattle.sed_terms.specs.Term.{Term, Node, leaf}
 use Rattle.sed_terms.specs.TypedTerm.{IsTerm}
-use Rattle.sed_members.specs.declared.context.Body.{Body}
-use Rattle.sed_scope.specs.declared.local.Local.{Local}
+use Rattle.sed_bodies.specs.declared.context.Body.{Body}
+use Rattle.sed_body_rules.specs.declared.local.Local.{Local}
 use Rattle.sed_bodies.specs.Inside.{IsConstant, IsNoBuf, IsMember, IsIn, IsReady}
-use Rattle.sed_members.specs.Members.{known, local_of, field_term, field_of, static_term, static_of, constant_term, define_of, own_member, class_member, through, object_member, buf_member, member_by, owner_of, member_of, named_by, named, receiver, fits, spelled, spelled_head}
-use Rattle.sed_scope.specs.Scope.{Scope, local_named}
+use Rattle.sed_bodies.specs.Members.{known, local_of, field_term, field_of, static_term, static_of, constant_term, define_of, own_member, class_member, through, object_member, buf_member, member_by, owner_of, member_of, named_by, named, receiver, fits, spelled, spelled_head}
+use Rattle.sed_body_rules.specs.Scope.{Scope, local_named}
 use Rattle.sed_bodies.proofs.Ready.{ready_value, kind_is}
 use Rattle.sed_bodies.proofs.Right.{one_right, after_right, joined_right, unless_right}
 

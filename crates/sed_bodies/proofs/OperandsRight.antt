@@ -22,12 +22,12 @@ use Rattle.sed_terms.specs.SortKind.{kind_in}
 use Rattle.sed_terms.specs.Sorts.{sort_of, term_kind, is_kind}
 use Rattle.sed_terms.specs.Term.{Term, Node}
 use Rattle.sed_terms.specs.TypedTerm.{IsTerm}
-use Rattle.sed_conversions.specs.Conversions.{is_number, is_int, is_bool, is_reference, width_of, meeting, in_width, null_in, or_itself, beside}
-use Rattle.sed_operands.specs.Operands.{negated, opposite, flipped, cast_to, is_cast, cast, Form, Numbers, Shift, Order, Equality, Both, Either, form_of, compared, equated_pair, equated, operated}
-use Rattle.sed_conversions.specs.Wants.{wants, as_bool, truth}
+use Rattle.sed_body_rules.specs.Conversions.{is_number, is_int, is_bool, is_reference, width_of, meeting, in_width, null_in, or_itself, beside}
+use Rattle.sed_body_rules.specs.Operands.{negated, opposite, flipped, cast_to, is_cast, cast, Form, Numbers, Shift, Order, Equality, Both, Either, form_of, compared, equated_pair, equated, operated}
+use Rattle.sed_body_rules.specs.Wants.{wants, as_bool, truth}
 use Rattle.sed_bodies.specs.Inside.{IsReady, HasKinds, HasKind}
 use Rattle.sed_bodies.proofs.Ready.{ready_value, kind_of_term, kind_is, int_is, bool_is, own_width, widened, meets}
-use Rattle.sed_conversions.specs.Values.{number_value, int_value, bool_value}
+use Rattle.sed_body_rules.specs.Values.{number_value, int_value, bool_value}
 use Rattle.sed_bodies.proofs.Right.{after_right, joined_right, unless_right, some_right}
 
 -- a typed term that passes a test

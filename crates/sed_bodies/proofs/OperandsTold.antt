@@ -11,11 +11,11 @@ use Rattle.sed_terms.specs.Faults.{all_faults, least_fault, broken, told, joined
 use Rattle.sed_terms.specs.Forms.{has_elements, updated}
 use Rattle.sed_terms.specs.Sorts.{sort_of, term_kind, is_place}
 use Rattle.sed_terms.specs.Term.{Term}
-use Rattle.sed_operands.specs.Choices.{branches, branched, chosen}
-use Rattle.sed_conversions.specs.Conversions.{is_number, is_int, is_bool, is_operand, placed, width_of, in_width}
-use Rattle.sed_operands.specs.Operands.{negated, opposite, flipped, is_cast, cast, Form, Numbers, Shift, Order, Equality, Both as BothBools, Either, equated, operated, element}
-use Rattle.sed_conversions.specs.Wants.{wants, as_bool, truth}
-use Rattle.sed_stores.specs.Stores.{target, going, assigned, is_target, number_target, storing, is_shift, is_no_longer, lengthened, compound, counted}
+use Rattle.sed_body_rules.specs.Choices.{branches, branched, chosen}
+use Rattle.sed_body_rules.specs.Conversions.{is_number, is_int, is_bool, is_operand, placed, width_of, in_width}
+use Rattle.sed_body_rules.specs.Operands.{negated, opposite, flipped, is_cast, cast, Form, Numbers, Shift, Order, Equality, Both as BothBools, Either, equated, operated, element}
+use Rattle.sed_body_rules.specs.Wants.{wants, as_bool, truth}
+use Rattle.sed_body_rules.specs.Stores.{target, going, assigned, is_target, number_target, storing, is_shift, is_no_longer, lengthened, compound, counted}
 use Rattle.sed_bodies.proofs.Told.{Both, after_told, joined_told, unless_told, some_told}
 
 abbrev All : Type 0

@@ -23,7 +23,7 @@ use Rattle.sed_terms.specs.Sorts.{sort_of, term_kind, term_kinds, is_value}
 use Rattle.sed_terms.specs.Term.{Term, Node}
 use Rattle.sed_terms.specs.TypedTerm.{IsTerm, IsTermPlace}
 use Rattle.sed_bodies.specs.Inside.{IsReady, HasKinds}
-use Rattle.sed_conversions.specs.Conversions.{is_number, is_int, is_long, is_bool, width_of, meeting, lengthened, in_width}
+use Rattle.sed_body_rules.specs.Conversions.{is_number, is_int, is_long, is_bool, width_of, meeting, lengthened, in_width}
 
 -- a value is typed
 pub ready_value : (c : Context) (t : Term) → IsReady c t → is_value t ≡ true → IsTerm c t

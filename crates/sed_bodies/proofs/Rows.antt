@@ -1,7 +1,7 @@
 -- Rows of trees: how long they are, and that an item is smaller than its row.
 use Rattle.std.proofs.Common.{◌≡◌, ℕ, zero, suc, ◌<◌, List, [], ◌∷◌, length, get_or, refl, ap, arith}
 use Rattle.sed_units.specs.Tree.{Tree, row, tree_size}
-use Rattle.sed_members.specs.Calls.{row_length}
+use Rattle.sed_bodies.specs.Calls.{row_length}
 
 pub row_length_is : (ts : List Tree) → row_length (row ts) ≡ length ts
 row_length_is [] = refl

@@ -27,13 +27,13 @@ use Rattle.sed_terms.specs.SortKind.{kind_in}
 use Rattle.sed_terms.specs.Sorts.{sort_of, term_kind, is_kind, is_place}
 use Rattle.sed_terms.specs.Term.{Term, Node}
 use Rattle.sed_terms.specs.TypedTerm.{IsTerm, IsTermPlace, TermMayGive}
-use Rattle.sed_conversions.specs.Conversions.{is_number, is_int, is_long, width_of, in_width, null_in, converted, placed_by, placed}
-use Rattle.sed_conversions.specs.Wants.{wants}
-use Rattle.sed_stores.specs.Stores.{target, going, assigned, is_target, number_target, storing, is_shift, is_no_longer, lengthened, compound, counted}
+use Rattle.sed_body_rules.specs.Conversions.{is_number, is_int, is_long, width_of, in_width, null_in, converted, placed_by, placed}
+use Rattle.sed_body_rules.specs.Wants.{wants}
+use Rattle.sed_body_rules.specs.Stores.{target, going, assigned, is_target, number_target, storing, is_shift, is_no_longer, lengthened, compound, counted}
 use Rattle.sed_bodies.proofs.OperandsRight.{Passes, wants_right, positive}
 use Rattle.sed_bodies.specs.Inside.{IsReady, HasKinds, AreBelow, Goes}
 use Rattle.sed_bodies.proofs.Ready.{ready_value, place_kind_of, kind_is, int_is, own_width, Fits, widened}
-use Rattle.sed_conversions.specs.Values.{number_value, int_value}
+use Rattle.sed_body_rules.specs.Values.{number_value, int_value}
 use Rattle.sed_bodies.proofs.Right.{one_right, after_right, joined_right, unless_right, some_right}
 
 -- ---- what is assigned to

@@ -18,18 +18,18 @@ use Rattle.sed_terms.specs.declared.judged.Judged.{Judged}
 use Rattle.sed_terms.specs.declared.judged.Judged.TheVariants.{Sound, Unknown}
 use Rattle.sed_terms.specs.Faults.{Marks, broken}
 use Rattle.sed_terms.specs.Term.{Term, Absent}
-use Rattle.sed_operands.specs.Choices.{chosen}
-use Rattle.sed_operands.specs.Operands.{negated, opposite, flipped, cast, form_of, operated, element}
-use Rattle.sed_stores.specs.Stores.{assigned, compound, counted, arithmetic_of}
-use Rattle.sed_members.specs.declared.context.Before.{Before}
-use Rattle.sed_members.specs.declared.context.Before.TheVariants.{Value, Class, System}
-use Rattle.sed_members.specs.declared.context.Body.{Body}
-use Rattle.sed_members.specs.Calls.{row_length, kind_at, argument, with_argument, params_of, own_call, super_called}
-use Rattle.sed_members.specs.Calls.{class_call, params_behind, called, system_call}
-use Rattle.sed_members.specs.Literals.{literal_judged}
-use Rattle.sed_members.specs.Members.{receiver, named, class_member, member_of, before_link, spelled, spelled_head}
+use Rattle.sed_body_rules.specs.Choices.{chosen}
+use Rattle.sed_body_rules.specs.Operands.{negated, opposite, flipped, cast, form_of, operated, element}
+use Rattle.sed_body_rules.specs.Stores.{assigned, compound, counted, arithmetic_of}
+use Rattle.sed_bodies.specs.declared.context.Before.{Before}
+use Rattle.sed_bodies.specs.declared.context.Before.TheVariants.{Value, Class, System}
+use Rattle.sed_bodies.specs.declared.context.Body.{Body}
+use Rattle.sed_bodies.specs.Calls.{row_length, kind_at, argument, with_argument, params_of, own_call, super_called}
+use Rattle.sed_bodies.specs.Calls.{class_call, params_behind, called, system_call}
+use Rattle.sed_bodies.specs.Literals.{literal_judged}
+use Rattle.sed_bodies.specs.Members.{receiver, named, class_member, member_of, before_link, spelled, spelled_head}
 use Rattle.sed_bodies.specs.Places.{place_of, may_name}
-use Rattle.sed_scope.specs.Scope.{Scope}
+use Rattle.sed_body_rules.specs.Scope.{Scope}
 
 -- a prefix operator, with its place and that of its operand; `may` says whether the operand may name a place
 abbrev pub prefixed : {F : Type 0} → Marks F → ℕ → PrefixOp → Bool → ℕ → Judged Term F → Judged Term F

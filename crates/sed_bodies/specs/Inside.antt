@@ -25,8 +25,8 @@ use Rattle.sed_terms.specs.declared.sign.Sign.TheVariants as sign
 use Rattle.sed_terms.specs.Sorts.{term_kind, is_place}
 use Rattle.sed_terms.specs.Term.{Term, Node}
 use Rattle.sed_terms.specs.TypedTerm.{IsTerm, IsTermPlace}
-use Rattle.sed_members.specs.declared.context.Body.{Body}
-use Rattle.sed_scope.specs.Scope.{Scope, local_named}
+use Rattle.sed_bodies.specs.declared.context.Body.{Body}
+use Rattle.sed_body_rules.specs.Scope.{Scope, local_named}
 
 -- the kinds that stand in a program are its kinds
 pub record HasKinds (c : Context) : Type 0 where

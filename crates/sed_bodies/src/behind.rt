@@ -4,14 +4,13 @@ ghost use Rattle.sed_units.specs.Tree.{Absent as NoTree, Part, row};
 ghost use Rattle.sed_units.specs.declared.label.Label.TheVariants as label;
 ghost use Rattle.sed_terms.specs.Faults as faults;
 ghost use Rattle.sed_terms.specs.Faults.{least_fault};
-ghost use Rattle.sed_members.specs.Members as members;
+ghost use Rattle.sed_bodies.specs.Members as members;
 ghost use Rattle.sed_bodies.specs.Expressions as meaning;
 
 use crate::calls::{arguments, count_of};
-use sed_conversions::Checked;
-use sed_members::{Body, class_call, class_member, no_method, spelled, system_call};
+use crate::{Body, class_call, class_member, no_method, spelled, system_call};
+use sed_body_rules::{Checked, Locals};
 use sed_names::Lookup;
-use sed_scope::Locals;
 use sed_terms::{Judged, broken};
 use sed_typed::TypeNo;
 use sed_units::{Expr, Ident, Link, Step};

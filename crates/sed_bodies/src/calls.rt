@@ -4,17 +4,16 @@ ghost use Rattle.sed_units.specs.Tree.{Absent as NoTree, Part, row};
 ghost use Rattle.sed_units.specs.declared.label.Label.TheVariants as label;
 ghost use Rattle.sed_terms.specs.Faults.{least_fault};
 ghost use Rattle.sed_terms.specs.Term as terms;
-ghost use Rattle.sed_members.specs.Calls as meanings;
+ghost use Rattle.sed_bodies.specs.Calls as meanings;
 ghost use Rattle.sed_bodies.specs.Expressions as meaning;
 
 use crate::expressions::expression;
-use sed_conversions::Checked;
-use sed_members::{
+use crate::{
     Body, CheckedArguments, argument, kind_at, no_method, own_call, spelled, super_called,
     super_missing, with_argument,
 };
+use sed_body_rules::{Checked, Locals};
 use sed_names::{Lookup, Signature};
-use sed_scope::Locals;
 use sed_terms::{Arguments, Judged};
 use sed_typed::Kind;
 use sed_units::{Expr, Ident};

@@ -1,24 +1,24 @@
 //! What expressions come to.
 ghost use Rattle.std.specs.Prelude.{◌≡◌, IfOk, Some};
-ghost use Rattle.sed_operands.specs.Choices as choices;
-ghost use Rattle.sed_operands.specs.Operands as operands;
-ghost use Rattle.sed_stores.specs.Stores as stores;
+ghost use Rattle.sed_body_rules.specs.Choices as choices;
+ghost use Rattle.sed_body_rules.specs.Operands as operands;
+ghost use Rattle.sed_body_rules.specs.Stores as stores;
 ghost use Rattle.sed_typed.specs.declared.operators.Gives.TheVariants as gives;
 ghost use Rattle.sed_terms.specs.Faults as faults;
 ghost use Rattle.sed_terms.specs.Faults.{least_fault};
-ghost use Rattle.sed_members.specs.Members as members;
+ghost use Rattle.sed_bodies.specs.Members as members;
 ghost use Rattle.sed_bodies.specs.Expressions as meaning;
 ghost use Rattle.sed_bodies.specs.Places as places;
 
 use crate::calls::{call, super_call};
 use crate::chains::chain;
 use crate::places::{may_name, place_of};
-use sed_conversions::Checked;
-use sed_members::{Body, literal, named, receiver, spelled};
+use crate::{Body, literal, named, receiver, spelled};
+use sed_body_rules::{
+    Checked, Locals, arithmetic_of, assigned, cast, chosen, compound, counted, counted_first,
+    flipped, negated, opposite,
+};
 use sed_names::Lookup;
-use sed_operands::{cast, chosen, flipped, negated, opposite};
-use sed_scope::Locals;
-use sed_stores::{arithmetic_of, assigned, compound, counted, counted_first};
 use sed_terms::{Judged, broken};
 use sed_typed::Arithmetic;
 use sed_units::{AssignOp, Expr, Ident, Node, PrefixOp, UpdateOp};

@@ -9,12 +9,12 @@ ghost use Rattle.sed_faults.specs.declared.fault.Fault.{Fault};
 ghost use Rattle.sed_terms.specs.declared.judged.Judged.{Judged};
 ghost use Rattle.sed_terms.specs.Faults.{all_faults, least_fault, told, Right};
 ghost use Rattle.sed_terms.specs.Term.{Term};
-ghost use Rattle.sed_conversions.specs.Conversions.{is_int, placed};
-ghost use Rattle.sed_conversions.specs.Wants.{truth, wants};
-ghost use Rattle.sed_members.specs.declared.context.Body.{Body};
+ghost use Rattle.sed_body_rules.specs.Conversions.{is_int, placed};
+ghost use Rattle.sed_body_rules.specs.Wants.{truth, wants};
+ghost use Rattle.sed_bodies.specs.declared.context.Body.{Body};
 ghost use Rattle.sed_bodies.specs.Expressions.{judge};
 ghost use Rattle.sed_bodies.specs.Inside.{AreBelow, Goes, HasKind, HasKinds, IsIn, IsReady};
-ghost use Rattle.sed_scope.specs.Scope.{Scope};
+ghost use Rattle.sed_body_rules.specs.Scope.{Scope};
 
 use sed_faults::least_of_two_lists;
 

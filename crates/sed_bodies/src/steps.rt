@@ -2,20 +2,18 @@
 ghost use Rattle.std.specs.Prelude.{◌≡◌, IfOk};
 ghost use Rattle.sed_units.specs.Tree.{Absent as NoTree, Part, row};
 ghost use Rattle.sed_units.specs.declared.label.Label.TheVariants as label;
-ghost use Rattle.sed_operands.specs.Operands as operands;
+ghost use Rattle.sed_body_rules.specs.Operands as operands;
 ghost use Rattle.sed_terms.specs.Faults.{least_fault};
-ghost use Rattle.sed_members.specs.Members as members;
+ghost use Rattle.sed_bodies.specs.Members as members;
 ghost use Rattle.sed_bodies.specs.Expressions as meaning;
 ghost use Rattle.sed_bodies.specs.Places as places;
 
 use crate::calls::{arguments, count_of};
 use crate::expressions::expression;
 use crate::places::place_of;
-use sed_conversions::Checked;
-use sed_members::{Body, called, member_of, params_behind, spelled};
+use crate::{Body, called, member_of, params_behind, spelled};
+use sed_body_rules::{Checked, Locals, element, operated};
 use sed_names::Lookup;
-use sed_operands::{element, operated};
-use sed_scope::Locals;
 use sed_units::{BinaryOp, Expr, Ident, Link, Step};
 use sed_value::Memory;
 use std::alloc::Global;

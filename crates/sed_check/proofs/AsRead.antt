@@ -4,11 +4,11 @@ use Rattle.std.proofs.lemmas.List.Elements.{All-nil, All-cons, All-head, All-tai
 use Rattle.sed_units.specs.declared.classes.Class.{Class}
 use Rattle.sed_units.specs.declared.classes.Member.{Member}
 use Rattle.sed_units.specs.declared.classes.Unit.{Unit as SourceUnit}
-use Rattle.sed_nesting.specs.Bodies.{IsShallowForm}
+use Rattle.sed_body_laws.specs.NestedBodies.{IsShallowForm}
 use Rattle.sed_classes.specs.declared.kit_units.KitUnits.{KitUnits}
 use Rattle.sed_classes.specs.Declarations.{Declaration, declared_in, kit_declares, kits_declare, text_declares}
 use Rattle.sed_outline.specs.Fits.{Spelled}
-use Rattle.sed_read.specs.Read.{AreRead, IsReadClass}
+use Rattle.sed_check.specs.Read.{AreRead, IsReadClass}
 
 -- a class as it is read
 pub record FromText (c : Class) : Type 0 where

@@ -15,7 +15,7 @@ use Rattle.sed_names.specs.Names.{Names}
 use Rattle.sed_terms.specs.declared.judged.Judged.TheVariants.{Sound}
 use Rattle.sed_terms.specs.Faults.{all_faults}
 use Rattle.sed_terms.specs.Seen.{stmt_term}
-use Rattle.sed_nesting.specs.Bodies.{IsShallow, IsShallowForm}
+use Rattle.sed_body_laws.specs.NestedBodies.{IsShallow, IsShallowForm}
 use Rattle.sed_classes.specs.declared.kit_units.KitUnits.{KitUnits}
 use Rattle.sed_classes.specs.Members.{form_body, form_params, members_of}
 use Rattle.sed_program.specs.Meaning.{names_of}
@@ -25,8 +25,8 @@ use Rattle.sed_statements.specs.declared.enclosing.Enclosing.{Enclosing}
 use Rattle.sed_statements.specs.Methods.{judge_method}
 use Rattle.sed_member_laws.proofs.Heads.{headed}
 use Rattle.sed_member_laws.specs.TypedHeads.{IsTypedHead}
-use Rattle.sed_sound_bodies.specs.Bodies.{IsHeadOf, IsTypedBody, Means}
-use Rattle.sed_judged.specs.Bodies.{HasTree, IsBodyOf, enclosing_of}
+use Rattle.sed_body_laws.specs.Bodies.{IsHeadOf, IsTypedBody, Means}
+use Rattle.sed_check.specs.Bodies.{HasTree, IsBodyOf, enclosing_of}
 use Rattle.sed_check.proofs.Keeping.{IsKept}
 use Rattle.sed_check.proofs.Naming.{param_same}
 use Rattle.sed_check.proofs.Standing.{member_at}

@@ -21,7 +21,7 @@ use Rattle.sed_program.specs.Methods.{MethodAt, methods_of}
 use Rattle.sed_statements.specs.declared.enclosing.Enclosing.{Enclosing}
 use Rattle.sed_statements.specs.Methods.{judge_method, judge_params}
 use Rattle.sed_class_laws.specs.Empty.{EmptyStays}
-use Rattle.sed_judged.specs.Bodies.{HasTree, IsBodyOf, enclosing_of}
+use Rattle.sed_check.specs.Bodies.{HasTree, IsBodyOf, enclosing_of}
 
 -- a block in which nothing stands
 abbrev nothing : Term

@@ -5,9 +5,9 @@ use Rattle.sed_classes.specs.Faults.{faults_of}
 use Rattle.sed_outline.specs.Fits.{Unbroken}
 use Rattle.sed_member_laws.proofs.Empty.{none_left}
 use Rattle.sed_first_fault.specs.Faults.{cycle_faults, declared_faults, spelled_faults_of}
-use Rattle.sed_judged.specs.Bodies.{body_faults}
-use Rattle.sed_elaborate.specs.Checked.{faults}
-use Rattle.sed_read.specs.Read.{AreRead}
+use Rattle.sed_check.specs.Bodies.{body_faults}
+use Rattle.sed_check.specs.Checked.{faults}
+use Rattle.sed_check.specs.Read.{AreRead}
 use Rattle.sed_check.proofs.AsRead.{are_spelled}
 
 pub none_declared : (units : List KitUnits) (cycles : Bool) → faults units cycles ≡ [] → declared_faults units ≡ []

@@ -17,7 +17,7 @@ use Rattle.sed_units.specs.declared.leaves.Param.{Param}
 use Rattle.sed_units.specs.declared.classes.Class.{Class}
 use Rattle.sed_units.specs.declared.classes.Member.{Member}
 use Rattle.sed_names.specs.Spelled.{integer_of}
-use Rattle.sed_nesting.specs.Bodies.{IsShallowForm}
+use Rattle.sed_body_laws.specs.NestedBodies.{IsShallowForm}
 use Rattle.sed_classes.specs.declared.kit_units.KitUnits.{KitUnits}
 use Rattle.sed_classes.specs.declared.source_type.PlacedFault.{PlacedFault}
 use Rattle.sed_classes.specs.Bodies.{texts_of}
@@ -25,13 +25,13 @@ use Rattle.sed_classes.specs.Declarations.{Declaration, all_classes, class_at, d
 use Rattle.sed_classes.specs.Faults.{faults_of, placed_in}
 use Rattle.sed_classes.specs.Members.{form_params, form_value, members_of}
 use Rattle.sed_classes.specs.SysSource.{component_members, empty_method, meta, slot_param}
-use Rattle.sed_nodes.specs.Integers.{is_above_bound, too_large, too_large_in_class, too_large_in_facets, too_large_in_init, too_large_in_member, too_large_in_params, too_large_in_type, too_large_in_value}
-use Rattle.sed_nodes.specs.Nodes.{spelled_faults}
+use Rattle.sed_first_fault.specs.Integers.{is_above_bound, too_large, too_large_in_class, too_large_in_facets, too_large_in_init, too_large_in_member, too_large_in_params, too_large_in_type, too_large_in_value}
+use Rattle.sed_first_fault.specs.Nodes.{spelled_faults}
 use Rattle.sed_member_laws.specs.Literals.{AreSpelled, HasSpelled, IsSpelled, IsValueSpelled, SpellsOne}
 use Rattle.sed_member_laws.proofs.Empty.{none_left, none_listed, none_right, not_broken}
 use Rattle.sed_outline.proofs.Infos.{all_at}
 use Rattle.sed_first_fault.specs.Faults.{declared_faults, spelled_faults_of, spelled_in}
-use Rattle.sed_read.specs.Read.{AreRead, IsLexed, IsLexedInit, IsLexedValue, IsReadMember, SpellsCharacter}
+use Rattle.sed_check.specs.Read.{AreRead, IsLexed, IsLexedInit, IsLexedValue, IsReadMember, SpellsCharacter}
 use Rattle.sed_check.proofs.AsRead.{FromText, classes_read}
 
 -- a member whose literals are spelled and whose body is shallow

@@ -1,3 +1,23 @@
+pub mod Rows
+pub mod Told
+pub mod Grown
+pub mod ElaboratedFaultless
+pub mod Made
+mod Kept
+mod Spelled
+mod Trees
+mod Expressions
+mod Statements
+mod Units
+mod Texts
+pub mod Called
+pub mod MeantStanding
+pub mod Defines
+pub mod Agreeing
+pub mod Inside
+pub mod Whole
+mod RunnableAsRead
+mod First
 mod AsRead
 mod Keeping
 mod Spelling
@@ -6,3 +26,7 @@ mod Emptying
 mod Naming
 mod Bodying
 mod Faultless
+pub mod Loads
+pub mod Ends
+pub mod KitsUnits
+pub mod Alike

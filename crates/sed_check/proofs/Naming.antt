@@ -22,13 +22,13 @@ use Rattle.sed_classes.specs.Schema.{class_order, type_number}
 use Rattle.sed_classes.specs.Types as types
 use Rattle.sed_program.specs.Meaning.{names_of}
 use Rattle.sed_program.specs.Types.{kind_of_type, number_of, param_kind, type_no}
-use Rattle.sed_scope.specs.LocalTypes as locals
-use Rattle.sed_scope.specs.LocalTypes.{kind_of_meaning, local_kind, without_size}
-use Rattle.sed_scope.specs.declared.local.TypeMeaning.TheVariants.{Outside as NoType}
-use Rattle.sed_order.specs.Ordered.{IsOrdered, places}
-use Rattle.sed_order.proofs.Lists.{position_within}
-use Rattle.sed_meant.specs.Means.{Means as MeansIn}
-use Rattle.sed_sound_bodies.specs.Bodies.{Means, context_in}
+use Rattle.sed_body_rules.specs.LocalTypes as locals
+use Rattle.sed_body_rules.specs.LocalTypes.{kind_of_meaning, local_kind, without_size}
+use Rattle.sed_body_rules.specs.declared.local.TypeMeaning.TheVariants.{Outside as NoType}
+use Rattle.sed_program.specs.Ordered.{IsOrdered, places}
+use Rattle.sed_program.proofs.OrderLists.{position_within}
+use Rattle.sed_check.specs.Means.{Means as MeansIn}
+use Rattle.sed_body_laws.specs.Bodies.{Means, context_in}
 
 -- ---- classes
 

@@ -10,7 +10,7 @@ use Rattle.sed_program.specs.Texts.{literals_of}
 use Rattle.sed_member_laws.proofs.TextBytes.{text_small}
 use Rattle.sed_class_laws.specs.Texts.{SpellBytes}
 use Rattle.sed_first_fault.specs.Faults.{declared_faults}
-use Rattle.sed_read.specs.Read.{AreRead, IsLexed}
+use Rattle.sed_check.specs.Read.{AreRead, IsLexed}
 use Rattle.sed_check.proofs.Keeping.{all_kept}
 
 all_flat : {X Y : Type 0} (P : Y → Type 0) (f : X → List Y) (xs : List X) → All (λ (x : X). All P (f x)) xs →

@@ -10,7 +10,7 @@ use Rattle.sed_classes.specs.Members.{is_method, kit_of, members_of, owned}
 use Rattle.sed_classes.specs.Schema.{class_order}
 use Rattle.sed_program.specs.Methods.{MethodAt, methods_in, methods_of, own_methods}
 use Rattle.sed_member_laws.proofs.Flat.{filtered_in, flat_in, some_is}
-use Rattle.sed_judged.specs.Bodies.{AreBodies, IsBodyOf}
+use Rattle.sed_check.specs.Bodies.{AreBodies, IsBodyOf}
 
 -- ---- the member that a method is
 

@@ -1,13 +1,13 @@
 //! The check.
 ghost use Rattle.std.specs.Prelude.{◌≡◌, ◌≤◌, ℕ, Err, IfOk, IsSomeAnd, [], length};
 ghost use Rattle.sed_typed.specs.Typed.{Typed};
-ghost use Rattle.sed_elaborate.specs.Checked.{IsFault, IsSpelled, faults, first_fault};
+ghost use Rattle.sed_check.specs.Checked.{IsFault, IsSpelled, faults, first_fault};
 ghost use Rattle.sed_class_laws.specs.Kits.{KitsNamed};
-ghost use Rattle.sed_read.specs.Read.{AreRead};
+ghost use Rattle.sed_check.specs.Read.{AreRead};
 
 use crate::laws::accepted_units_are_typed;
+use crate::{CheckRefusal, elaborate};
 use sed_classes::KitUnits;
-use sed_elaborate::{CheckRefusal, elaborate};
 use sed_typed::Program;
 use std::alloc::Global;
 

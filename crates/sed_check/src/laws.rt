@@ -3,17 +3,15 @@ ghost use Rattle.std.specs.Prelude.{◌≡◌, ◌≤◌, Bool, List, [], length
 ghost use Rattle.sed_typed.specs.Typed.{Typed};
 ghost use Rattle.sed_typed.specs.declared.program.Program.{Program};
 ghost use Rattle.sed_classes.specs.declared.kit_units.KitUnits.{KitUnits};
-ghost use Rattle.sed_elaborate.specs.Checked.{IsSpelled, faults};
+ghost use Rattle.sed_check.specs.Checked.{IsSpelled, faults};
 ghost use Rattle.sed_class_laws.specs.Kits.{KitsNamed};
-ghost use Rattle.sed_read.specs.Read.{AreRead};
+ghost use Rattle.sed_check.specs.Read.{AreRead};
 
-use sed_depths::sound_bodies_are_shallow;
+use crate::{names_mean_what_a_program_has, what_units_spell_is_typed};
+use sed_body_laws::{sound_bodies_are_bodies, sound_bodies_are_shallow};
 use sed_faults::Fault;
-use sed_meant::names_mean_what_a_program_has;
 use sed_member_laws::{methods_are_typed, no_class_breaks_a_rule};
-use sed_order::classes_stand_in_order;
-use sed_sound_bodies::sound_bodies_are_bodies;
-use sed_typed_units::what_units_spell_is_typed;
+use sed_program::classes_stand_in_order;
 use sed_value::Items;
 
 /// The program that units without a fault spell is typed. Of the units it asks what readers leave: the names of kits,

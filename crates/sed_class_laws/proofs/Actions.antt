@@ -40,7 +40,7 @@ use Rattle.sed_outline.proofs.Unbroken.{none_left, none_right}
 use Rattle.sed_class_laws.proofs.Entry.{first_of, second_of, slot_so, words_so}
 use Rattle.sed_class_laws.proofs.Known.{type_known}
 use Rattle.sed_class_laws.proofs.Rules.{none_numbered, params_none, member_typed}
-use Rattle.sed_order.proofs.Lists.{is_same, position_at}
+use Rattle.sed_program.proofs.OrderLists.{is_same, position_at}
 use Rattle.sed_outline.proofs.Infos.{all_at}
 use Rattle.sed_class_laws.proofs.Named.{bytes_same}
 

@@ -9,12 +9,12 @@ use Rattle.sed_classes.specs.Bases.{base_named, base_of, base_unnamed, base_writ
 use Rattle.sed_classes.specs.Names.{class_of_name, is_buffer_name, is_text_name}
 use Rattle.sed_classes.specs.NameRules.{base_unfit, base_without_class, is_app, is_no_base, is_without_class}
 use Rattle.sed_classes.specs.Faults.{declaration_faults}
-use Rattle.sed_objects.proofs.Rounds.{base_behind}
+use Rattle.sed_outline.proofs.Rounds.{base_behind}
 use Rattle.sed_outline.specs.Fits.{Unbroken}
 use Rattle.sed_outline.proofs.Bounds.{base_app, base_component, base_folder, base_obj, base_virtual}
 use Rattle.sed_outline.proofs.Fitting.{everywhere}
 use Rattle.sed_outline.proofs.Unbroken.{not_broken}
-use Rattle.sed_order.proofs.Lineages.{places}
+use Rattle.sed_program.proofs.Lineages.{places}
 use Rattle.sed_class_laws.proofs.Rules.{base_fit, base_known}
 use Rattle.std.proofs.lemmas.Bool.{or_parts as either_not}
 

@@ -24,14 +24,14 @@ use Rattle.sed_program.specs.Fields.{fields_of}
 use Rattle.sed_outline.specs.Fits.{Unbroken}
 use Rattle.sed_outline.proofs.Fitting.{fits}
 use Rattle.sed_outline.proofs.Orders.{others}
-use Rattle.sed_order.proofs.Before.{base_before, sys_numbers}
-use Rattle.sed_order.proofs.Infos.{ClassAt, info_at, info_of, class_there}
-use Rattle.sed_order.proofs.Lineages.{lineage_cons, places}
-use Rattle.sed_order.proofs.Order.{number, number_at, number_is, place_in, place_is}
-use Rattle.sed_order.proofs.Typed.{base_none, base_some, below_at}
-use Rattle.sed_order.proofs.Types.{type_at_is}
-use Rattle.sed_order.proofs.Upward.{up_cons}
-use Rattle.sed_order.proofs.Within.{base_within}
+use Rattle.sed_program.proofs.Before.{base_before, sys_numbers}
+use Rattle.sed_program.proofs.Infos.{ClassAt, info_at, info_of, class_there}
+use Rattle.sed_program.proofs.Lineages.{lineage_cons, places}
+use Rattle.sed_program.proofs.Order.{number, number_at, number_is, place_in, place_is}
+use Rattle.sed_program.proofs.Typed.{base_none, base_some, below_at}
+use Rattle.sed_program.proofs.OrderTypes.{type_at_is}
+use Rattle.sed_program.proofs.Upward.{up_cons}
+use Rattle.sed_program.proofs.Within.{base_within}
 use Rattle.sed_class_laws.proofs.Based.{rooted}
 use Rattle.sed_class_laws.proofs.Inline.{none_in_itself}
 use Rattle.sed_class_laws.proofs.Limits.{config_most, runtime_most, slots_most}

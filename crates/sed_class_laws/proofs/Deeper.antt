@@ -24,15 +24,15 @@ use Rattle.sed_classes.specs.Types.{is_field_type, is_property_type, type_of}
 use Rattle.sed_classes.specs.Members.{is_define, is_instance_field, is_method, is_property, is_static, kit_of, members_of}
 use Rattle.sed_classes.specs.Objects.{has_form, inline_class, is_inline, object_in}
 use Rattle.sed_classes.specs.Schema.{class_infos, class_order, schema_of}
-use Rattle.sed_objects.specs.Rounds.{inline_in, inline_of, inline_own}
+use Rattle.sed_outline.specs.Rounds.{inline_in, inline_of, inline_own}
 use Rattle.sed_program.specs.Types.{form_of, form_of_type, place_of, type_no}
 use Rattle.sed_program.specs.Fields.{a_field, field_of, fields_of, own_fields}
 use Rattle.sed_outline.specs.Fits.{Unbroken}
-use Rattle.sed_order.proofs.Within.{Within}
-use Rattle.sed_order.proofs.Lineages.{places}
-use Rattle.sed_order.proofs.Order.{number, number_is, order_len, place_is, placed}
-use Rattle.sed_order.proofs.Infos.{infos_len}
-use Rattle.sed_order.proofs.Fields.{fields_at, none_behind, own_typed}
+use Rattle.sed_program.proofs.Within.{Within}
+use Rattle.sed_program.proofs.Lineages.{places}
+use Rattle.sed_program.proofs.Order.{number, number_is, order_len, place_is, placed}
+use Rattle.sed_program.proofs.Infos.{infos_len}
+use Rattle.sed_program.proofs.OrderFields.{fields_at, none_behind, own_typed}
 use Rattle.sed_class_laws.proofs.Has.{Has, all_found, all_up, flat_has, map_has}
 use Rattle.sed_class_laws.specs.Depth.{deepest, depth_of}
 use Rattle.sed_class_laws.proofs.Depth.{less_deep, type_within}

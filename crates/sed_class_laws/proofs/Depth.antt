@@ -22,11 +22,11 @@ use Rattle.sed_classes.specs.Names.{class_of_name, is_buffer_name, is_text_name}
 use Rattle.sed_classes.specs.Types.{based_type, buffer_type, named_type, object_type, primitive_type, size_within, text_type, type_of, void_type}
 use Rattle.sed_classes.specs.Members.{is_instance_field, is_method, kit_of, members_of}
 use Rattle.sed_classes.specs.Objects.{holds_itself, holds_within, is_inline, object_in}
-use Rattle.sed_objects.specs.Rounds.{inline_in, inline_of, inline_own}
+use Rattle.sed_outline.specs.Rounds.{inline_in, inline_of, inline_own}
 use Rattle.sed_outline.specs.Fits.{Unbroken}
-use Rattle.sed_order.proofs.Lists.{is_itself, is_same}
-use Rattle.sed_order.proofs.Lineages.{places}
-use Rattle.sed_order.proofs.Within.{Within, name_within}
+use Rattle.sed_program.proofs.OrderLists.{is_itself, is_same}
+use Rattle.sed_program.proofs.Lineages.{places}
+use Rattle.sed_program.proofs.Within.{Within, name_within}
 use Rattle.sed_class_laws.specs.Depth.{deepest, most}
 use Rattle.sed_class_laws.proofs.Has.{Has, either, has_flat, has_map, or_left, or_right}
 use Rattle.sed_class_laws.proofs.Inline.{holds_first, holds_most, none_in_itself}

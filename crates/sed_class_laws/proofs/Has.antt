@@ -3,8 +3,8 @@ use Rattle.std.proofs.Common.{◌≡◌, ◌==◌, ◌||◌, ℕ, zero, suc, Boo
 use Rattle.std.specs.List.{cons_option, filter_map, flat_map, list_any}
 use Rattle.std.proofs.lemmas.List.Elements.{All-append, All-cons, All-nil}
 use Rattle.std.proofs.lemmas.List.Folds.{list_any-append}
-use Rattle.sed_order.proofs.Lists.{is_itself, is_same}
-use Rattle.sed_order.proofs.Upward.{up_cons}
+use Rattle.sed_program.proofs.OrderLists.{is_itself, is_same}
+use Rattle.sed_program.proofs.Upward.{up_cons}
 pub use Rattle.sed_value.proofs.Truths.{either_true as or_right}
 
 abbrev pub Has : List ℕ → ℕ → Type 0

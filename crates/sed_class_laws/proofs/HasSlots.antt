@@ -27,13 +27,13 @@ use Rattle.sed_classes.specs.Slots.{action_argument, own_slots, slot_of, slots}
 use Rattle.sed_program.specs.Types.{place_of}
 use Rattle.sed_program.specs.Fields.{fields_of, own_fields, field_of}
 use Rattle.sed_outline.specs.Fits.{Unbroken}
-use Rattle.sed_order.proofs.Fields.{declared_in_class, fields_at, own_typed}
-use Rattle.sed_order.proofs.Infos.{info_of, infos_len, class_there}
-use Rattle.sed_order.proofs.Leads.{Leads}
-use Rattle.sed_order.proofs.Lineages.{bases_cons, bases_lead, climb, lineage_cons, lineage_first, lineage_one, places}
-use Rattle.sed_order.proofs.Order.{number, number_at, number_in, place_in, place_is}
-use Rattle.sed_order.proofs.Typed.{base_none, base_some, lineage_at}
-use Rattle.sed_order.proofs.Within.{base_within}
+use Rattle.sed_program.proofs.OrderFields.{declared_in_class, fields_at, own_typed}
+use Rattle.sed_program.proofs.Infos.{info_of, infos_len, class_there}
+use Rattle.sed_program.proofs.Leads.{Leads}
+use Rattle.sed_program.proofs.Lineages.{bases_cons, bases_lead, climb, lineage_cons, lineage_first, lineage_one, places}
+use Rattle.sed_program.proofs.Order.{number, number_at, number_in, place_in, place_is}
+use Rattle.sed_program.proofs.Typed.{base_none, base_some, lineage_at}
+use Rattle.sed_program.proofs.Within.{base_within}
 use Rattle.sed_class_laws.specs.Heads.{HasHead, HasHeads}
 use Rattle.sed_class_laws.proofs.Actions.{action_is, action_kept, overriding}
 use Rattle.sed_class_laws.proofs.Class.{below_sys, slots_at, slots_begin}

@@ -11,13 +11,13 @@ use Rattle.sed_classes.specs.Members.{is_instance_field, kit_of, members_of}
 use Rattle.sed_classes.specs.Objects.{has_field, holds_itself, holds_within, inline_class}
 use Rattle.sed_classes.specs.FieldRules.{is_abstract_at, is_no_object_class}
 use Rattle.sed_classes.specs.Faults.{declaration_faults}
-use Rattle.sed_objects.specs.Rounds.{inline_in, inline_of, inline_own}
-use Rattle.sed_objects.proofs.Inside.{held_classes}
-use Rattle.sed_objects.proofs.Rounds.{members_behind}
+use Rattle.sed_outline.specs.Rounds.{inline_in, inline_of, inline_own}
+use Rattle.sed_outline.proofs.Inside.{held_classes}
+use Rattle.sed_outline.proofs.Rounds.{members_behind}
 use Rattle.sed_outline.specs.Fits.{Unbroken}
 use Rattle.sed_outline.proofs.Fitting.{everywhere}
-use Rattle.sed_order.proofs.Lists.{is_itself, is_same}
-use Rattle.sed_order.proofs.Lineages.{places}
+use Rattle.sed_program.proofs.OrderLists.{is_itself, is_same}
+use Rattle.sed_program.proofs.Lineages.{places}
 use Rattle.sed_class_laws.proofs.Has.{Has, any_from, any_is, either, has_flat, has_map, or_left, or_right}
 use Rattle.sed_class_laws.proofs.Rules.{object_fit}
 use Rattle.sed_value.proofs.Truths.{or_right as or_last}

@@ -28,16 +28,16 @@ use Rattle.sed_outline.proofs.Bounds.{base_app, base_component, base_folder, bas
 use Rattle.sed_outline.proofs.Fitting.{fits, frees}
 use Rattle.sed_outline.proofs.Infos.{all_at}
 use Rattle.sed_outline.proofs.Orders.{others}
-use Rattle.sed_order.proofs.Infos.{ClassAt, info_at, info_of}
-use Rattle.sed_order.proofs.Kits.{kit_few, numbered, sys_five}
-use Rattle.sed_order.proofs.Lineages.{lineage_cons, lineage_one, places}
-use Rattle.sed_order.proofs.Order.{number, number_is}
-use Rattle.sed_order.proofs.Before.{sys_numbers}
-use Rattle.sed_order.proofs.Types.{type_sum, types_sum}
+use Rattle.sed_program.proofs.Infos.{ClassAt, info_at, info_of}
+use Rattle.sed_program.proofs.Kits.{kit_few, numbered, sys_five}
+use Rattle.sed_program.proofs.Lineages.{lineage_cons, lineage_one, places}
+use Rattle.sed_program.proofs.Order.{number, number_is}
+use Rattle.sed_program.proofs.Before.{sys_numbers}
+use Rattle.sed_program.proofs.OrderTypes.{type_sum, types_sum}
 use Rattle.sed_class_laws.specs.Kits.{KitsNamed}
 use Rattle.sed_class_laws.proofs.Class.{slots_begin, sys_place, sys_type}
 use Rattle.sed_class_laws.proofs.Inline.{none_in_itself}
-use Rattle.sed_order.proofs.Lists.{count_cons, weight}
+use Rattle.sed_program.proofs.OrderLists.{count_cons, weight}
 use Rattle.sed_class_laws.proofs.Statics.{some_declaration}
 use Rattle.std.specs.Prelude.{reverse}
 

@@ -17,13 +17,13 @@ use Rattle.sed_classes.specs.Members.{kit_of, members_of}
 use Rattle.sed_classes.specs.LimitRules.{config_of, own_sum, passes, passes_at, runtime_of, slot_count}
 use Rattle.sed_classes.specs.Slots.{own_slots, shape_of, slot_of, slots, with_name}
 use Rattle.sed_classes.specs.Faults.{declaration_faults}
-use Rattle.sed_objects.proofs.Rounds.{base_behind, members_behind}
+use Rattle.sed_outline.proofs.Rounds.{base_behind, members_behind}
 use Rattle.sed_outline.specs.Fits.{Unbroken}
 use Rattle.sed_outline.proofs.Bounds.{base_app, base_component, base_folder, base_obj, base_virtual, grown}
 use Rattle.sed_outline.proofs.Fitting.{everywhere}
 use Rattle.sed_outline.proofs.Unbroken.{not_broken}
-use Rattle.sed_order.proofs.Infos.{found_sum, sum_same}
-use Rattle.sed_order.proofs.Lineages.{bases_cons, bases_none, climb, lineage_cons, lineage_first, lineage_one, places}
+use Rattle.sed_program.proofs.Infos.{found_sum, sum_same}
+use Rattle.sed_program.proofs.Lineages.{bases_cons, bases_none, climb, lineage_cons, lineage_first, lineage_one, places}
 use Rattle.sed_class_laws.proofs.Rules.{config_small, none_numbered, runtime_small, slots_few}
 use Rattle.sed_class_laws.proofs.Sizes.{sum_filter, sum_up}
 

@@ -15,9 +15,9 @@ use Rattle.sed_classes.specs.Faults.{declaration_faults}
 use Rattle.sed_outline.specs.Fits.{Unbroken}
 use Rattle.sed_outline.proofs.Fitting.{everywhere}
 use Rattle.sed_outline.proofs.Unbroken.{not_broken}
-use Rattle.sed_order.proofs.Lists.{count_cons, count_there, counted, is_itself, is_same, weight}
-use Rattle.sed_order.proofs.Infos.{infos_sum}
-use Rattle.sed_order.proofs.Lineages.{places}
+use Rattle.sed_program.proofs.OrderLists.{count_cons, count_there, counted, is_itself, is_same, weight}
+use Rattle.sed_program.proofs.Infos.{infos_sum}
+use Rattle.sed_program.proofs.Lineages.{places}
 use Rattle.sed_class_laws.proofs.Has.{or_left, or_right}
 use Rattle.sed_class_laws.proofs.Rules.{name_free}
 pub use Rattle.sed_value.proofs.Lists.{same_bytes as bytes_same}

@@ -18,7 +18,7 @@ use Rattle.sed_classes.specs.declared.kit_units.KitUnits.{KitUnits}
 use Rattle.sed_classes.specs.Members.{is_instance_field, kit_of}
 use Rattle.sed_classes.specs.Slots.{slot_of, slots}
 use Rattle.sed_program.specs.Fields.{field_of, slot_no}
-use Rattle.sed_order.proofs.Lists.{is_itself, once_at}
+use Rattle.sed_program.proofs.OrderLists.{is_itself, once_at}
 use Rattle.sed_class_laws.proofs.Entry.{Entry, property, action, plain, named_slot}
 use Rattle.sed_class_laws.proofs.Named.{bytes_itself}
 use Rattle.sed_typed.specs.declared.schema.ActionArg.{ActionArg}

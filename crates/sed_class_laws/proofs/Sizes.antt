@@ -20,12 +20,12 @@ use Rattle.sed_classes.specs.Schema.{schema_of}
 use Rattle.sed_program.specs.Types.{form_of, form_of_type, type_no}
 use Rattle.sed_program.specs.Fields.{a_field, field_of, fields_of, own_fields}
 use Rattle.sed_outline.specs.Fits.{Unbroken}
-use Rattle.sed_order.proofs.Within.{Within}
-use Rattle.sed_order.proofs.Lineages.{places}
-use Rattle.sed_order.proofs.Order.{number, number_is, place_is}
-use Rattle.sed_order.proofs.Infos.{found_sum, infos_len, sum_same}
-use Rattle.sed_order.proofs.Fields.{fields_at, own_typed}
-use Rattle.sed_order.proofs.Upward.{up_cons}
+use Rattle.sed_program.proofs.Within.{Within}
+use Rattle.sed_program.proofs.Lineages.{places}
+use Rattle.sed_program.proofs.Order.{number, number_is, place_is}
+use Rattle.sed_program.proofs.Infos.{found_sum, infos_len, sum_same}
+use Rattle.sed_program.proofs.OrderFields.{fields_at, own_typed}
+use Rattle.sed_program.proofs.Upward.{up_cons}
 use Rattle.sed_class_laws.proofs.Depth.{type_within}
 use Rattle.sed_class_laws.proofs.Inline.{none_in_itself}
 

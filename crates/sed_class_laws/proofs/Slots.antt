@@ -22,11 +22,11 @@ use Rattle.sed_classes.specs.Members.{declares, has_name, kit_of, members_of}
 use Rattle.sed_classes.specs.Slots.{own_slots, slot_of, slots}
 use Rattle.sed_outline.specs.Fits.{Unbroken}
 use Rattle.sed_outline.proofs.Unbroken.{not_broken}
-use Rattle.sed_order.proofs.Fields.{own_typed}
-use Rattle.sed_order.proofs.Lineages.{bases_cons, climb, lineage_cons, lineage_one}
-use Rattle.sed_order.proofs.Lists.{count_cons, count_there, counted, weight}
-use Rattle.sed_order.proofs.Order.{number}
-use Rattle.sed_order.proofs.Upward.{up_cons}
+use Rattle.sed_program.proofs.OrderFields.{own_typed}
+use Rattle.sed_program.proofs.Lineages.{bases_cons, climb, lineage_cons, lineage_one}
+use Rattle.sed_program.proofs.OrderLists.{count_cons, count_there, counted, weight}
+use Rattle.sed_program.proofs.Order.{number}
+use Rattle.sed_program.proofs.Upward.{up_cons}
 use Rattle.sed_class_laws.proofs.Class.{slots_begin}
 use Rattle.sed_class_laws.specs.Free.{AllFree}
 use Rattle.sed_class_laws.proofs.Entry.{Adds, Entry, adding, entry}

@@ -23,9 +23,9 @@ use Rattle.sed_outline.proofs.Bounds.{grown}
 use Rattle.sed_outline.proofs.Fitting.{declared_free}
 use Rattle.sed_outline.proofs.Orders.{others}
 use Rattle.sed_outline.proofs.Unbroken.{not_broken}
-use Rattle.sed_order.proofs.Infos.{places_sum, sum_same}
-use Rattle.sed_order.proofs.Lineages.{places}
-use Rattle.sed_order.proofs.Order.{order_sum}
+use Rattle.sed_program.proofs.Infos.{places_sum, sum_same}
+use Rattle.sed_program.proofs.Lineages.{places}
+use Rattle.sed_program.proofs.Order.{order_sum}
 use Rattle.sed_class_laws.proofs.Rules.{none_numbered, statics_small}
 use Rattle.sed_class_laws.proofs.Sizes.{data_same, fields_sized, sized, sum_filter}
 use Rattle.sed_program.specs.Fields as spelled

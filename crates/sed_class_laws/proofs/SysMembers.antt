@@ -37,11 +37,11 @@ use Rattle.sed_program.specs.Outlined.{AreHeads, IsHead}
 use Rattle.sed_outline.specs.Fits.{Unbroken}
 use Rattle.sed_outline.proofs.Fitting.{found_declared}
 use Rattle.sed_outline.proofs.Orders.{others}
-use Rattle.sed_order.proofs.Before.{sys_numbers}
-use Rattle.sed_order.proofs.Fields.{declared_in_class}
-use Rattle.sed_order.proofs.Infos.{info_of}
-use Rattle.sed_order.proofs.Lists.{is_itself}
-use Rattle.sed_order.proofs.Order.{number_at, place_in}
+use Rattle.sed_program.proofs.Before.{sys_numbers}
+use Rattle.sed_program.proofs.OrderFields.{declared_in_class}
+use Rattle.sed_program.proofs.Infos.{info_of}
+use Rattle.sed_program.proofs.OrderLists.{is_itself}
+use Rattle.sed_program.proofs.Order.{number_at, place_in}
 use Rattle.sed_class_laws.specs.Empty.{EmptyStays}
 use Rattle.sed_class_laws.proofs.Kits.{slots_2}
 

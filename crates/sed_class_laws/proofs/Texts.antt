@@ -8,12 +8,12 @@ use Rattle.std.proofs.lemmas.List.Sums.{sum_by_push}
 use Rattle.std.proofs.lemmas.Bool.Decides.{nat_tests}
 use Rattle.sed_units.specs.declared.leaves.Literal.{Literal}
 use Rattle.sed_typed.specs.Typed.{IsText}
-use Rattle.sed_nodes.specs.Texts.{fitting, is_new, text_spelled, with_literal, with_literals, with_text}
+use Rattle.sed_first_fault.specs.Texts.{fitting, is_new, text_spelled, with_literal, with_literals, with_text}
 use Rattle.sed_classes.specs.declared.kit_units.KitUnits.{KitUnits}
 use Rattle.sed_classes.specs.Declarations.{all_classes}
 use Rattle.sed_classes.specs.Literals.{text_of}
 use Rattle.sed_program.specs.Texts.{literals_of, program_texts}
-use Rattle.sed_order.proofs.Lists.{count_cons, weight}
+use Rattle.sed_program.proofs.OrderLists.{count_cons, weight}
 use Rattle.sed_class_laws.specs.Texts.{AreBytes, SpellBytes}
 use Rattle.sed_class_laws.proofs.Named.{bytes_itself, bytes_same}
 

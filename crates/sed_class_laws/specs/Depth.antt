@@ -2,7 +2,7 @@
 use Rattle.std.specs.Prelude.{ℕ, zero, suc, max, length, List, [], ◌∷◌, unwrap_or}
 use Rattle.sed_classes.specs.declared.kit_units.KitUnits.{KitUnits}
 use Rattle.sed_classes.specs.Declarations.{all_classes}
-use Rattle.sed_objects.specs.Rounds.{inline_in}
+use Rattle.sed_outline.specs.Rounds.{inline_in}
 use Rattle.sed_program.specs.Types.{place_of}
 
 -- the most that comes of a row

@@ -8,7 +8,7 @@ use Rattle.sed_classes.specs.declared.kit_units.KitUnits.{KitUnits}
 use Rattle.sed_classes.specs.Declarations.{all_classes}
 use Rattle.sed_classes.specs.Members.{declares, is_method, kit_of, members_of, owned}
 use Rattle.sed_program.specs.Outlined.{IsHead}
-use Rattle.sed_order.specs.Ordered.{number}
+use Rattle.sed_program.specs.Ordered.{number}
 
 -- the method that a member of a class is
 pub record HasHead (units : List KitUnits) (program : Program) (class : ℕ) (m : Member) : Type 0 where

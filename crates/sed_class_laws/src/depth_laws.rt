@@ -10,7 +10,7 @@ ghost use Rattle.sed_classes.specs.Objects.{data_size, holds_itself};
 ghost use Rattle.sed_classes.specs.Schema.{schema_of};
 ghost use Rattle.sed_program.specs.Fields.{fields_of};
 ghost use Rattle.sed_outline.specs.Fits.{Unbroken};
-ghost use Rattle.sed_order.specs.Ordered.{number};
+ghost use Rattle.sed_program.specs.Ordered.{number};
 ghost use Rattle.sed_class_laws.specs.Depth.{depth_of};
 
 /// No class has an object of its own in its objects.

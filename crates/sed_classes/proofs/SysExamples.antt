@@ -3,7 +3,7 @@
 use Rattle.std.proofs.Common.{◌≡◌, List, [], ◌∷◌, ◌++◌, refl}
 use Rattle.std.specs.Prelude.{codes}
 use Rattle.sed_typed.specs.SysTypes.{HasSysTypes, IsSysType}
-use Rattle.sed_schema.specs.Canonical.{line_end, type_text, types_text, canonical_text}
+use Rattle.sed_classes.specs.Canonical.{line_end, type_text, types_text, canonical_text}
 use Rattle.sed_classes.specs.Declarations.{all_classes}
 use Rattle.sed_classes.specs.Schema.{class_infos, outline}
 

@@ -1,3 +1,5 @@
+pub mod Canonical
+pub mod Checksum
 pub mod SysSource
 pub mod Declarations
 pub mod Names

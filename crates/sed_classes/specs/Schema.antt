@@ -7,7 +7,7 @@ use Rattle.sed_value.specs.declared.kit.KitRef.{KitRef}
 use Rattle.sed_typed.specs.declared.number.TypeNo.{TypeNo}
 use Rattle.sed_typed.specs.declared.schema.ClassInfo.{ClassInfo}
 use Rattle.sed_typed.specs.declared.schema.Schema.{Schema}
-use Rattle.sed_schema.specs.Checksum.{kit_checksum}
+use Rattle.sed_classes.specs.Checksum.{kit_checksum}
 use Rattle.sed_classes.specs.declared.kit_units.KitUnits.{KitUnits}
 use Rattle.sed_classes.specs.Declarations.{Declaration, declared_in, all_classes, class_at}
 use Rattle.sed_classes.specs.SysSource.{component_class}

@@ -4,9 +4,14 @@
 //! units, a class is found by its name in its own kit, in those that the kit depends on, and in `sys`; what a class
 //! inherits follows its bases. Each rule on classes and their members is a definition of its own, which gives the
 //! places at which units break it. The schema of units that break none is a function of them.
+//!
+//! Two parties whose kits have the same checksums have the same slots: the canonical text of a kit names its classes
+//! with their bases and the slots that each adds, and the checksum is taken of that text. `canonical_text` and
+//! `checksum` are exactly their definitions.
 #![tactic(auto)]
 
 mod bases;
+mod digest;
 mod entry;
 mod inherited;
 mod kit_units;
@@ -14,9 +19,11 @@ mod members;
 mod source_type;
 mod sys;
 mod table;
+mod text;
 mod types;
 
 pub use bases::Based;
+pub use digest::checksum;
 pub use entry::Entry;
 pub use inherited::{Found, behind_first, is_declared};
 pub use kit_units::KitUnits;
@@ -28,6 +35,7 @@ pub use members::{
 pub use source_type::{Constant, PlacedFault, SourceType};
 pub use sys::sys_classes;
 pub use table::{Classes, is_buffer_name, is_text_name};
+pub use text::canonical_text;
 pub use types::{
     is_argument_type, is_field_type, is_property_type, is_same_type, is_storable, is_unknown,
     is_void,

@@ -1,1 +1,3 @@
+mod Executing
+mod Printing
 mod Running

@@ -3,7 +3,7 @@ use Rattle.std.proofs.Common.{◌≡◌, ℕ, List, sym, Some, Result, Ok, Err, 
 use Rattle.sed_typed.specs.Contents.{Contents}
 use Rattle.sed_engine.specs.Code.{Meaning}
 use Rattle.sed_engine.specs.Runnable.{first_class}
-use Rattle.component_run.specs.Alone.{Alone, after_cycles, begun, component_text}
+use Rattle.sed_cycles.specs.Alone.{Alone, after_cycles, begun, component_text}
 use Rattle.sed_cycles.specs.Cycles.{component_after, printed, text_after, turns}
 
 -- The meaning is the same before and behind each call.

@@ -3,7 +3,7 @@ use Rattle.std.specs.Prelude.{ℕ, IsSomeAnd, IsTrue, List, []}
 use Rattle.std.specs.Option.{option_map_or}
 use Rattle.sed_engine.specs.Code.{Meaning, is_creatable}
 use Rattle.sed_engine.specs.Runnable.{first_class}
-use Rattle.component_run.specs.Alone.{Alone, after_cycles, begun, component_text}
+use Rattle.sed_cycles.specs.Alone.{Alone, after_cycles, begun, component_text}
 
 -- the turns that each execution may take
 abbrev pub turns : ℕ

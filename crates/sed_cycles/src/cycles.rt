@@ -6,7 +6,7 @@ ghost use Rattle.sed_engine.specs.Runnable.{is_first as is_first_class};
 ghost use Rattle.sed_cycles.specs.Cycles as meaning;
 ghost use Rattle.sed_cycles.specs.Cycles.{CanRun};
 
-use component_run::{add_component, component_text, run_cycles};
+use crate::{add_component, component_text, run_cycles};
 use sed_engine::Engine;
 use sed_typed::{ClassInfo, TypeNo};
 use sed_value::Memory;

@@ -1,3 +1,9 @@
+pub mod Rows
+pub mod Characters
+pub mod Walks
+pub mod Capped
+pub mod Limits
+pub mod Parts
 pub mod Loops
 pub mod Runs
 pub mod Together

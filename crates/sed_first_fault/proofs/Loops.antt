@@ -10,7 +10,7 @@ use Rattle.sed_classes.specs.declared.kit_units.KitUnits.{KitUnits}
 use Rattle.sed_classes.specs.declared.source_type.PlacedFault.{PlacedFault}
 use Rattle.sed_classes.specs.Declarations.{Declaration, all_classes, class_at}
 use Rattle.sed_classes.specs.Faults.{declaration_faults, faults_from, faults_of, first_of, placed_in}
-use Rattle.sed_objects.specs.Rounds.{row_of}
+use Rattle.sed_outline.specs.Rounds.{row_of}
 use Rattle.sed_first_fault.specs.Faults.{spelled_faults_of, spelled_in}
 use Rattle.sed_first_fault.specs.Parts.{declared_at, lesser, spelled_at}
 use Rattle.sed_first_fault.proofs.Together.{lesser_assoc, lesser_none, together}

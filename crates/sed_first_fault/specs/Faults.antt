@@ -10,8 +10,8 @@ use Rattle.sed_classes.specs.Bases.{is_below}
 use Rattle.sed_classes.specs.Declarations.{Declaration, class_at, declared_in}
 use Rattle.sed_classes.specs.Faults.{faults_of, placed_in}
 use Rattle.sed_classes.specs.Members.{is_abstract_class}
-use Rattle.sed_nodes.specs.Integers.{too_large_in_class}
-use Rattle.sed_nodes.specs.Nodes.{spelled_faults}
+use Rattle.sed_first_fault.specs.Integers.{too_large_in_class}
+use Rattle.sed_first_fault.specs.Nodes.{spelled_faults}
 
 -- ---- how it is spelled
 

@@ -5,18 +5,16 @@ ghost use Rattle.sed_faults.specs.Faults.{least};
 ghost use Rattle.sed_classes.specs.Faults.{faults_of, first_of};
 ghost use Rattle.sed_classes.specs.LimitRules as rules;
 ghost use Rattle.sed_classes.specs.Members.{members_of};
-ghost use Rattle.sed_nodes.specs.Nodes.{spelled_faults};
-ghost use Rattle.sed_objects.specs.Rounds.{capped, row_of};
+ghost use Rattle.sed_first_fault.specs.Nodes.{spelled_faults};
+ghost use Rattle.sed_outline.specs.Rounds.{capped, row_of};
 ghost use Rattle.sed_first_fault.specs.Faults.{declared_faults, spelled_faults_of};
 ghost use Rattle.sed_first_fault.specs.Parts as parts;
 
 use crate::firsts::{first, lesser, placed};
+use crate::{declaration_fault, statics_before, too_large_in_class};
 use sed_classes::{Classes, PlacedFault};
-use sed_declared::declaration_fault;
 use sed_faults::{Fault, joined};
-use sed_limits::statics_before;
-use sed_nodes::too_large_in_class;
-use sed_objects::Measured;
+use sed_outline::Measured;
 use sed_value::Memory;
 use std::alloc::Global;
 

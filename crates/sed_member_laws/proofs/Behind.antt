@@ -22,7 +22,7 @@ use Rattle.sed_program.specs.Fields.{a_field, all_fields, field_of}
 use Rattle.sed_program.specs.Methods.{methods_in, methods_of, own_methods}
 use Rattle.sed_program.specs.Outlined.{IsHead, IsOutlined}
 use Rattle.sed_program.specs.Types.{form_of, form_of_type, result_kind, type_no}
-use Rattle.sed_order.specs.Ordered.{IsOrdered, number, places}
+use Rattle.sed_program.specs.Ordered.{IsOrdered, number, places}
 use Rattle.sed_member_laws.specs.Faultless.{AreFree, Keeps}
 use Rattle.sed_member_laws.proofs.Fit.{class_in_program, numbered_class, result_some}
 use Rattle.sed_member_laws.proofs.Flat.{filtered_in, flat_in, given_in, numbered_in, some_is}

@@ -23,7 +23,7 @@ use Rattle.sed_member_laws.proofs.Empty.{not_broken}
 use Rattle.sed_member_laws.proofs.Flat.{flat_at, lengths, numbered_at, one_of, some_is, sum_same}
 use Rattle.sed_member_laws.proofs.Nearest.{nearest_found}
 use Rattle.sed_member_laws.proofs.Own.{declared, member_kept, or_left, or_right}
-use Rattle.sed_order.proofs.Lists.{count_cons, is_itself}
+use Rattle.sed_program.proofs.OrderLists.{count_cons, is_itself}
 
 -- ---- a define where it is declared
 

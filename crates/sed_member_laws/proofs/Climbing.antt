@@ -7,7 +7,7 @@ use Rattle.sed_typed.specs.Classes.{declared_method, find, first_found}
 use Rattle.sed_classes.specs.declared.kit_units.KitUnits.{KitUnits}
 use Rattle.sed_classes.specs.Bases.{base_of, bases, lineage}
 use Rattle.sed_classes.specs.Members.{declares, has_name, members_of, nearest, nearest_among, own_named, owned, kit_of}
-use Rattle.sed_order.specs.Ordered.{IsOrdered, number, places}
+use Rattle.sed_program.specs.Ordered.{IsOrdered, number, places}
 use Rattle.sed_member_laws.proofs.Own.{found_or_none, or_left, or_right}
 
 climb_to : (units : List KitUnits) (program : Program) → IsOrdered units program → (P : ℕ → Type 0) → ((c : ℕ) →

@@ -21,12 +21,12 @@ use Rattle.sed_program.specs.Fields.{a_field, all_fields, field_of, own_fields, 
 use Rattle.sed_program.specs.Methods.{own_methods}
 use Rattle.sed_program.specs.Outlined.{IsOutlined}
 use Rattle.sed_program.specs.Types.{form_of}
-use Rattle.sed_order.specs.Ordered.{IsOrdered, number, places}
+use Rattle.sed_program.specs.Ordered.{IsOrdered, number, places}
 use Rattle.sed_member_laws.specs.Faultless.{AreFree}
 use Rattle.sed_member_laws.proofs.Flat.{any_counted, count_block, count_given, given_in, none_passes, some_is}
 use Rattle.sed_member_laws.proofs.Own.{names_once}
 use Rattle.sed_member_laws.proofs.Rows.{any_false}
-use Rattle.sed_order.proofs.Lists.{count_cons, is_itself}
+use Rattle.sed_program.proofs.OrderLists.{count_cons, is_itself}
 use Rattle.sed_member_laws.proofs.Climbing.{climb}
 use Rattle.sed_member_laws.proofs.FieldsAt.{instance_no_method, static_no_method, total}
 use Rattle.sed_member_laws.proofs.Numbers.{methods_named}

@@ -16,7 +16,7 @@ use Rattle.sed_classes.specs.MemberRules.{is_abstract_elsewhere, is_virtual_else
 use Rattle.sed_program.specs.Methods.{method_number, methods_of}
 use Rattle.sed_program.specs.Outlined.{IsHead, IsOutlined, is_there}
 use Rattle.sed_program.specs.Types.{param_kind, place_of}
-use Rattle.sed_order.specs.Ordered.{IsOrdered, number}
+use Rattle.sed_program.specs.Ordered.{IsOrdered, number}
 use Rattle.sed_member_laws.specs.Faultless.{AreFree, Keeps}
 use Rattle.sed_member_laws.proofs.Empty.{none_said_first}
 use Rattle.sed_member_laws.proofs.Fit.{param_stored}

@@ -18,7 +18,7 @@ use Rattle.sed_classes.specs.Members.{has_name, is_define, is_instance_field, is
 use Rattle.sed_classes.specs.Schema.{class_order}
 use Rattle.sed_program.specs.Fields.{a_field, before_class, field_number, field_of, own_fields, own_statics, static_number, statics_of}
 use Rattle.sed_program.specs.Types.{form_of, place_of}
-use Rattle.sed_order.specs.Ordered.{IsOrdered, number, places}
+use Rattle.sed_program.specs.Ordered.{IsOrdered, number, places}
 use Rattle.sed_member_laws.specs.Faultless.{AreFree}
 use Rattle.sed_member_laws.proofs.Fit.{form_some}
 use Rattle.sed_member_laws.proofs.Flat.{behind, filtered_in, flat_at, given_at, given_length, in_front, lengths, numbered_at, numbers_taken, some_is, sum_same}

@@ -41,7 +41,7 @@ use Rattle.sed_program.specs.Fields.{a_field, all_fields, begun, begun_text, own
 use Rattle.sed_program.specs.Outlined.{IsOutlined}
 use Rattle.sed_program.specs.Types.{form_of, form_of_type, number_of, type_no}
 use Rattle.sed_member_laws.specs.Literals.{AreSpelled, HasSpelled, IsSpelled, IsValueSpelled, SpellsOne}
-use Rattle.sed_order.specs.Ordered.{IsOrdered, number, places}
+use Rattle.sed_program.specs.Ordered.{IsOrdered, number, places}
 use Rattle.sed_member_laws.specs.Faultless.{AreFree, Keeps}
 use Rattle.sed_member_laws.proofs.Constants.{constant_good, kept_typed, zero_typed}
 use Rattle.sed_member_laws.proofs.TextBytes.{ended_small, text_small}

@@ -25,7 +25,7 @@ use Rattle.sed_classes.specs.Faults.{param_faults}
 use Rattle.sed_classes.specs.Objects.{is_inline}
 use Rattle.sed_classes.specs.Types.{is_field_type, is_kept, is_property_type, is_storable, is_unknown, is_void, type_of}
 use Rattle.sed_program.specs.Types.{form_of, form_of_type, kind_of_type, number_of, param_kind, primitive_kind, result_kind, result_of_type, type_no}
-use Rattle.sed_order.specs.Ordered.{IsOrdered, number, places}
+use Rattle.sed_program.specs.Ordered.{IsOrdered, number, places}
 use Rattle.sed_member_laws.specs.Faultless.{Keeps}
 use Rattle.sed_member_laws.proofs.Empty.{none_left, none_right, not_broken}
 use Rattle.sed_member_laws.proofs.KnownTypes.{is_known, object_there}

@@ -4,7 +4,7 @@ use Rattle.std.specs.List.{flat_map, filter_map, cons_option, enumerate_from, fi
 use Rattle.std.specs.Option.{option_map}
 use Rattle.std.proofs.lemmas.List.Sums.{sum_by-cons, sum_by-append}
 use Rattle.std.proofs.lemmas.Bool.Decides.{nat_tests}
-use Rattle.sed_order.proofs.Lists.{count_cons, position_no, position_yes}
+use Rattle.sed_program.proofs.OrderLists.{count_cons, position_no, position_yes}
 pub use Rattle.std.proofs.lemmas.Option.{same_Some as some_is}
 pub use Rattle.sed_value.proofs.Lists.{stands_in_front as in_front}
 

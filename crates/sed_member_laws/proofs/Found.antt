@@ -11,11 +11,11 @@ use Rattle.sed_classes.specs.Members.{Owned, declares, has_name, inherits, is_me
 use Rattle.sed_classes.specs.MemberRules.{fits_one_of}
 use Rattle.sed_program.specs.Methods.{method_number, own_methods}
 use Rattle.sed_program.specs.Outlined.{IsOutlined}
-use Rattle.sed_order.specs.Ordered.{IsOrdered, number, places}
+use Rattle.sed_program.specs.Ordered.{IsOrdered, number, places}
 use Rattle.sed_member_laws.specs.Faultless.{AreFree, Keeps}
 use Rattle.sed_member_laws.proofs.Flat.{any_counted, count_parts, found_filtered, found_in, position_none}
 use Rattle.sed_member_laws.proofs.Own.{member_kept, names_once, none_any, same_name}
-use Rattle.sed_order.proofs.Lists.{count_there}
+use Rattle.sed_program.proofs.OrderLists.{count_there}
 use Rattle.sed_member_laws.proofs.Climbing.{bases_cons, climb, find_cons, find_one, nearest_cons, nearest_one, none_among}
 use Rattle.sed_member_laws.proofs.Numbers.{declared_is, methods_named, named_in}
 use Rattle.sed_member_laws.specs.Found.{method_no}

@@ -6,7 +6,7 @@ use Rattle.sed_classes.specs.declared.kit_units.KitUnits.{KitUnits}
 use Rattle.sed_program.specs.Methods.{MethodAt}
 use Rattle.sed_program.specs.Outlined.{AreHeads, IsHead}
 use Rattle.sed_member_laws.proofs.Flat.{some_is}
-use Rattle.sed_order.proofs.Lists.{count_cons}
+use Rattle.sed_program.proofs.OrderLists.{count_cons}
 
 pub head_at : (units : List KitUnits) (es : List MethodAt) (ms : List Method) → AreHeads units es ms →
     (i : ℕ) (e : MethodAt) →

@@ -29,7 +29,7 @@ use Rattle.sed_classes.specs.SysSource.{component_class}
 use Rattle.sed_classes.specs.Types.{is_property_type, type_of}
 use Rattle.sed_program.specs.Fields.{field_of, own_fields, slot_no, slot_of_field}
 use Rattle.sed_program.specs.Types.{place_of}
-use Rattle.sed_order.specs.Ordered.{IsOrdered, number, places}
+use Rattle.sed_program.specs.Ordered.{IsOrdered, number, places}
 use Rattle.sed_member_laws.specs.Faultless.{AreFree, Keeps}
 use Rattle.sed_member_laws.proofs.Flat.{behind, flat_at, in_front, lengths}
 use Rattle.sed_member_laws.proofs.Own.{name_itself}

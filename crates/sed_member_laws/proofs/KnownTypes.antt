@@ -17,10 +17,10 @@ use Rattle.sed_classes.specs.Declarations.{all_classes}
 use Rattle.sed_classes.specs.Names.{class_among, class_in, class_in_named, class_named, class_of_kit, class_of_name, depends_of, is_buffer_name, is_named, is_text_name, kit_numbered, may_name, plain_class}
 use Rattle.sed_classes.specs.NameRules.{is_without_class, name_without_class, base_type_without_class, type_without_class}
 use Rattle.sed_classes.specs.Types.{array_type, based_type, buffer_type, is_unknown, named_type, object_type, primitive_type, size_within, text_type, type_of, void_type}
-use Rattle.sed_order.specs.Ordered.{places}
+use Rattle.sed_program.specs.Ordered.{places}
 use Rattle.sed_member_laws.proofs.Empty.{not_broken}
 use Rattle.sed_member_laws.proofs.Flat.{some_is}
-use Rattle.sed_order.proofs.Lists.{position_within}
+use Rattle.sed_program.proofs.OrderLists.{position_within}
 
 -- ---- a class that a name has is there
 

@@ -17,12 +17,12 @@ use Rattle.sed_classes.specs.Members.{Owned, declares, has_name, is_method, is_o
 use Rattle.sed_classes.specs.Schema.{class_order, type_number}
 use Rattle.sed_program.specs.Methods.{MethodAt, is_virtual, method_number, methods_in, methods_of, own_methods}
 use Rattle.sed_program.specs.Outlined.{IsOutlined}
-use Rattle.sed_order.specs.Ordered.{IsOrdered, number, places}
+use Rattle.sed_program.specs.Ordered.{IsOrdered, number, places}
 use Rattle.sed_member_laws.specs.Faultless.{AreFree, Keeps}
 use Rattle.sed_member_laws.proofs.Flat.{any_counted, count_block, count_mapped, found_filtered, found_in, none_passes, one_of, some_is}
 use Rattle.sed_member_laws.proofs.Own.{member_kept, name_itself, names_once, none_any, same_name}
 use Rattle.sed_member_laws.proofs.Rows.{all_from, any_true}
-use Rattle.sed_order.proofs.Lists.{count_cons, count_there, is_itself}
+use Rattle.sed_program.proofs.OrderLists.{count_cons, count_there, is_itself}
 use Rattle.sed_member_laws.proofs.Counts.{AreIn, fields_count, grown, lineage_in, members_once, sum_mapped, three_parts}
 use Rattle.sed_member_laws.proofs.MembersTyped.{bases_in, by_place, fields_alone, like_above, lineage_sum, methods_fit, same_place, statics_alone}
 use Rattle.sed_member_laws.proofs.Overriding.{Over, fit_of, over}

@@ -18,13 +18,13 @@ use Rattle.sed_program.specs.Fields.{all_fields}
 use Rattle.sed_program.specs.Methods.{MethodAt, method_number}
 use Rattle.sed_program.specs.Outlined.{IsHead, IsOutlined}
 use Rattle.sed_program.specs.Types.{place_of}
-use Rattle.sed_order.specs.Ordered.{IsOrdered, number, places}
+use Rattle.sed_program.specs.Ordered.{IsOrdered, number, places}
 use Rattle.sed_member_laws.specs.Faultless.{AreFree}
 use Rattle.sed_member_laws.proofs.Flat.{filtered_in, found_in, some_is}
 use Rattle.sed_member_laws.proofs.Nearest.{nearest_found, owned_kit}
 use Rattle.sed_member_laws.proofs.Own.{found_any, name_itself, same_name}
 use Rattle.sed_member_laws.proofs.Rows.{all_from, any_true}
-use Rattle.sed_order.proofs.Lists.{count_there}
+use Rattle.sed_program.proofs.OrderLists.{count_there}
 use Rattle.sed_member_laws.proofs.Alike.{alike_on}
 use Rattle.sed_member_laws.proofs.Counts.{AreIn, lineage_in, members_count, members_once, none_named, sum_mapped}
 use Rattle.sed_member_laws.proofs.Overriding.{OpenAt, Over, fit_of, nearest_like, over, says_override}

@@ -30,7 +30,7 @@ use Rattle.sed_program.specs.Methods.{is_virtual, method_number}
 use Rattle.sed_program.specs.Outlined.{IsOutlined, is_there}
 use Rattle.sed_program.specs.Types.{param_kind, place_of}
 use Rattle.sed_member_laws.specs.TypedHeads.{IsTypedHead}
-use Rattle.sed_order.specs.Ordered.{IsOrdered, number, places}
+use Rattle.sed_program.specs.Ordered.{IsOrdered, number, places}
 use Rattle.sed_member_laws.specs.Faultless.{AreFree, Keeps}
 use Rattle.sed_member_laws.proofs.Empty.{none_left, none_right, none_said_first, not_broken}
 use Rattle.sed_member_laws.proofs.Flat.{behind, found_in}

@@ -14,11 +14,11 @@ use Rattle.sed_classes.specs.Schema.{class_order}
 use Rattle.sed_program.specs.Fields.{before_class}
 use Rattle.sed_program.specs.Methods.{MethodAt, method_number, methods_in, methods_of, own_methods}
 use Rattle.sed_program.specs.Outlined.{IsHead, IsOutlined}
-use Rattle.sed_order.specs.Ordered.{IsOrdered, number, places}
+use Rattle.sed_program.specs.Ordered.{IsOrdered, number, places}
 use Rattle.sed_member_laws.specs.Faultless.{AreFree}
 use Rattle.sed_member_laws.proofs.Flat.{count_block, count_mapped, count_parts, count_same, flat_at, lengths, none_passes, numbered_at, numbers_taken, sum_same}
 use Rattle.sed_member_laws.proofs.Own.{name_itself, names_once}
-use Rattle.sed_order.proofs.Lists.{is_itself, once_at}
+use Rattle.sed_program.proofs.OrderLists.{is_itself, once_at}
 use Rattle.sed_member_laws.proofs.Heads.{head_at, heads_count}
 
 -- ---- where a method stands

@@ -9,12 +9,12 @@ use Rattle.sed_classes.specs.Bases.{base_of, bases, lineage}
 use Rattle.sed_classes.specs.Members.{Owned, declares, form_params, has_name, inherits, is_action, is_method, is_open, kit_of, members_of, nearest, nearest_among, overrides, own_named, owned}
 use Rattle.sed_classes.specs.MemberRules.{fits, fits_one_of, same_params, same_truth}
 use Rattle.sed_classes.specs.Types.{is_same_type, type_of}
-use Rattle.sed_order.specs.Ordered.{IsOrdered}
+use Rattle.sed_program.specs.Ordered.{IsOrdered}
 use Rattle.sed_member_laws.specs.Faultless.{AreFree, Keeps}
 use Rattle.sed_member_laws.proofs.Flat.{found_in, one_of, some_is}
 use Rattle.sed_member_laws.proofs.Own.{and_left, and_right, member_kept, names_once, none_any, same_name}
 use Rattle.sed_member_laws.proofs.Rows.{any_in, any_true}
-use Rattle.sed_order.proofs.Lists.{count_cons, count_there}
+use Rattle.sed_program.proofs.OrderLists.{count_cons, count_there}
 use Rattle.sed_member_laws.proofs.Alike.{alike_back, alike_on, fits_alike, open_method, virtual_instance}
 use Rattle.sed_member_laws.proofs.Climbing.{bases_cons, climb, nearest_cons, nearest_one}
 use Rattle.sed_member_laws.specs.Alike.{Alike}

@@ -12,7 +12,7 @@ use Rattle.sed_classes.specs.Members.{has_name, kit_of, members_of}
 use Rattle.sed_member_laws.specs.Faultless.{AreFree, Keeps}
 use Rattle.sed_member_laws.proofs.Flat.{none_passes, one_of}
 use Rattle.sed_member_laws.proofs.Peel.{kept}
-use Rattle.sed_order.proofs.Lists.{count_cons}
+use Rattle.sed_program.proofs.OrderLists.{count_cons}
 pub use Rattle.sed_value.proofs.Lists.{same_bytes as same_name}
 pub use Rattle.sed_value.proofs.Truths.{or_left, or_right, and_left, and_right}
 

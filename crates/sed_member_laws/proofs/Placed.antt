@@ -16,7 +16,7 @@ use Rattle.sed_classes.specs.Bases.{base_of, is_below, lineage}
 use Rattle.sed_classes.specs.Schema.{type_number}
 use Rattle.sed_program.specs.Meaning.{base_number, below_number, below_place}
 use Rattle.sed_program.specs.Types.{number_of, place_of, type_no}
-use Rattle.sed_order.specs.Ordered.{IsOrdered, number, places}
+use Rattle.sed_program.specs.Ordered.{IsOrdered, number, places}
 use Rattle.sed_member_laws.proofs.Climbing.{climb}
 
 -- there are classes, those of `sys`

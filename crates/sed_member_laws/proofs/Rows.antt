@@ -5,7 +5,7 @@ use Rattle.std.specs.Option.{option_map}
 use Rattle.std.proofs.lemmas.Option.{slice_get-get_or}
 use Rattle.sed_member_laws.proofs.Flat.{some_is}
 use Rattle.sed_member_laws.proofs.Own.{or_left, or_right}
-use Rattle.sed_order.proofs.Lists.{position_no, position_yes}
+use Rattle.sed_program.proofs.OrderLists.{position_no, position_yes}
 
 pub all_from : {X : Type 0} (P : X → Type 0) (xs : List X) → ((i : ℕ) (x : X) → slice_get xs i ≡ Some x → P x) →
     All P xs

@@ -9,7 +9,7 @@ use Rattle.sed_classes.specs.Declarations.{Declaration, all_classes, class_at, d
 use Rattle.sed_classes.specs.Faults.{declaration_faults}
 use Rattle.sed_classes.specs.Names.{class_in}
 use Rattle.sed_classes.specs.SysSource.{a_class, component_members, empty_method}
-use Rattle.sed_order.specs.Ordered.{IsOrdered, number}
+use Rattle.sed_program.specs.Ordered.{IsOrdered, number}
 use Rattle.sed_member_laws.proofs.Flat.{some_is}
 use Rattle.sed_member_laws.proofs.SysBases.{base_app, base_component, base_folder, base_obj, base_virtual, named}
 

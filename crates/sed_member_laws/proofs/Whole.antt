@@ -7,7 +7,7 @@ use Rattle.sed_classes.specs.Declarations.{Declaration, declared_in}
 use Rattle.sed_classes.specs.Faults.{declaration_faults, faults_of}
 use Rattle.sed_outline.specs.Fits.{Unbroken}
 use Rattle.sed_outline.proofs.Fitting.{declared_free, no_back}
-use Rattle.sed_order.specs.Ordered.{IsOrdered}
+use Rattle.sed_program.specs.Ordered.{IsOrdered}
 use Rattle.sed_member_laws.specs.Faultless.{AreFree}
 use Rattle.sed_member_laws.proofs.SysFree.{all_free}
 

@@ -4,7 +4,7 @@ ghost use Rattle.sed_classes.specs.declared.kit_units.KitUnits.{KitUnits};
 ghost use Rattle.sed_member_laws.specs.Literals.{AreSpelled};
 ghost use Rattle.sed_member_laws.specs.Faultless.{AreFree};
 ghost use Rattle.sed_member_laws.specs.TypedHeads.{IsTypedHead};
-ghost use Rattle.sed_order.specs.Ordered.{IsOrdered};
+ghost use Rattle.sed_program.specs.Ordered.{IsOrdered};
 ghost use Rattle.sed_program.specs.Outlined.{IsOutlined};
 ghost use Rattle.sed_typed.specs.Typed.{HasBodies};
 ghost use Rattle.sed_typed.specs.TypedSchema.{HasMembers, IsField};

@@ -4,7 +4,7 @@ ghost use Rattle.sed_classes.specs.Bases.{base_of};
 ghost use Rattle.sed_classes.specs.Members.{members_of, kit_of, nearest, Owned};
 ghost use Rattle.sed_classes.specs.declared.kit_units.KitUnits.{KitUnits};
 ghost use Rattle.sed_member_laws.specs.Faultless.{AreFree};
-ghost use Rattle.sed_order.specs.Ordered.{IsOrdered};
+ghost use Rattle.sed_program.specs.Ordered.{IsOrdered};
 ghost use Rattle.sed_member_laws.specs.Alike.{Alike};
 ghost use Rattle.sed_typed.specs.declared.program.Program.{Program};
 ghost use Rattle.sed_units.specs.declared.classes.Member.{Member};

@@ -3,7 +3,7 @@ ghost use Rattle.std.specs.Prelude.{List, ℕ, ◌≡◌, ◌<◌};
 ghost use Rattle.sed_classes.specs.Members.{nearest};
 ghost use Rattle.sed_classes.specs.declared.kit_units.KitUnits.{KitUnits};
 ghost use Rattle.sed_member_laws.specs.Faultless.{AreFree};
-ghost use Rattle.sed_order.specs.Ordered.{IsOrdered, places, number};
+ghost use Rattle.sed_program.specs.Ordered.{IsOrdered, places, number};
 ghost use Rattle.sed_outline.specs.Fits.{Unbroken};
 ghost use Rattle.sed_member_laws.specs.Found.{method_no};
 ghost use Rattle.sed_program.specs.Outlined.{IsOutlined};

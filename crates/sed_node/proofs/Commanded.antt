@@ -13,10 +13,10 @@ use Rattle.comp_tree.specs.Whole.{Whole}
 use Rattle.link_prop.specs.Linked.{Linked, application_of}
 use Rattle.sox_msg.specs.Answered.{Answered, refused}
 use Rattle.sox_msg.specs.Command.{Asked, number_in}
-use Rattle.sox_commands.specs.Answer.{Answer, WantsMemory, answer, answer_by, command_of, may_want_memory, refused_by}
-use Rattle.sox_commands.specs.Replies.{answered_text, reply_bytes}
-use Rattle.sox_commands.specs.declared.served.Served.{Served}
-use Rattle.sox_commands.specs.declared.served.Served.TheVariants.{SaveAsked}
+use Rattle.sox_serve.specs.Answer.{Answer, WantsMemory, answer, answer_by, command_of, may_want_memory, refused_by}
+use Rattle.sox_serve.specs.Replies.{answered_text, reply_bytes}
+use Rattle.sox_serve.specs.declared.served.Served.{Served}
+use Rattle.sox_serve.specs.declared.served.Served.TheVariants.{SaveAsked}
 use Rattle.sox_serve.specs.Serves.{is_add, Serves}
 use Rattle.sox_events.specs.Due.{subscriptions}
 use Rattle.disk_model.specs.Disk.{Meaning as DiskMeaning}

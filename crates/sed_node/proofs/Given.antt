@@ -4,8 +4,8 @@ use Rattle.std.specs.Prelude.{◌&&◌, nat_lt}
 use Rattle.std.proofs.lemmas.Bool.{lt-ltb}
 use Rattle.sed_value.specs.Value.{are_bytes}
 use Rattle.sox_msg.specs.Command.{Asked, body_of}
-use Rattle.sox_commands.specs.Answer.{command_of}
-use Rattle.app_laws.specs.Bytes.{GivesBytes}
+use Rattle.sox_serve.specs.Answer.{command_of}
+use Rattle.app_file.specs.Bytes.{GivesBytes}
 use Rattle.node_events.proofs.Gives.{behind_one, of_body}
 
 -- numbers that fit a byte each

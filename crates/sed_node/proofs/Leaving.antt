@@ -3,9 +3,9 @@ use Rattle.std.proofs.Common.{◌≡◌, ◌∙◌, ℕ, zero, suc, List, refl, 
 use Rattle.std.specs.Prelude.{Option, Some, None}
 use Rattle.std.specs.Option.{option_map}
 use Rattle.sed_outside.specs.declared.addr.Addr.{Addr}
-use Rattle.live_outside.specs.declared.polling.Polling.{Polling}
-use Rattle.live_outside.specs.Clock.{Moments, later_moments}
-use Rattle.live_outside.specs.Rounds.{HearsWhereTold, most_polls, unheard}
+use Rattle.sed_outside.specs.declared.polling.Polling.{Polling}
+use Rattle.sed_outside.specs.Clock.{Moments, later_moments}
+use Rattle.sed_outside.specs.Rounds.{HearsWhereTold, most_polls, unheard}
 use Rattle.sed_node.specs.Living.{IsLeft, moments_behind, polls_behind}
 
 -- behind so many cycles, where so many polls are left of the first one

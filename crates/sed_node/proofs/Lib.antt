@@ -21,3 +21,4 @@ pub mod Lines
 pub mod Runs
 pub mod Polled
 pub mod Lives
+mod Ends

@@ -9,8 +9,8 @@ use Rattle.std.proofs.lemmas.List.{flat_map_more, take-append-drop, take_more}
 use Rattle.std.proofs.Math.Nat.{min-eq_left, min-eq_right}
 use Rattle.sed_outside.specs.Counts.{counted}
 use Rattle.sed_outside.specs.Sink.{PutsFront, with_text}
-use Rattle.printed_text.proofs.Sequence.{front}
-pub use Rattle.printed_text.proofs.Sequence.{with_more, with_none}
+use Rattle.printed_app.proofs.Sequence.{front}
+pub use Rattle.printed_app.proofs.Sequence.{with_more, with_none}
 use Rattle.dasp_session.specs.Outbox.{Datagram}
 use Rattle.sed_node.specs.Running.{line_of, lines_of}
 

@@ -6,14 +6,14 @@ use Rattle.std.proofs.lemmas.List.{append-nil, length-append}
 use Rattle.disk_model.specs.Disk.{Meaning as DiskMeaning}
 use Rattle.sed_engine.specs.declared.engine.Engine.{Ghosts}
 use Rattle.sed_engine.specs.Code.{Meaning}
-use Rattle.live_outside.specs.declared.datagram.Datagram.{Datagram as Heard}
-use Rattle.live_outside.specs.declared.offer.Offer.{Offer}
-use Rattle.live_outside.specs.declared.polling.Polling.{Polling}
-use Rattle.live_outside.specs.declared.sleep.Sleep.{Sleep}
-use Rattle.live_outside.specs.Clock.{Moments, next_moment}
+use Rattle.sed_outside.specs.declared.datagram.Datagram.{Datagram as Heard}
+use Rattle.sed_outside.specs.declared.offer.Offer.{Offer}
+use Rattle.sed_outside.specs.declared.polling.Polling.{Polling}
+use Rattle.sed_outside.specs.declared.sleep.Sleep.{Sleep}
+use Rattle.sed_outside.specs.Clock.{Moments, next_moment}
 use Rattle.sed_outside.specs.Counts.{counted, one_more}
-use Rattle.live_outside.specs.Rounds.{LiveCycle, most_polls, polls_at, sleeps_in, wake_moment}
-use Rattle.live_outside.specs.Told.{AddsWhereTold, Tells, Told}
+use Rattle.sed_outside.specs.Rounds.{LiveCycle, most_polls, polls_at, sleeps_in, wake_moment}
+use Rattle.sed_outside.specs.Told.{AddsWhereTold, Tells, Told}
 use Rattle.replay_log.specs.Entry.{Entry}
 use Rattle.dasp_session.specs.Letters.{Letter}
 use Rattle.dasp_session.specs.Outbox.{AreTexts, Datagram}

@@ -3,10 +3,10 @@ use Rattle.std.proofs.Common.{◌≡◌, ◌∙◌, ◌≤◌, ◌+◌, ℕ, ℤ
 use Rattle.std.proofs.Common.{append_assoc, arith}
 use Rattle.std.specs.Prelude.{map}
 use Rattle.std.proofs.lemmas.List.{append-nil, flat_map_more, length-append}
-use Rattle.live_outside.specs.declared.datagram.Datagram.{Datagram as Heard}
-use Rattle.live_outside.specs.declared.offer.Offer.{Offer}
+use Rattle.sed_outside.specs.declared.datagram.Datagram.{Datagram as Heard}
+use Rattle.sed_outside.specs.declared.offer.Offer.{Offer}
 use Rattle.sed_outside.specs.Counts.{counted, counts_behind, one_more}
-use Rattle.live_outside.specs.Rounds.{LiveCycle, most_polls, polls_at, polls_of}
+use Rattle.sed_outside.specs.Rounds.{LiveCycle, most_polls, polls_at, polls_of}
 use Rattle.sed_engine.specs.Code.{Meaning}
 use Rattle.dasp_session.specs.Letters.{Letter}
 use Rattle.dasp_session.specs.Outbox.{AreTexts, Datagram}

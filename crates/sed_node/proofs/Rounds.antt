@@ -9,10 +9,10 @@ use Rattle.std.proofs.lemmas.List.Concat.{flat_map-cons}
 use Rattle.std.proofs.lemmas.List.Elements.{All-nil, All-push}
 use Rattle.std.proofs.lemmas.Grind.{flat_map-append}
 use Rattle.sed_outside.specs.declared.addr.Addr.{Addr}
-use Rattle.live_outside.specs.declared.datagram.Datagram.{Datagram}
-use Rattle.live_outside.specs.declared.polling.Polling.{Polling}
-use Rattle.live_outside.specs.Clock.{Moments, later_moments, next_moment}
-use Rattle.live_outside.specs.Rounds.{HearsWhereTold, LiveCycle, heard, heard_in, most_polls, tick_moments, unheard}
+use Rattle.sed_outside.specs.declared.datagram.Datagram.{Datagram}
+use Rattle.sed_outside.specs.declared.polling.Polling.{Polling}
+use Rattle.sed_outside.specs.Clock.{Moments, later_moments, next_moment}
+use Rattle.sed_outside.specs.Rounds.{HearsWhereTold, LiveCycle, heard, heard_in, most_polls, tick_moments, unheard}
 use Rattle.replay_log.specs.Entry.{Entry, datagram, tick}
 use Rattle.node_events.specs.LiveEvents.{entries_in, heard_as}
 use Rattle.sed_node.specs.Living.{AreRounds, HasFew}

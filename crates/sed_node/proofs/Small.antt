@@ -12,9 +12,9 @@ use Rattle.comp_tree.specs.Whole.{Whole}
 use Rattle.link_prop.specs.Linked.{Linked, application_of}
 use Rattle.sox_msg.specs.Command.{Asked, CanBeAsked, add, read_part, delete, invoke, link, unlink, rename, reorder}
 use Rattle.sox_msg.specs.Command.{read_slot, subscribe, unsubscribe, version, write, clear}
-use Rattle.sox_commands.specs.Answer.{Answer, answer, answer_by, asks_for_save, command_of, served_by}
-use Rattle.sox_commands.specs.declared.served.Served.{Served}
-use Rattle.sox_commands.specs.declared.served.Served.TheVariants.{Replied, SaveAsked}
+use Rattle.sox_serve.specs.Answer.{Answer, answer, answer_by, asks_for_save, command_of, served_by}
+use Rattle.sox_serve.specs.declared.served.Served.{Served}
+use Rattle.sox_serve.specs.declared.served.Served.TheVariants.{Replied, SaveAsked}
 use Rattle.sox_serve.specs.Serves.{Serves}
 use Rattle.sed_node.specs.Subscribing.{IsSmall}
 

@@ -1,10 +1,10 @@
 -- The cycles of a run over a link that tells its polls and a clock that tells its moments.
 use Rattle.std.proofs.Common.{◌≡◌, ◌∙◌, ℕ, ℤ, zero, suc, List, [], ◌∷◌, Some, refl, ap}
 use Rattle.std.specs.List.{flat_map}
-use Rattle.live_outside.specs.declared.datagram.Datagram.{Datagram}
-use Rattle.live_outside.specs.declared.polling.Polling.{Polling}
-use Rattle.live_outside.specs.Clock.{Moments, later_moments, next_moment}
-use Rattle.live_outside.specs.Rounds.{LiveCycle, heard, heard_in, live_cycles, most_polls, tick_moments, unheard}
+use Rattle.sed_outside.specs.declared.datagram.Datagram.{Datagram}
+use Rattle.sed_outside.specs.declared.polling.Polling.{Polling}
+use Rattle.sed_outside.specs.Clock.{Moments, later_moments, next_moment}
+use Rattle.sed_outside.specs.Rounds.{LiveCycle, heard, heard_in, live_cycles, most_polls, tick_moments, unheard}
 use Rattle.replay_log.specs.Entry.{Entry}
 use Rattle.node_events.specs.LiveEvents.{entries_in, live_events}
 use Rattle.sed_node.specs.Living.{AreRounds}

@@ -4,7 +4,7 @@ use Rattle.std.proofs.Common.{ap}
 use Rattle.std.specs.Prelude.{if◌then◌else◌, Option, Some, None}
 use Rattle.std.specs.Option.{option_map_or}
 use Rattle.sed_engine.specs.Code.{Meaning}
-use Rattle.dasp_window.specs.Posted.{has_room}
+use Rattle.dasp_msg.specs.Posted.{has_room}
 use Rattle.dasp_session.specs.Closing.{timed_out}
 use Rattle.dasp_session.specs.Hearing.{ends}
 use Rattle.dasp_session.specs.Letters.{close}

@@ -6,3 +6,5 @@ pub mod Doing
 pub mod Handling
 pub mod Running
 pub mod Living
+pub mod Replaying
+pub mod LiveText

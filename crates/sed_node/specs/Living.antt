@@ -6,12 +6,12 @@ use Rattle.std.specs.Option.{option_map}
 use Rattle.disk_model.specs.Disk.{Meaning as DiskMeaning}
 use Rattle.sed_engine.specs.declared.engine.Engine.{Ghosts}
 use Rattle.sed_engine.specs.Code.{Meaning}
-use Rattle.live_outside.specs.declared.offer.Offer.{Offer}
-use Rattle.live_outside.specs.declared.polling.Polling.{Polling}
-use Rattle.live_outside.specs.declared.sleep.Sleep.{Sleep}
-use Rattle.live_outside.specs.Clock.{Moments, later_moments, next_moment}
-use Rattle.live_outside.specs.Rounds.{LiveCycle, heard_in, tick_moments, most_polls, polls_at, sleeps_in, unheard}
-use Rattle.live_outside.specs.Told.{AddsWhereTold, Told}
+use Rattle.sed_outside.specs.declared.offer.Offer.{Offer}
+use Rattle.sed_outside.specs.declared.polling.Polling.{Polling}
+use Rattle.sed_outside.specs.declared.sleep.Sleep.{Sleep}
+use Rattle.sed_outside.specs.Clock.{Moments, later_moments, next_moment}
+use Rattle.sed_outside.specs.Rounds.{LiveCycle, heard_in, tick_moments, most_polls, polls_at, sleeps_in, unheard}
+use Rattle.sed_outside.specs.Told.{AddsWhereTold, Told}
 use Rattle.replay_log.specs.Entry.{Entry}
 use Rattle.dasp_session.specs.Letters.{Letter}
 use Rattle.dasp_session.specs.Outbox.{AreTexts, Datagram}

@@ -1,7 +1,7 @@
 -- What is asked of the subscriptions.
 use Rattle.std.specs.Prelude.{◌<◌, ⊤}
-use Rattle.sox_commands.specs.declared.served.Served.{Served}
-use Rattle.sox_commands.specs.declared.served.Served.TheVariants.{Replied, SaveAsked, Subscribe, Unsubscribe, Deleted}
+use Rattle.sox_serve.specs.declared.served.Served.{Served}
+use Rattle.sox_serve.specs.declared.served.Served.TheVariants.{Replied, SaveAsked, Subscribe, Unsubscribe, Deleted}
 
 -- the id and the mask are such as can be subscribed
 abbrev pub IsSmall : Served → Type 0

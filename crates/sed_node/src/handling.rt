@@ -11,7 +11,7 @@ ghost use Rattle.sed_node.specs.Handling.{AreSaved, Handles, texts_of};
 ghost use Rattle.sed_node.specs.Standing.{SameSetup, StandsFor, code_of, is_fixed, setup_of};
 
 use crate::node::Node;
-use app_laws::texts_are_files_of_what_is_kept;
+use app_file::texts_are_files_of_what_is_kept;
 use dasp_session::Outbox;
 use disk_model::Disk;
 use node_events::{bytes_are_heard, saves_are_of_what_was_reached};

@@ -1,8 +1,8 @@
 //! What a run over a link and a clock hears.
 ghost use Rattle.std.specs.Prelude.{◌≡◌, ℕ, List, Some};
-ghost use Rattle.live_outside.specs.Clock.{Moments};
-ghost use Rattle.live_outside.specs.Rounds.{LiveCycle};
-ghost use Rattle.live_outside.specs.declared.polling.Polling.{Polling};
+ghost use Rattle.sed_outside.specs.Clock.{Moments};
+ghost use Rattle.sed_outside.specs.Rounds.{LiveCycle};
+ghost use Rattle.sed_outside.specs.declared.polling.Polling.{Polling};
 ghost use Rattle.replay_log.specs.Entry.{Entry};
 ghost use Rattle.node_events.specs.LiveEvents.{live_events};
 ghost use Rattle.sed_node.specs.Living.{AreRounds};

@@ -2,7 +2,7 @@
 ghost use Rattle.std.specs.Prelude.{◌≡◌, ◌≤◌, ◌<◌, ◌∷◌, [], length, map, slice_index_or, take, IsTrue};
 ghost use Rattle.disk_model.specs.Disk.{Elapses};
 ghost use Rattle.app_save.specs.Saving.{AllStores};
-ghost use Rattle.live_outside.specs.Told.{AddsWhereTold};
+ghost use Rattle.sed_outside.specs.Told.{AddsWhereTold};
 ghost use Rattle.replay_log.specs.Entry.{datagram, tick};
 ghost use Rattle.dasp_session.specs.Outbox.{Datagram as Sent};
 ghost use Rattle.node_events.specs.Node.{Node as State};
@@ -14,11 +14,10 @@ use crate::node::Node;
 use crate::running::RunEnd;
 use dasp_session::Outbox;
 use disk_model::Disk;
-use live_outside::{Clock, Link, Round, wake};
 use node_events::runs_follow_one_another;
 use replay_log::Event;
 use sed_engine::Engine;
-use sed_outside::Addr;
+use sed_outside::{Addr, Clock, Link, Round, wake};
 
 impl<E: Engine> Node<E> {
     /// Runs so many cycles over a link and a clock. Each takes at most 16 datagrams from the link, up to the first poll

@@ -3,12 +3,12 @@ ghost use Rattle.std.specs.Prelude.{◌≡◌, ◌+◌, ◌*◌, ◌<◌, ◌≤
 ghost use Rattle.std.specs.Prelude.{IsTrue, IfOk};
 ghost use Rattle.disk_model.specs.Disk.{Elapses};
 ghost use Rattle.app_save.specs.Saving.{AllStores};
-ghost use Rattle.app_laws.specs.Bytes.{GivesBytes};
+ghost use Rattle.app_file.specs.Bytes.{GivesBytes};
 ghost use Rattle.comp_tree.specs.Whole.{Whole};
 ghost use Rattle.link_prop.specs.Linked.{application_of};
 ghost use Rattle.dasp_session.specs.Session.{State as Sessioned};
 ghost use Rattle.dasp_session.specs.Standing.{StandsFor as SessionsStandFor, is_live, may_post, waiting};
-ghost use Rattle.sox_commands.specs.Answer.{command_of};
+ghost use Rattle.sox_serve.specs.Answer.{command_of};
 ghost use Rattle.sox_msg.specs.Command.{CanBeAsked, number_in};
 ghost use Rattle.sox_msg.specs.View.{asked_of};
 ghost use Rattle.node_events.specs.Events.{Telling, has_room_at, told_all};
@@ -21,13 +21,11 @@ ghost use Rattle.sed_node.specs.Standing.{AreTurns, Holds, IsKept, SameSetup, St
 use crate::replying::{post_reply, post_saved};
 use crate::saving::Saver;
 use crate::subscribing::subscribe_as;
-use app_cycle::{CycleEnd, begin, cycle};
-use app_laws::{a_cycle_keeps_whole, an_edit_keeps_whole, texts_are_files_of_what_is_kept};
+use app_file::{a_cycle_keeps_whole, an_edit_keeps_whole, texts_are_files_of_what_is_kept};
 use app_save::Store;
-use dasp_session::{Handed, Outbox, Sessions};
-use dasp_users::Users;
+use dasp_session::{Handed, Outbox, Sessions, Users};
 use disk_model::Disk;
-use link_prop::App;
+use link_prop::{App, CycleEnd, begin, cycle};
 use node_events::{
     events_are_of_the_application, few_messages_are_sent, only_open_sessions_have_subscribed,
     saves_are_measured,
@@ -35,13 +33,12 @@ use node_events::{
 use sed_engine::Engine;
 use sed_outside::Addr;
 use sed_value::Memory;
-use sox_commands::{Served, refused_commands_change_nothing};
 use sox_events::Subs;
 use sox_events::laws::{
     agreement_lasts, events_are_of_what_differs, events_keep_agreement, subscribing_keeps_agreement,
 };
 use sox_msg::{Reply, ReplyBody, Request, number_of, read_request};
-use sox_serve::{ReplyBuf, serve};
+use sox_serve::{ReplyBuf, Served, refused_commands_change_nothing, serve};
 use std::alloc::Global;
 
 /// An application, the sessions of its clients, what they have subscribed and the store in one. Contracts see what it

@@ -10,7 +10,7 @@ ghost use Rattle.app_file.specs.Text.{app_text};
 ghost use Rattle.sed_node.specs.OnDisk.{OnDisk};
 ghost use Rattle.sed_node.specs.Saving.{SavesText, begun};
 
-use app_laws::texts_are_files_of_what_is_kept;
+use app_file::texts_are_files_of_what_is_kept;
 use app_save::{SaveRefusal, Store, stores_open_to_one};
 use app_writer::write_app;
 use disk_model::Disk;

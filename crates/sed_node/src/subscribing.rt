@@ -9,9 +9,9 @@ ghost use Rattle.sed_node.specs.Subscribing.{IsSmall};
 use link_prop::App;
 use node_events::events_are_of_the_application;
 use sed_engine::Engine;
-use sox_commands::Served;
 use sox_events::Subs;
 use sox_events::laws::subscribing_keeps_agreement;
+use sox_serve::Served;
 
 /// Subscribes and unsubscribes what a command from a place asks, once it has left an application. Where the marks
 /// agreed with what was subscribed, they still do.

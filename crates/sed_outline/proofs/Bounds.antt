@@ -18,7 +18,7 @@ use Rattle.sed_classes.specs.Objects.{data_of, data_size, field_size, has_form, 
 use Rattle.sed_classes.specs.FieldRules.{object_not_fit, value_not_fit}
 use Rattle.sed_classes.specs.LimitRules.{own_sum, passes, too_many_statics, too_much_data}
 use Rattle.sed_classes.specs.Faults.{count_faults, declaration_faults, form_faults, value_faults}
-use Rattle.sed_objects.proofs.Rounds.{gone_none}
+use Rattle.sed_outline.proofs.Rounds.{gone_none}
 use Rattle.sed_outline.proofs.Climbs.{bases_most, parted, total}
 use Rattle.sed_outline.proofs.Orders.{others}
 use Rattle.sed_outline.proofs.Unbroken.{none_left, none_right, none_said, not_broken}

@@ -18,8 +18,8 @@ use Rattle.sed_classes.specs.Members.{members_of}
 use Rattle.sed_classes.specs.Objects.{data_size}
 use Rattle.sed_classes.specs.NameRules.{base_unfit, is_app, is_no_base}
 use Rattle.sed_classes.specs.Faults.{declaration_faults, faults_of}
-use Rattle.sed_objects.proofs.Measures.{own_behind}
-use Rattle.sed_objects.proofs.Rounds.{base_behind, gone_none, lineage_behind}
+use Rattle.sed_outline.proofs.Measures.{own_behind}
+use Rattle.sed_outline.proofs.Rounds.{base_behind, gone_none, lineage_behind}
 use Rattle.sed_outline.specs.Fits.{Fits, IsNamed, Unbroken, Written}
 use Rattle.sed_outline.proofs.Infos.{all_at}
 use Rattle.sed_outline.proofs.Orders.{others}

@@ -1,3 +1,7 @@
+pub mod Upwards
+pub mod Rounds
+pub mod Inside
+pub mod Measures
 pub mod Orders
 pub mod Infos
 pub mod Signed

@@ -5,7 +5,7 @@ use Rattle.sed_value.specs.Names.{is_identifier, is_word}
 use Rattle.sed_value.specs.declared.kit.KitRef.{KitRef}
 use Rattle.sed_typed.specs.declared.number.TypeNo.{TypeNo}
 use Rattle.sed_typed.specs.declared.schema.Schema.{Schema}
-use Rattle.sed_schema.specs.Checksum.{kit_checksum}
+use Rattle.sed_classes.specs.Checksum.{kit_checksum}
 use Rattle.sed_units.specs.declared.classes.Member.{Member}
 use Rattle.sed_classes.specs.declared.kit_units.KitUnits.{KitUnits}
 use Rattle.sed_classes.specs.Declarations.{Declaration, all_classes, declared_in}

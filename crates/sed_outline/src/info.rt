@@ -8,9 +8,8 @@ ghost use Rattle.sed_classes.specs.Schema as schemas;
 ghost use Rattle.sed_outline.specs.Fits.{Fits, Written, base_number};
 
 use crate::order::type_number;
+use crate::{Measured, slots};
 use sed_classes::{Based, Entry, is_abstract_class};
-use sed_objects::Measured;
-use sed_slots::slots;
 use sed_typed::{ClassInfo, TypeNo};
 use sed_value::{Items, Memory, Word, is_among};
 use std::alloc::Global;

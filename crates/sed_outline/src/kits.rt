@@ -1,12 +1,11 @@
 //! The kits of a schema.
 ghost use Rattle.std.specs.Prelude.{◌≡◌, ◌≤◌, ◌++◌, ◌∷◌, [], codes, length, map, IfOk, OnOk};
 ghost use Rattle.std.specs.List.{enumerate_from};
-ghost use Rattle.sed_schema.specs.Checksum.{kit_checksum};
+ghost use Rattle.sed_classes.specs.Checksum.{kit_checksum};
 ghost use Rattle.sed_classes.specs.Schema as schemas;
 ghost use Rattle.sed_outline.specs.Fits.{signed_as, signed_in};
 
-use sed_classes::KitUnits;
-use sed_schema::checksum;
+use sed_classes::{KitUnits, checksum};
 use sed_typed::Schema;
 use sed_value::{KitName, KitRef, Memory};
 use std::alloc::Global;

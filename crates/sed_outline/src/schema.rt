@@ -3,11 +3,11 @@ ghost use Rattle.std.specs.Prelude.{◌≡◌, IfOk};
 ghost use Rattle.sed_classes.specs.Schema as schemas;
 ghost use Rattle.sed_outline.specs.Fits.{Fits, Unbroken};
 
+use crate::Measured;
 use crate::info::class_infos;
 use crate::kits::{signed_kits, unsigned_kits};
 use crate::order::class_order;
 use sed_classes::{Based, Classes, KitUnits, sys_classes};
-use sed_objects::Measured;
 use sed_typed::Schema;
 use sed_value::{Items, Memory};
 use std::alloc::Global;

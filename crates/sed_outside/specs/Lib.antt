@@ -9,3 +9,11 @@ pub mod MemFiles
 pub mod MemSink
 pub mod OutSink
 pub mod Reading
+pub mod Steps
+pub mod Reads
+pub mod Told
+pub mod Link
+pub mod Clock
+pub mod Rounds
+pub mod MemLink
+pub mod MemClock

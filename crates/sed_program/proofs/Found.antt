@@ -8,8 +8,8 @@ use Rattle.sed_classes.specs.declared.kit_units.KitUnits.{KitUnits}
 use Rattle.sed_classes.specs.Bases.{is_below}
 use Rattle.sed_classes.specs.Declarations.{all_classes}
 use Rattle.sed_classes.specs.Members.{owned, has_name, kit_of, members_of, nearest, nearest_among, own_named}
-use Rattle.sed_objects.specs.Rounds.{row_of}
-use Rattle.sed_objects.proofs.Rounds.{lineage_behind, members_behind}
+use Rattle.sed_outline.specs.Rounds.{row_of}
+use Rattle.sed_outline.proofs.Rounds.{lineage_behind, members_behind}
 use Rattle.sed_program.specs.declared.declared_member.DeclaredMember.{DeclaredMember}
 use Rattle.sed_program.specs.Tables.{declared_by, declared_in, declared_of, item_at}
 use Rattle.sed_program.proofs.Rows.{row_get, row_past}

@@ -6,3 +6,17 @@ pub mod Lists
 pub mod Places
 pub mod Spellings
 pub mod FieldRows
+pub mod OrderLists
+pub mod Leads
+pub mod OrderSums
+pub mod Within
+pub mod Lineages
+pub mod Order
+pub mod Before
+pub mod Infos
+pub mod Typed
+pub mod Kits
+pub mod OrderTypes
+pub mod Upward
+pub mod OrderFields
+pub mod OrderedClasses

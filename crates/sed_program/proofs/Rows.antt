@@ -7,7 +7,7 @@ use Rattle.std.proofs.lemmas.List.FromFn.{map-range_with_len_more, get_or-range_
 use Rattle.std.proofs.lemmas.Option.{slice_get-get_or, slice_get-map, slice_get_within, same_Some as some_eq}
 use Rattle.sed_classes.specs.declared.kit_units.KitUnits.{KitUnits}
 use Rattle.sed_classes.specs.Declarations.{all_classes}
-use Rattle.sed_objects.specs.Rounds.{row_of}
+use Rattle.sed_outline.specs.Rounds.{row_of}
 
 -- a row of the first places, with one place more
 pub row_step : {X : Type 0} (f : ℕ → X) (n : ℕ) (xs new : List X) (x : X) →

@@ -12,9 +12,9 @@ use Rattle.sed_classes.specs.declared.kit_units.KitUnits.{KitUnits}
 use Rattle.sed_classes.specs.Bodies.{texts_of}
 use Rattle.sed_classes.specs.Declarations.{Declaration, all_classes}
 use Rattle.sed_classes.specs.Members.{members_of}
-use Rattle.sed_nodes.specs.Nodes.{spelled_faults}
-use Rattle.sed_nodes.specs.Texts.{with_literals}
-use Rattle.sed_nodes.proofs.Walks.{literals_together, then_both}
+use Rattle.sed_first_fault.specs.Nodes.{spelled_faults}
+use Rattle.sed_first_fault.specs.Texts.{with_literals}
+use Rattle.sed_first_fault.proofs.Walks.{literals_together, then_both}
 use Rattle.sed_program.specs.Texts.{literals_of}
 use Rattle.sed_program.proofs.Lists.{front_more}
 use Rattle.sed_value.proofs.Lists.{item_there as there_is}

@@ -8,8 +8,8 @@ use Rattle.sed_typed.specs.declared.number.TypeNo.{TypeNo}
 use Rattle.sed_classes.specs.declared.kit_units.KitUnits.{KitUnits}
 use Rattle.sed_classes.specs.Declarations.{all_classes}
 use Rattle.sed_classes.specs.Schema.{type_number}
-use Rattle.sed_objects.specs.Rounds.{item, row_of}
-use Rattle.sed_objects.proofs.Rounds.{item_is, members_behind}
+use Rattle.sed_outline.specs.Rounds.{item, row_of}
+use Rattle.sed_outline.proofs.Rounds.{item_is, members_behind}
 use Rattle.sed_program.specs.declared.parts.Part.{Part}
 use Rattle.sed_program.specs.Parts.{count_of, is_of}
 use Rattle.sed_program.specs.Types.{number_of, type_no}

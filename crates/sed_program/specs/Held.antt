@@ -3,7 +3,7 @@ use Rattle.std.specs.Prelude.{◌≡◌, ◌≤◌, ◌^◌, ℕ, List, length}
 use Rattle.sed_classes.specs.declared.kit_units.KitUnits.{KitUnits}
 use Rattle.sed_classes.specs.Bases.{lineage}
 use Rattle.sed_classes.specs.Schema.{class_order}
-use Rattle.sed_objects.specs.Rounds.{row_of}
+use Rattle.sed_outline.specs.Rounds.{row_of}
 use Rattle.sed_program.specs.declared.parts.Part.TheVariants as part
 use Rattle.sed_program.specs.Parts.{count_of}
 

@@ -7,3 +7,4 @@ pub mod Outlined
 pub mod Parts
 pub mod Held
 pub mod Tables
+pub mod Ordered

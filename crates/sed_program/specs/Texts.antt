@@ -8,7 +8,7 @@ use Rattle.sed_units.specs.declared.leaves.Literal.{Literal}
 use Rattle.sed_classes.specs.declared.kit_units.KitUnits.{KitUnits}
 use Rattle.sed_classes.specs.Bodies.{texts_of}
 use Rattle.sed_classes.specs.Declarations.{Declaration, all_classes}
-use Rattle.sed_nodes.specs.Texts.{text_spelled, with_literals}
+use Rattle.sed_first_fault.specs.Texts.{text_spelled, with_literals}
 
 -- the text literals in the bodies of a class
 abbrev pub literals_of : Declaration → List Literal

@@ -1,15 +1,15 @@
 //! Members as tables hold them.
 ghost use Rattle.std.specs.Prelude.{◌≡◌, IfOk};
 ghost use Rattle.sed_classes.specs.Members.{owned};
-ghost use Rattle.sed_defines.specs.Plains.{as_constant};
+ghost use Rattle.sed_rules.specs.Plains.{as_constant};
 ghost use Rattle.sed_program.specs.Meaning as meaning;
 ghost use Rattle.sed_program.specs.Methods as methods;
 ghost use Rattle.sed_program.specs.Tables as tables;
 
 use crate::ordered::Ordered;
 use sed_classes::{is_define, is_method, is_static, params_of, says_abstract};
-use sed_defines::{Plain, constant_of, read_value};
 use sed_names::{Constant, Member as Meaning, Signature};
+use sed_rules::{Plain, constant_of, read_value};
 use sed_units::{Init, Member, MemberForm};
 use sed_value::{Items, Memory};
 use std::alloc::Global;

@@ -6,7 +6,7 @@ ghost use Rattle.std.specs.Option.{IfNone};
 ghost use Rattle.sed_classes.specs.Declarations.{all_classes};
 ghost use Rattle.sed_classes.specs.Bases as ancestry;
 ghost use Rattle.sed_classes.specs.Schema.{class_order};
-ghost use Rattle.sed_objects.specs.Rounds.{item, row_of};
+ghost use Rattle.sed_outline.specs.Rounds.{item, row_of};
 ghost use Rattle.sed_program.specs.Parts as parts;
 ghost use Rattle.sed_program.specs.Types as types;
 

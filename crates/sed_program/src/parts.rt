@@ -1,7 +1,7 @@
 //! Members that have numbers of their own.
 ghost use Rattle.std.specs.Prelude.{◌≡◌, ◌+◌, ◌≤◌, filter, length, sum_by, IfOk};
 ghost use Rattle.sed_classes.specs.Members.{members_of};
-ghost use Rattle.sed_objects.specs.Rounds.{item};
+ghost use Rattle.sed_outline.specs.Rounds.{item};
 ghost use Rattle.sed_program.specs.Fields.{place_named};
 ghost use Rattle.sed_program.specs.Parts as parts;
 

@@ -4,14 +4,14 @@ ghost use Rattle.std.specs.List.{flat_map};
 ghost use Rattle.sed_faults.specs.Faults.{least, lesser};
 ghost use Rattle.sed_classes.specs.Bodies.{texts_of};
 ghost use Rattle.sed_classes.specs.Members.{members_of};
-ghost use Rattle.sed_nodes.specs.Nodes.{spelled_faults};
-ghost use Rattle.sed_nodes.specs.Texts.{with_literals};
-ghost use Rattle.sed_objects.specs.Rounds.{row_of};
+ghost use Rattle.sed_first_fault.specs.Nodes.{spelled_faults};
+ghost use Rattle.sed_first_fault.specs.Texts.{with_literals};
+ghost use Rattle.sed_outline.specs.Rounds.{row_of};
 ghost use Rattle.sed_program.specs.Texts as texts;
 
 use sed_classes::Based;
 use sed_faults::Fault;
-use sed_nodes::{Notes, note_body};
+use sed_first_fault::{Notes, note_body};
 use sed_typed::Bytes255;
 use sed_units::Member;
 use sed_value::Memory;

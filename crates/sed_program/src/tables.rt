@@ -2,14 +2,14 @@
 ghost use Rattle.std.specs.Prelude.{◌≡◌, ◌<◌, length, option_and_then, option_copied, option_map, position, IfOk};
 ghost use Rattle.std.specs.Prelude.{IfSome};
 ghost use Rattle.sed_classes.specs.Members as declared;
-ghost use Rattle.sed_objects.specs.Rounds.{row_of};
+ghost use Rattle.sed_outline.specs.Rounds.{row_of};
 ghost use Rattle.sed_program.specs.Tables as tables;
 ghost use Rattle.sed_program.specs.Texts as spelled;
 
 use crate::declared_member::DeclaredMember;
 use crate::ordered::Ordered;
 use sed_classes::{Based, has_name};
-use sed_nodes::text_spelled;
+use sed_first_fault::text_spelled;
 use sed_typed::Bytes255;
 use sed_units::Member;
 use sed_value::{Items, Memory};
@@ -30,7 +30,7 @@ impl<'a, 'b> Model for Tables<'a, 'b> {
     ghost use Rattle.std.specs.Coded.{coded_list};
     ghost use Rattle.sed_classes.specs.declared.kit_units.KitUnits.{KitUnits};
     ghost use Rattle.sed_classes.specs.contracts.kit_units.KitUnits as k;
-    ghost use Rattle.sed_objects.specs.Rounds.{row_of};
+    ghost use Rattle.sed_outline.specs.Rounds.{row_of};
     ghost use Rattle.sed_program.specs.Tables.{declared_in};
     ghost use Rattle.sed_program.specs.Texts.{program_texts};
 

@@ -1,17 +1,27 @@
-//! The rules on classes and members: at which places the units of a program break them.
+//! The rules on classes and members, and on initial values: at which places the units of a program break them.
 //!
 //! Each call answers with the least fault of what a definition of sed_classes lists, and of two that are put together
 //! with the lesser one. So no list of faults is ever kept. What checks a program goes over its classes with these
 //! calls, and judges the bodies of methods beside them.
+//!
+//! A define may name another one. What it comes to is found by going from define to define and back, so nothing goes
+//! deeper on the stack than a call, however long the row of defines is.
 #![tactic(auto)]
 
 mod class;
+mod constants;
+mod defines;
 mod fields;
 mod limits;
+mod literals;
 mod members;
 mod names;
+mod plain;
+mod values;
 
 pub use class::form_fault;
+pub use constants::read_value;
+pub use defines::constant_of;
 pub use fields::{member_not_fit, param_not_fit};
 pub use limits::{
     too_long_in_class, too_long_in_member, too_long_in_param, too_long_in_type, too_long_name,
@@ -22,3 +32,5 @@ pub use members::{
     overrides_nothing, slot_not_fit,
 };
 pub use names::{base_not_fit, base_without_class, class_name_not_free, type_without_class};
+pub use plain::Plain;
+pub use values::values_fault;

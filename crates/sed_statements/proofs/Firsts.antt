@@ -3,7 +3,7 @@ use Rattle.std.proofs.Common.{◌≡◌, true, refl}
 use Rattle.sed_units.specs.Tree.{Tree, Absent, Part}
 use Rattle.sed_units.specs.declared.label.Label.TheVariants as label
 use Rattle.sed_names.specs.Names.{Names}
-use Rattle.sed_scope.specs.Scope.{Scope, behind}
+use Rattle.sed_body_rules.specs.Scope.{Scope, behind}
 use Rattle.sed_statements.specs.Parts.{is_expression}
 
 pub expression_declares_nothing : (n : Names) (s : Scope) (t : Tree) → is_expression t ≡ true → behind n s t ≡ s

@@ -16,16 +16,16 @@ use Rattle.sed_terms.specs.Sorts.{term_kind}
 use Rattle.sed_terms.specs.Term.{Term, Absent, Node, with_item}
 use Rattle.sed_terms.specs.TypedTerm.{IsTerm}
 use Rattle.sed_terms.specs.TypedStmtTerm.{IsTermFirst, IsTermLast, IsTermTest, IsStmtTerm, AreStmtTerms}
-use Rattle.sed_conversions.specs.Conversions.{is_int, placed}
-use Rattle.sed_conversions.specs.Wants.{wants, truth}
-use Rattle.sed_scope.specs.declared.local.TypeMeaning.{TypeMeaning}
-use Rattle.sed_scope.specs.declared.local.TypeMeaning.TheVariants.{Is, NoClass, Outside}
-use Rattle.sed_scope.specs.LocalTypes.{type_meaning, kind_of_meaning, local_kind}
-use Rattle.sed_scope.specs.Scope.{Scope}
-use Rattle.sed_stores.specs.Stores.{going}
+use Rattle.sed_body_rules.specs.Conversions.{is_int, placed}
+use Rattle.sed_body_rules.specs.Wants.{wants, truth}
+use Rattle.sed_body_rules.specs.declared.local.TypeMeaning.{TypeMeaning}
+use Rattle.sed_body_rules.specs.declared.local.TypeMeaning.TheVariants.{Is, NoClass, Outside}
+use Rattle.sed_body_rules.specs.LocalTypes.{type_meaning, kind_of_meaning, local_kind}
+use Rattle.sed_body_rules.specs.Scope.{Scope}
+use Rattle.sed_body_rules.specs.Stores.{going}
 use Rattle.sed_bodies.specs.Inside.{Goes, HasKind, HasKinds, IsReady}
-use Rattle.sed_forms.specs.Declarations.{is_storable, has_number, is_free, has_free_name, new_number, declared, begun_bare, begun}
-use Rattle.sed_forms.specs.Returns.{returned_nothing, has_result, answering, returned}
+use Rattle.sed_statements.specs.Declarations.{is_storable, has_number, is_free, has_free_name, new_number, declared, begun_bare, begun}
+use Rattle.sed_statements.specs.Returns.{returned_nothing, has_result, answering, returned}
 use Rattle.sed_statements.specs.Inside.{IsLocalAt}
 use Rattle.sed_statements.proofs.Right.{one_right, after_right, joined_right, unless_right, some_right}
 

@@ -15,20 +15,20 @@ use Rattle.sed_terms.specs.declared.sort.Sort.{Sort}
 use Rattle.sed_terms.specs.Faults.{all_faults, least_fault, broken, told, paired}
 use Rattle.sed_terms.specs.Sorts.{sort_of}
 use Rattle.sed_terms.specs.Term.{Term, leaf}
-use Rattle.sed_conversions.specs.Conversions.{is_int, is_bool, placed}
-use Rattle.sed_conversions.specs.Wants.{wants, as_bool, truth}
-use Rattle.sed_stores.specs.Stores.{going}
-use Rattle.sed_scope.specs.declared.local.TypeMeaning.{TypeMeaning}
-use Rattle.sed_scope.specs.declared.local.TypeMeaning.TheVariants.{Is, NoClass, Outside}
-use Rattle.sed_scope.specs.LocalTypes.{type_meaning}
-use Rattle.sed_scope.specs.Scope.{Scope, with_local}
-use Rattle.sed_forms.specs.declared.leaving.Around.{Around}
-use Rattle.sed_forms.specs.Declarations.{is_storable, has_number, is_free, has_free_name, new_number, declared, begun_bare, begun, free_too, are_free_names}
-use Rattle.sed_forms.specs.Labels.{is_new_case, is_new_default, spelled_case, case_of, default_of, with_label, with_case, switched}
-use Rattle.sed_forms.specs.Leaving.{broken_off, continued}
-use Rattle.sed_forms.specs.Loops.{conditional, repeated, done_while, test_of, last_of, repeated_for}
-use Rattle.sed_forms.specs.Returns.{returned_nothing, has_result, answering, returned}
-use Rattle.sed_forms.specs.Rows.{evaluated, followed, blocked}
+use Rattle.sed_body_rules.specs.Conversions.{is_int, is_bool, placed}
+use Rattle.sed_body_rules.specs.Wants.{wants, as_bool, truth}
+use Rattle.sed_body_rules.specs.Stores.{going}
+use Rattle.sed_body_rules.specs.declared.local.TypeMeaning.{TypeMeaning}
+use Rattle.sed_body_rules.specs.declared.local.TypeMeaning.TheVariants.{Is, NoClass, Outside}
+use Rattle.sed_body_rules.specs.LocalTypes.{type_meaning}
+use Rattle.sed_body_rules.specs.Scope.{Scope, with_local}
+use Rattle.sed_statements.specs.declared.leaving.Around.{Around}
+use Rattle.sed_statements.specs.Declarations.{is_storable, has_number, is_free, has_free_name, new_number, declared, begun_bare, begun, free_too, are_free_names}
+use Rattle.sed_statements.specs.Labels.{is_new_case, is_new_default, spelled_case, case_of, default_of, with_label, with_case, switched}
+use Rattle.sed_statements.specs.Leaving.{broken_off, continued}
+use Rattle.sed_statements.specs.Loops.{conditional, repeated, done_while, test_of, last_of, repeated_for}
+use Rattle.sed_statements.specs.Returns.{returned_nothing, has_result, answering, returned}
+use Rattle.sed_statements.specs.Rows.{evaluated, followed, blocked}
 use Rattle.sed_statements.proofs.Told.{Both, after_told, paired_told, joined_told, unless_told, some_told}
 
 abbrev pub All : Type 0

@@ -12,7 +12,7 @@ use Rattle.sed_terms.specs.Faults.{all_faults, broken, Right}
 use Rattle.sed_terms.specs.Term.{Term, Absent, Node, appended}
 use Rattle.sed_terms.specs.TypedStmtTerm.{AreStmtTerms, AreCaseTerms, labels_of}
 use Rattle.sed_bodies.specs.Inside.{IsReady}
-use Rattle.sed_forms.specs.Labels.{is_new_case, is_new_default, new_case, spelled_case, case_of, default_of}
+use Rattle.sed_statements.specs.Labels.{is_new_case, is_new_default, new_case, spelled_case, case_of, default_of}
 use Rattle.sed_statements.proofs.FormsRight.{All}
 use Rattle.sed_statements.proofs.Right.{one_right, after_right, unless_right}
 use Rattle.std.proofs.lemmas.Bool.{not-true as not_any}

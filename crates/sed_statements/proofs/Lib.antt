@@ -1,6 +1,6 @@
 pub mod Kept
 pub mod Firsts
-pub mod Rows
+pub mod StatementRows
 pub mod Told
 pub mod FormsTold
 pub mod StatementsTold

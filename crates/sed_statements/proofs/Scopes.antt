@@ -8,12 +8,12 @@ use Rattle.sed_units.specs.declared.leaves.TypeRef.{TypeRef}
 use Rattle.sed_typed.specs.declared.kind.Kind.{Kind}
 use Rattle.sed_typed.specs.TypedExpr.{Context}
 use Rattle.sed_names.specs.Names.{Names}
-use Rattle.sed_scope.specs.declared.local.Entry.{Entry}
-use Rattle.sed_scope.specs.declared.local.Local.{Local}
-use Rattle.sed_scope.specs.LocalTypes.{local_kind}
-use Rattle.sed_scope.specs.Scope.{Scope, local_named, following, numbered_past, local_of, entry_of, with_local, past, behind, behind_all, behind_case, behind_cases}
+use Rattle.sed_body_rules.specs.declared.local.Entry.{Entry}
+use Rattle.sed_body_rules.specs.declared.local.Local.{Local}
+use Rattle.sed_body_rules.specs.LocalTypes.{local_kind}
+use Rattle.sed_body_rules.specs.Scope.{Scope, local_named, following, numbered_past, local_of, entry_of, with_local, past, behind, behind_all, behind_case, behind_cases}
 use Rattle.sed_bodies.specs.Inside.{IsIn}
-use Rattle.sed_members.specs.declared.context.Body.{Body}
+use Rattle.sed_bodies.specs.declared.context.Body.{Body}
 use Rattle.sed_statements.specs.declared.enclosing.Enclosing.{Enclosing}
 use Rattle.sed_statements.specs.Inside.{CountsOn, IsLocalAt, Stands}
 

@@ -19,20 +19,20 @@ use Rattle.sed_terms.specs.Faults.{all_faults, broken, paired, Right}
 use Rattle.sed_terms.specs.Forms.{discarded}
 use Rattle.sed_terms.specs.Term.{Term, Absent, Node, leaf, appended, optional}
 use Rattle.sed_terms.specs.TypedStmtTerm.{IsTermTest, IsTermLast, IsTermFirst, IsStmtTerm, AreStmtTerms, AreCaseTerms, labels_of}
-use Rattle.sed_conversions.specs.Conversions.{is_int}
-use Rattle.sed_conversions.specs.Wants.{wants, truth}
-use Rattle.sed_scope.specs.LocalTypes.{local_kind}
-use Rattle.sed_scope.specs.Scope.{Scope, numbered_past, with_local, past, behind, behind_all, behind_case, behind_cases}
+use Rattle.sed_body_rules.specs.Conversions.{is_int}
+use Rattle.sed_body_rules.specs.Wants.{wants, truth}
+use Rattle.sed_body_rules.specs.LocalTypes.{local_kind}
+use Rattle.sed_body_rules.specs.Scope.{Scope, numbered_past, with_local, past, behind, behind_all, behind_case, behind_cases}
 use Rattle.sed_bodies.specs.Expressions.{judge}
 use Rattle.sed_bodies.specs.Inside.{HasKind, IsReady}
 use Rattle.sed_bodies.specs.Places.{place_of}
-use Rattle.sed_forms.specs.declared.leaving.Around.{Around}
-use Rattle.sed_forms.specs.Declarations.{declared, begun_bare, begun}
-use Rattle.sed_forms.specs.Labels.{with_label}
-use Rattle.sed_forms.specs.Leaving.{in_loop, in_switch}
-use Rattle.sed_forms.specs.Loops.{test_of, last_of}
-use Rattle.sed_forms.specs.Returns.{returned, returned_nothing}
-use Rattle.sed_forms.specs.Rows.{evaluated, followed}
+use Rattle.sed_statements.specs.declared.leaving.Around.{Around}
+use Rattle.sed_statements.specs.Declarations.{declared, begun_bare, begun}
+use Rattle.sed_statements.specs.Labels.{with_label}
+use Rattle.sed_statements.specs.Leaving.{in_loop, in_switch}
+use Rattle.sed_statements.specs.Loops.{test_of, last_of}
+use Rattle.sed_statements.specs.Returns.{returned, returned_nothing}
+use Rattle.sed_statements.specs.Rows.{evaluated, followed}
 use Rattle.sed_statements.specs.declared.enclosing.Enclosing.{Enclosing}
 use Rattle.sed_statements.specs.Cases.{case_int}
 use Rattle.sed_statements.specs.Inside.{around_of, CountsOn, IsLocalAt, Provides, Stands, HasResult}

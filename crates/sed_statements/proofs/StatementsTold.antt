@@ -12,17 +12,17 @@ use Rattle.sed_terms.specs.declared.judged.Judged.{Judged}
 use Rattle.sed_terms.specs.declared.judged.Judged.TheVariants.{Sound}
 use Rattle.sed_terms.specs.Faults.{all_faults, least_fault, told}
 use Rattle.sed_terms.specs.Term.{Term, Absent}
-use Rattle.sed_members.specs.declared.context.Body.{Body}
-use Rattle.sed_scope.specs.Scope.{Scope, past, behind, behind_case, behind_params}
+use Rattle.sed_bodies.specs.declared.context.Body.{Body}
+use Rattle.sed_body_rules.specs.Scope.{Scope, past, behind, behind_case, behind_params}
 use Rattle.sed_bodies.specs.Expressions.{judge}
 use Rattle.sed_bodies.specs.Places.{place_of}
-use Rattle.sed_forms.specs.declared.leaving.Around.{Around}
-use Rattle.sed_forms.specs.Declarations.{declared, begun_bare, begun}
-use Rattle.sed_forms.specs.Labels.{case_of, with_label, with_case, switched}
-use Rattle.sed_forms.specs.Leaving.{in_loop, in_switch, outermost}
-use Rattle.sed_forms.specs.Loops.{conditional, repeated, done_while, test_of, last_of, repeated_for}
-use Rattle.sed_forms.specs.Returns.{returned_nothing, returned}
-use Rattle.sed_forms.specs.Rows.{evaluated, followed, blocked}
+use Rattle.sed_statements.specs.declared.leaving.Around.{Around}
+use Rattle.sed_statements.specs.Declarations.{declared, begun_bare, begun}
+use Rattle.sed_statements.specs.Labels.{case_of, with_label, with_case, switched}
+use Rattle.sed_statements.specs.Leaving.{in_loop, in_switch, outermost}
+use Rattle.sed_statements.specs.Loops.{conditional, repeated, done_while, test_of, last_of, repeated_for}
+use Rattle.sed_statements.specs.Returns.{returned_nothing, returned}
+use Rattle.sed_statements.specs.Rows.{evaluated, followed, blocked}
 use Rattle.sed_statements.specs.declared.enclosing.Enclosing.{Enclosing}
 use Rattle.sed_statements.specs.Cases.{case_int}
 use Rattle.sed_statements.specs.Methods.{beginning, judge_params, judge_body, judge_method}

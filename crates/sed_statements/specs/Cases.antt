@@ -12,12 +12,12 @@ use Rattle.sed_names.specs.declared.member.Member.{Member}
 use Rattle.sed_names.specs.declared.member.Member.TheVariants as member
 use Rattle.sed_names.specs.Names.{Names}
 use Rattle.sed_names.specs.Spelled.{integer_of, character_of}
-use Rattle.sed_scope.specs.declared.local.Local.{Local}
-use Rattle.sed_scope.specs.Scope.{Scope, local_named}
-use Rattle.sed_members.specs.declared.context.Before.{Before}
-use Rattle.sed_members.specs.declared.context.Before.TheVariants.{Class}
-use Rattle.sed_members.specs.declared.context.Body.{Body}
-use Rattle.sed_members.specs.Members.{before_link}
+use Rattle.sed_body_rules.specs.declared.local.Local.{Local}
+use Rattle.sed_body_rules.specs.Scope.{Scope, local_named}
+use Rattle.sed_bodies.specs.declared.context.Before.{Before}
+use Rattle.sed_bodies.specs.declared.context.Before.TheVariants.{Class}
+use Rattle.sed_bodies.specs.declared.context.Body.{Body}
+use Rattle.sed_bodies.specs.Members.{before_link}
 
 abbrev pub int_of_number : Option Number → Option ℤ
 int_of_number (Some (Int i)) = Some i

@@ -6,10 +6,10 @@ use Rattle.sed_typed.specs.declared.kind.Kind.{Kind}
 use Rattle.sed_typed.specs.TypedExpr.{Context, IsKindOf, IsNoReceiver}
 use Rattle.sed_typed.specs.TypedStmt.{Around as TypedAround}
 use Rattle.sed_names.specs.Names.{Names}
-use Rattle.sed_scope.specs.LocalTypes.{local_kind}
-use Rattle.sed_scope.specs.Scope.{Scope, numbered_past}
+use Rattle.sed_body_rules.specs.LocalTypes.{local_kind}
+use Rattle.sed_body_rules.specs.Scope.{Scope, numbered_past}
 use Rattle.sed_bodies.specs.Inside.{IsIn}
-use Rattle.sed_forms.specs.declared.leaving.Around.{Around}
+use Rattle.sed_statements.specs.declared.leaving.Around.{Around}
 use Rattle.sed_statements.specs.declared.enclosing.Enclosing.{Enclosing}
 
 abbrev pub around_of : Around → TypedAround

@@ -1,3 +1,9 @@
+pub mod Declarations
+pub mod Leaving
+pub mod Returns
+pub mod Labels
+pub mod Loops
+pub mod Rows
 pub mod Parts
 pub mod Cases
 pub mod Statements

@@ -7,10 +7,10 @@ use Rattle.sed_terms.specs.declared.judged.Judged.{Judged}
 use Rattle.sed_terms.specs.declared.judged.Judged.TheVariants.{Sound}
 use Rattle.sed_terms.specs.Faults.{Marks, joined}
 use Rattle.sed_terms.specs.Term.{Term, Absent}
-use Rattle.sed_scope.specs.Scope.{Scope, scope_of, behind_params}
-use Rattle.sed_forms.specs.Declarations.{are_free_names}
-use Rattle.sed_forms.specs.Leaving.{outermost}
-use Rattle.sed_forms.specs.Rows.{blocked}
+use Rattle.sed_body_rules.specs.Scope.{Scope, scope_of, behind_params}
+use Rattle.sed_statements.specs.Declarations.{are_free_names}
+use Rattle.sed_statements.specs.Leaving.{outermost}
+use Rattle.sed_statements.specs.Rows.{blocked}
 use Rattle.sed_statements.specs.declared.enclosing.Enclosing.{Enclosing}
 use Rattle.sed_statements.specs.Statements.{judge_stmts}
 

@@ -1,13 +1,13 @@
 //! The ints that cases spell.
 ghost use Rattle.std.specs.Prelude.{◌≡◌, IfOk};
 ghost use Rattle.sed_units.specs.Tree.{row};
-ghost use Rattle.sed_scope.specs.Scope.{local_named};
+ghost use Rattle.sed_body_rules.specs.Scope.{local_named};
 ghost use Rattle.sed_statements.specs.Cases as spelled;
 
+use sed_bodies::{Before, Body, before_link};
+use sed_body_rules::Locals;
 use sed_lexer::Number;
-use sed_members::{Before, Body, before_link};
 use sed_names::{Constant, Lookup, Member, character_of, integer_of};
-use sed_scope::Locals;
 use sed_units::{Expr, Link, Literal, LiteralKind, Node, Step};
 
 fn literal_int(l: &Literal) -> Option<i32>

@@ -1,6 +1,6 @@
 //! What the statements of a method stand in.
 
-use sed_members::Body;
+use sed_bodies::Body;
 use sed_typed::Kind;
 
 /// What the statements of a method stand in: its class, whether it is static, and its result.

@@ -4,15 +4,15 @@ ghost use Rattle.sed_units.specs.StatementTree.{first_tree};
 ghost use Rattle.sed_units.specs.Tree.{optional};
 ghost use Rattle.sed_terms.specs.Faults.{IfSound, least_fault};
 ghost use Rattle.sed_terms.specs.Sorts.{is_value};
-ghost use Rattle.sed_scope.specs.Scope as scopes;
+ghost use Rattle.sed_body_rules.specs.Scope as scopes;
 ghost use Rattle.sed_statements.specs.Statements as meaning;
 
 use crate::enclosing::Enclosing;
 use crate::simple::{empty, evaluation, is_there, local};
+use crate::{CheckedPart, CheckedStmt, last_of, test_of};
 use sed_bodies::{expression, place_of};
-use sed_forms::{CheckedPart, CheckedStmt, last_of, test_of};
+use sed_body_rules::Locals;
 use sed_names::Lookup;
-use sed_scope::Locals;
 use sed_terms::Judged;
 use sed_units::{Expr, ForFirst};
 use sed_value::Memory;

@@ -5,10 +5,10 @@ ghost use Rattle.sed_statements.specs.Methods as meaning;
 
 use crate::enclosing::Enclosing;
 use crate::statements::statements;
+use crate::{Around, CheckedStmt, blocked, enter_params};
+use sed_body_rules::Locals;
 use sed_faults::Fault;
-use sed_forms::{Around, CheckedStmt, blocked, enter_params};
 use sed_names::Lookup;
-use sed_scope::Locals;
 use sed_terms::{Judged, paired};
 use sed_units::{Param, Stmt};
 use sed_value::Memory;

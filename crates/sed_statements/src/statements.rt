@@ -5,29 +5,28 @@ ghost use Rattle.sed_units.specs.Tree.{optional, row};
 ghost use Rattle.sed_terms.specs.declared.sign.Sign.TheVariants as sign;
 ghost use Rattle.sed_terms.specs.Faults.{least_fault};
 ghost use Rattle.sed_terms.specs.Term as terms;
-ghost use Rattle.sed_scope.specs.Scope as scopes;
+ghost use Rattle.sed_body_rules.specs.Scope as scopes;
 ghost use Rattle.sed_bodies.specs.Expressions as expressions;
 ghost use Rattle.sed_bodies.specs.Places.{place_of as begins};
-ghost use Rattle.sed_forms.specs.Labels as labels_of;
-ghost use Rattle.sed_forms.specs.Leaving as leaving;
-ghost use Rattle.sed_forms.specs.Loops as forms;
-ghost use Rattle.sed_forms.specs.Rows as rows;
+ghost use Rattle.sed_statements.specs.Labels as labels_of;
+ghost use Rattle.sed_statements.specs.Leaving as leaving;
+ghost use Rattle.sed_statements.specs.Loops as forms;
+ghost use Rattle.sed_statements.specs.Rows as rows;
 ghost use Rattle.sed_statements.specs.Statements as meaning;
 
 use crate::cases::case_int;
 use crate::enclosing::Enclosing;
 use crate::heads::{first_part, last_part, test_part};
 use crate::simple::{answer, empty, evaluation, local};
-use sed_bodies::{expression, place_of};
-use sed_forms::{
+use crate::{
     Around, CheckedCases, CheckedLabel, CheckedRow, CheckedStmt, blocked, broken_off, case_of,
     conditional, continued, default_of, done_while, followed, repeated, repeated_for, switched,
     with_case, with_label,
 };
+use sed_bodies::{expression, place_of};
+use sed_body_rules::Locals;
 use sed_names::Lookup;
-use sed_scope::Locals;
-use sed_stmt_terms::{FoundCases, FoundStmts};
-use sed_terms::Judged;
+use sed_terms::{FoundCases, FoundStmts, Judged};
 use sed_typed::Label;
 use sed_units::{Case, Expr, ForHead, Form, Stmt};
 use sed_value::Memory;

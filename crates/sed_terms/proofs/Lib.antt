@@ -12,3 +12,5 @@ pub mod StmtBack
 pub mod OneTree
 pub mod FlatRows
 pub mod BareTerms
+pub mod StmtRows
+pub mod FlatStmtRows

@@ -10,3 +10,4 @@ pub mod OpenTerm
 pub mod FlatOpen
 pub mod Faults
 pub mod Forms
+pub mod Cases

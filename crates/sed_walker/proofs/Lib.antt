@@ -1,3 +1,5 @@
+pub mod Behind
+pub mod Kept
 pub mod Live
 pub mod Keeping
 pub mod Changes

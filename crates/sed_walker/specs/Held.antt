@@ -11,7 +11,7 @@ use Rattle.sed_engine.specs.Program.{meaning_of}
 use Rattle.sed_engine.specs.Whole.{IsObject, IsWhole}
 use Rattle.sed_cells.specs.Places.{Plan, classes_in, contents_of}
 use Rattle.slab.specs.Slab.{Slab, entries}
-use Rattle.walk_slots.specs.Slots.{object_of}
+use Rattle.sed_walker.specs.Slots.{object_of}
 use Rattle.sed_walker.specs.declared.component.Component.{Component}
 
 -- the object that a component is

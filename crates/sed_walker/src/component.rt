@@ -8,12 +8,12 @@ ghost use Rattle.sed_engine.specs.Program.{meaning_of};
 ghost use Rattle.sed_engine.specs.Whole.{HasTables, IsObject};
 ghost use Rattle.sed_walker.specs.Held.{live_of, object_seen};
 
+use crate::SlotPlan;
 use sed_cells::Cells;
 use sed_engine::Place;
 use sed_typed::{Schema, SlotNo, TypeNo};
 use sed_value::{Memory, Value};
 use slab::Slab;
-use walk_slots::SlotPlan;
 
 /// A component: its class, and the cells that keep its contents.
 #[derive(Drop)]

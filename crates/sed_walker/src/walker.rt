@@ -5,6 +5,7 @@ ghost use Rattle.sed_typed.specs.Initial.{initial_statics};
 ghost use Rattle.sed_typed.specs.Typed.{Typed};
 ghost use Rattle.sed_engine.specs.Program.{meaning_of};
 
+use crate::SlotPlan;
 use crate::calls::call;
 use crate::component::{Component, put_new, size_of, store};
 use sed_cells::Cells;
@@ -17,7 +18,6 @@ use sed_value::{Memory, SlotBuf};
 use slab::Slab;
 use std::alloc::Global;
 use std::marker::Model;
-use walk_slots::SlotPlan;
 
 /// The engine of a typed program. Contracts see the program, the live places with their objects, the
 /// contents of the statics, and the limit.

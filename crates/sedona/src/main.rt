@@ -3,8 +3,7 @@
 #![tactic(auto)]
 
 use disk_model::FileDisk;
-use live_outside::{RealClock, UdpLink};
-use sed_outside::{OutSink, RealFiles, Sink};
+use sed_outside::{OutSink, RealClock, RealFiles, Sink, UdpLink};
 use sedona_cli::sedona;
 use std::env::{self, Env};
 use std::io;

@@ -8,10 +8,10 @@ use Rattle.sed_engine.specs.Program.{meaning_of}
 use Rattle.sed_engine.specs.Whole.{HasTables}
 use Rattle.comp_tree.specs.Application.{Application}
 use Rattle.app_file.specs.Reading.{CanBeTold, IsReadAs, Reading}
-use Rattle.file_steps.specs.Steps.{Read, AndThen, Decides, stops, goes_on, Agree}
-use Rattle.file_steps.proofs.One.{agree_back, agree_front}
-use Rattle.sed_kits.specs.Loading.{Told}
-use Rattle.sed_kits.specs.Refusals.{AreAlike}
+use Rattle.sed_outside.specs.Steps.{Read, AndThen, Decides, stops, goes_on, Agree}
+use Rattle.sed_outside.proofs.One.{agree_back, agree_front}
+use Rattle.sed_check.specs.Loading.{Told}
+use Rattle.sed_check.specs.Refusals.{AreAlike}
 use Rattle.sedona_cli.specs.declared.refusal.Refusal.{Refusal}
 use Rattle.sedona_cli.specs.Agree.{AgreeOn, OpensAs, Pointwise}
 use Rattle.sedona_cli.specs.Outside.{Ask, Attaches, Opens, Opened, Found, NotAStore, Unread, read_of, reads_in, of_reads}

@@ -19,7 +19,7 @@ use Rattle.comp_tree.specs.Whole.{IsApp, IsLink, IsOther, Whole}
 use Rattle.app_file.specs.Formed.{IsFormed}
 use Rattle.app_file.specs.Reading.{HasNoBody, IsFile, IsReadAs, Reading, StandsFor, no_file, wrong_kits, over_limit, file}
 use Rattle.app_file.specs.Text.{IsTextOf}
-use Rattle.sed_kits.specs.Refusals.{AreAlike}
+use Rattle.sed_check.specs.Refusals.{AreAlike}
 
 -- ---- codes that differ in their root calls alone
 

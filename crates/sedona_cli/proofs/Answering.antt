@@ -6,10 +6,10 @@ use Rattle.std.specs.List.{flat_map}
 use Rattle.std.proofs.lemmas.List.Elements.{Contains-append_left, Contains-append_right}
 use Rattle.sed_outside.specs.Cause.{Rose}
 use Rattle.sed_outside.specs.Files.{Contents, IsUnreadable, largest_file}
-use Rattle.file_steps.specs.Steps.{Read, Agree}
-use Rattle.file_steps.proofs.Joining.{both_empty}
+use Rattle.sed_outside.specs.Steps.{Read, Agree}
+use Rattle.sed_outside.proofs.Joining.{both_empty}
 use Rattle.sedona_cli.specs.Writing.{unwritten_in}
-use Rattle.file_steps.specs.Reads.{AreGiven, AreKnown, AreTold, IsGiven, failed_name, failed_names}
+use Rattle.sed_outside.specs.Reads.{AreGiven, AreKnown, AreTold, IsGiven, failed_name, failed_names}
 use Rattle.sedona_cli.specs.declared.refusal.Refusal.{Refusal}
 use Rattle.sedona_cli.specs.declared.refusal.Refusal.TheVariants.{FileFault, MethodTooLong, Refused, Rule, SlotTooSmall, DeviceFault, StoreExists, NoStore, NoApplication, WrongKits, OverLimit, BadUsers, ShortSecret, BadRecord, LinkFault, Memory}
 use Rattle.sedona_cli.specs.Agree.{AgreeOn, failed_by, failed_calls}

@@ -7,9 +7,9 @@ use Rattle.std.specs.List.{list_all}
 use Rattle.sed_outside.specs.Cause.{HasCause}
 use Rattle.sed_outside.specs.declared.files.Files.{Ghosts as FileGhosts}
 use Rattle.disk_model.specs.declared.disk.Disk.{Ghosts as DiskGhosts}
-use Rattle.file_steps.specs.Steps.{Read}
-use Rattle.file_steps.specs.Reads.{HasReads}
-use Rattle.file_steps.proofs.Joining.{same_reads}
+use Rattle.sed_outside.specs.Steps.{Read}
+use Rattle.sed_outside.specs.Reads.{HasReads}
+use Rattle.sed_outside.proofs.Joining.{same_reads}
 use Rattle.sedona_cli.specs.Writing.{unwritten_in}
 use Rattle.sedona_cli.specs.Outside.{Ask, read_of, reads_in, of_reads, is_of_files, spares, Spares, AreAsked, AsksDisk, HasAsks, AttachesIfAny}
 

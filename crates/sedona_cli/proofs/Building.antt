@@ -6,16 +6,16 @@ use Rattle.sed_outside.specs.declared.files.Files.{Ghosts as FileGhosts}
 use Rattle.disk_model.specs.Disk.{Meaning, MarksUp}
 use Rattle.disk_model.specs.declared.disk.Disk.{Ghosts as DiskGhosts}
 use Rattle.app_save.specs.Saving.{AllOpen}
-use Rattle.file_steps.specs.Steps.{Read, AndThen, stops, goes_on, UnlessFree}
-use Rattle.file_steps.specs.Reads.{HasReads}
-use Rattle.file_steps.proofs.Joining.{no_reads, same_reads}
+use Rattle.sed_outside.specs.Steps.{Read, AndThen, stops, goes_on, UnlessFree}
+use Rattle.sed_outside.specs.Reads.{HasReads}
+use Rattle.sed_outside.proofs.Joining.{no_reads, same_reads}
 use Rattle.sed_engine.specs.Program.{meaning_of}
 use Rattle.sed_typed.specs.declared.program.Program.{Program}
-use Rattle.sed_kits.specs.declared.refusal.KitsRefusal.{KitsRefusal}
-use Rattle.sed_kits.specs.declared.refusal.KitsRefusal.TheVariants as kits
-use Rattle.sed_kits.specs.Loading.{KitsLoaded}
-use Rattle.sed_kits.specs.Refusals.{is_want as kits_want}
-use Rattle.new_store.specs.Alone.{AllNew}
+use Rattle.sed_check.specs.declared.refusal.KitsRefusal.{KitsRefusal}
+use Rattle.sed_check.specs.declared.refusal.KitsRefusal.TheVariants as kits
+use Rattle.sed_check.specs.Loading.{KitsLoaded}
+use Rattle.sed_check.specs.Refusals.{is_want as kits_want}
+use Rattle.app_writer.specs.Alone.{AllNew}
 use Rattle.sedona_cli.specs.declared.refusal.Refusal.{Refusal}
 use Rattle.sedona_cli.specs.declared.refusal.Refusal.TheVariants.{SlotTooSmall}
 use Rattle.sedona_words.specs.Command.{New}

@@ -6,10 +6,10 @@ use Rattle.sed_typed.specs.declared.program.Program.{Program}
 use Rattle.sed_engine.specs.Program.{meaning_of}
 use Rattle.comp_tree.specs.Application.{Application}
 use Rattle.printed_app.specs.Application.{application_text}
-use Rattle.file_steps.specs.Steps.{Read, AndThen, stops, goes_on, Agree}
-use Rattle.file_steps.specs.Reads.{failed_names}
-use Rattle.sed_kits.specs.Loading.{KitsLoaded, TextLoaded}
-use Rattle.sed_kits.specs.Refusals.{AreAlike}
+use Rattle.sed_outside.specs.Steps.{Read, AndThen, stops, goes_on, Agree}
+use Rattle.sed_outside.specs.Reads.{failed_names}
+use Rattle.sed_check.specs.Loading.{KitsLoaded, TextLoaded}
+use Rattle.sed_check.specs.Refusals.{AreAlike}
 use Rattle.sedona_cli.specs.declared.refusal.Refusal.{Refusal}
 use Rattle.sedona_cli.specs.declared.refusal.Refusal.TheVariants.{SlotTooSmall}
 use Rattle.sedona_cli.specs.Agree.{AgreeOn, Pointwise, failed_by, failed_calls}

@@ -5,9 +5,9 @@ use Rattle.sed_outside.specs.Files.{WritesFile}
 use Rattle.sed_outside.specs.declared.files.Files.{Ghosts as FileGhosts}
 use Rattle.sed_typed.specs.declared.program.Program.{Program}
 use Rattle.scode_compile.specs.Compiled.{IsImageOf}
-use Rattle.file_steps.specs.Steps.{UnlessFree}
-use Rattle.file_steps.specs.Reads.{HasReads}
-use Rattle.file_steps.proofs.Joining.{same_reads}
+use Rattle.sed_outside.specs.Steps.{UnlessFree}
+use Rattle.sed_outside.specs.Reads.{HasReads}
+use Rattle.sed_outside.proofs.Joining.{same_reads}
 use Rattle.sedona_cli.specs.declared.refusal.Refusal.{Refusal}
 use Rattle.sedona_cli.specs.declared.refusal.Refusal.TheVariants.{Memory}
 use Rattle.sedona_words.specs.Command.{Compile}

@@ -4,11 +4,11 @@ use Rattle.std.specs.Prelude.{IfOk, IsSome, MatchBool, OnOk}
 use Rattle.sed_outside.specs.Files.{WritesFile}
 use Rattle.sed_outside.specs.declared.files.Files.{Ghosts as FileGhosts}
 use Rattle.sed_typed.specs.declared.program.Program.{Program}
-use Rattle.dasp_users.specs.declared.user.User.{User}
-use Rattle.dasp_users.specs.UsersFile.{AreUsers, credential_of}
-use Rattle.file_steps.specs.Steps.{Read, AndThen, Decides, stops, goes_on, UnlessFree}
-use Rattle.file_steps.specs.Reads.{HasReads}
-use Rattle.file_steps.proofs.Joining.{no_reads, same_reads}
+use Rattle.dasp_session.specs.declared.user.User.{User}
+use Rattle.dasp_session.specs.UsersFile.{AreUsers, credential_of}
+use Rattle.sed_outside.specs.Steps.{Read, AndThen, Decides, stops, goes_on, UnlessFree}
+use Rattle.sed_outside.specs.Reads.{HasReads}
+use Rattle.sed_outside.proofs.Joining.{no_reads, same_reads}
 use Rattle.input_files.specs.Inputs.{UsersRead}
 use Rattle.input_files.specs.declared.refusal.InputRefusal.{InputRefusal}
 use Rattle.sedona_cli.specs.declared.generating.RecordInputs.{RecordInputs}

@@ -6,12 +6,12 @@ use Rattle.std.proofs.lemmas.List.{append-nil}
 use Rattle.sed_typed.specs.declared.program.Program.{Program}
 use Rattle.scode_gen.specs.Generated.{IsFirstTooLong, IsShort}
 use Rattle.scode_compile.specs.Alike.{HaveSameMethods}
-use Rattle.file_steps.specs.Steps.{Read, Agree, stops, goes_on}
-use Rattle.file_steps.specs.Reads.{failed_names}
-use Rattle.sed_kits.specs.declared.refusal.KitsRefusal.{KitsRefusal}
-use Rattle.sed_kits.specs.declared.refusal.KitsRefusal.TheVariants as kits
-use Rattle.sed_kits.specs.Loading.{Told}
-use Rattle.sed_kits.specs.Refusals.{AreAlike, failed_in, refusal_of, failed_of as kits_failed}
+use Rattle.sed_outside.specs.Steps.{Read, Agree, stops, goes_on}
+use Rattle.sed_outside.specs.Reads.{failed_names}
+use Rattle.sed_check.specs.declared.refusal.KitsRefusal.{KitsRefusal}
+use Rattle.sed_check.specs.declared.refusal.KitsRefusal.TheVariants as kits
+use Rattle.sed_check.specs.Loading.{Told}
+use Rattle.sed_check.specs.Refusals.{AreAlike, failed_in, refusal_of, failed_of as kits_failed}
 use Rattle.sedona_cli.specs.declared.refusal.Refusal.{Refusal}
 use Rattle.sedona_cli.specs.declared.refusal.Refusal.TheVariants.{MethodTooLong}
 use Rattle.sedona_cli.specs.Refusals.{failed_of, is_of_store, of_kits}

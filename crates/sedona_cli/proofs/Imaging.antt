@@ -2,9 +2,9 @@
 use Rattle.std.proofs.Common.{◌≡◌, ℕ, true, false, List, ◌++◌, None, Result, Err}
 use Rattle.std.specs.List.{list_all}
 use Rattle.scode_compile.specs.Compiled.{IsImageOf}
-use Rattle.file_steps.specs.Reads.{failed_names}
-use Rattle.sed_kits.specs.Loading.{KitsLoaded}
-use Rattle.sed_kits.specs.Refusals.{AreAlike}
+use Rattle.sed_outside.specs.Reads.{failed_names}
+use Rattle.sed_check.specs.Loading.{KitsLoaded}
+use Rattle.sed_check.specs.Refusals.{AreAlike}
 use Rattle.sedona_cli.specs.declared.refusal.Refusal.{Refusal}
 use Rattle.sedona_cli.specs.Agree.{failed_by}
 use Rattle.sedona_cli.specs.Compile.{CompileComes}

@@ -3,10 +3,10 @@ use Rattle.std.proofs.Common.{◌≡◌, ◌⊎◌, ℕ, true, false, List, [], 
 use Rattle.sed_typed.specs.declared.program.Program.{Program}
 use Rattle.disk_model.specs.Disk.{Attaches as IsAttach}
 use Rattle.disk_model.specs.declared.disk.Disk.{Ghosts as DiskGhosts}
-use Rattle.dasp_users.specs.declared.user.User.{User}
-use Rattle.file_steps.specs.Steps.{Read, stops, goes_on}
+use Rattle.dasp_session.specs.declared.user.User.{User}
+use Rattle.sed_outside.specs.Steps.{Read, stops, goes_on}
 use Rattle.input_files.specs.Inputs.{SecretRead, UsersRead}
-use Rattle.sed_kits.specs.Loading.{KitsLoaded}
+use Rattle.sed_check.specs.Loading.{KitsLoaded}
 use Rattle.sedona_cli.specs.declared.refusal.Refusal.{Refusal}
 use Rattle.sedona_cli.specs.declared.refusal.Refusal.TheVariants.{LinkFault}
 use Rattle.sedona_words.specs.Command.{NodeAsked, RunAsked}

@@ -2,11 +2,11 @@
 use Rattle.std.proofs.Common.{◌≡◌, ℕ, Bool, true, false, List, [], ◌∷◌, ◌++◌, Result, Ok, Err, refl, sym, ap, subst, ◌∙◌}
 use Rattle.sed_typed.specs.declared.program.Program.{Program}
 use Rattle.comp_tree.specs.Application.{Application}
-use Rattle.dasp_users.specs.declared.user.User.{User}
-use Rattle.file_steps.specs.Steps.{Decides}
-use Rattle.file_steps.specs.Reads.{failed_names}
+use Rattle.dasp_session.specs.declared.user.User.{User}
+use Rattle.sed_outside.specs.Steps.{Decides}
+use Rattle.sed_outside.specs.Reads.{failed_names}
 use Rattle.input_files.specs.Inputs.{SecretRead, UsersRead}
-use Rattle.sed_kits.specs.Refusals.{AreAlike}
+use Rattle.sed_check.specs.Refusals.{AreAlike}
 use Rattle.sedona_cli.specs.declared.inputs.NodeInputs.{NodeInputs}
 use Rattle.sedona_cli.specs.declared.refusal.Refusal.{Refusal}
 use Rattle.sedona_cli.specs.Agree.{Pointwise}

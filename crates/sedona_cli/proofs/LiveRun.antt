@@ -3,11 +3,11 @@ use Rattle.std.proofs.Common.{◌≡◌, ◌≢◌, ℕ, List, [], ◌∷◌, �
 use Rattle.std.specs.Prelude.{IsTrue}
 use Rattle.sed_outside.specs.Cause.{Rose}
 use Rattle.sed_outside.specs.declared.files.Files.{Ghosts as FileGhosts}
-use Rattle.live_outside.specs.declared.clock.Clock.{Ghosts as ClockGhosts}
-use Rattle.live_outside.specs.declared.link.Link.{Ghosts as LinkGhosts}
+use Rattle.sed_outside.specs.declared.clock.Clock.{Ghosts as ClockGhosts}
+use Rattle.sed_outside.specs.declared.link.Link.{Ghosts as LinkGhosts}
 use Rattle.disk_model.specs.declared.disk.Disk.{Ghosts as DiskGhosts}
-use Rattle.file_steps.specs.Steps.{Read, stops, goes_on}
-use Rattle.file_steps.proofs.Joining.{same_reads}
+use Rattle.sed_outside.specs.Steps.{Read, stops, goes_on}
+use Rattle.sed_outside.proofs.Joining.{same_reads}
 use Rattle.sedona_cli.specs.declared.inputs.NodeInputs.{NodeInputs}
 use Rattle.sedona_words.specs.Command.{Command, Cycles, Check, Compile, Gen, New, Replay, Run, RunAsked, Show, port_of}
 use Rattle.sedona_cli.specs.Outside.{Ask, of_reads, reads_in, AreAsked, HasAsks}

@@ -5,29 +5,29 @@ use Rattle.std.specs.Option.{option_map}
 use Rattle.sed_outside.specs.declared.files.Files.{Ghosts as FileGhosts}
 use Rattle.sed_outside.specs.declared.sink.Sink.{Ghosts as Sinks}
 use Rattle.sed_outside.specs.declared.sink.SinkFault.{SinkFault}
-use Rattle.live_outside.specs.Clock.{Moments, later_moments, next_moment}
+use Rattle.sed_outside.specs.Clock.{Moments, later_moments, next_moment}
 use Rattle.sed_outside.specs.Counts.{one_more}
-use Rattle.live_outside.specs.Link.{Bound, Binds as IsBind}
-use Rattle.live_outside.specs.Rounds.{polls_at}
-use Rattle.live_outside.specs.Told.{AddsWhereTold, Told}
-use Rattle.live_outside.specs.declared.clock.Clock.{Ghosts as ClockGhosts}
-use Rattle.live_outside.specs.declared.link.Link.{Ghosts as LinkGhosts}
-use Rattle.live_outside.specs.declared.offer.Offer.{Offer}
-use Rattle.live_outside.specs.declared.polling.Polling.{Polling}
-use Rattle.live_outside.specs.declared.sleep.Sleep.{Sleep}
+use Rattle.sed_outside.specs.Link.{Bound, Binds as IsBind}
+use Rattle.sed_outside.specs.Rounds.{polls_at}
+use Rattle.sed_outside.specs.Told.{AddsWhereTold, Told}
+use Rattle.sed_outside.specs.declared.clock.Clock.{Ghosts as ClockGhosts}
+use Rattle.sed_outside.specs.declared.link.Link.{Ghosts as LinkGhosts}
+use Rattle.sed_outside.specs.declared.offer.Offer.{Offer}
+use Rattle.sed_outside.specs.declared.polling.Polling.{Polling}
+use Rattle.sed_outside.specs.declared.sleep.Sleep.{Sleep}
 use Rattle.disk_model.specs.Disk.{Elapses}
 use Rattle.disk_model.specs.declared.disk.Disk.{Ghosts as DiskGhosts}
 use Rattle.app_file.specs.Reading.{IsFile}
 use Rattle.app_save.specs.Saving.{AllStores}
 use Rattle.comp_tree.specs.Application.{Application}
-use Rattle.dasp_users.specs.declared.user.User.{User}
-use Rattle.file_steps.specs.Steps.{Read, AndThen, Decides, stops, goes_on, UnlessFree}
-use Rattle.file_steps.specs.Reads.{HasReads}
-use Rattle.file_steps.proofs.Joining.{same_reads}
+use Rattle.dasp_session.specs.declared.user.User.{User}
+use Rattle.sed_outside.specs.Steps.{Read, AndThen, Decides, stops, goes_on, UnlessFree}
+use Rattle.sed_outside.specs.Reads.{HasReads}
+use Rattle.sed_outside.proofs.Joining.{same_reads}
 use Rattle.node_events.specs.Node.{Node, opened}
-use Rattle.node_replay.specs.Living.{LivedThrough}
-use Rattle.node_replay.specs.Replaying.{end_text}
-use Rattle.printed_text.specs.Puts.{Puts as PutsText}
+use Rattle.sed_node.specs.LiveText.{LivedThrough}
+use Rattle.sed_node.specs.Replaying.{end_text}
+use Rattle.printed_app.specs.Puts.{Puts as PutsText}
 use Rattle.sed_engine.specs.declared.engine.Engine.{Ghosts}
 use Rattle.sed_engine.specs.Code.{Meaning as Code}
 use Rattle.sed_engine.specs.Program.{meaning_of}

@@ -1,14 +1,14 @@
 -- What the laws of loadings and of input files say of the steps of a command.
 use Rattle.std.proofs.Common.{◌≡◌, ℕ, false, List, [], Result, Ok, Err, refl, ap, sym}
 use Rattle.sed_typed.specs.declared.program.Program.{Program}
-use Rattle.dasp_users.specs.declared.user.User.{User}
-use Rattle.file_steps.specs.Steps.{Read, Agree}
-use Rattle.file_steps.specs.Reads.{failed_names}
+use Rattle.dasp_session.specs.declared.user.User.{User}
+use Rattle.sed_outside.specs.Steps.{Read, Agree}
+use Rattle.sed_outside.specs.Reads.{failed_names}
 use Rattle.input_files.specs.Inputs.{RecordRead, SecretRead, UsersRead}
 use Rattle.input_files.specs.Refusals.{failed_in as inputs_failed_in, failed_of as inputs_failed}
 use Rattle.input_files.specs.declared.refusal.InputRefusal.{InputRefusal}
 use Rattle.input_files.specs.declared.refusal.InputRefusal.TheVariants as inputs
-use Rattle.sed_kits.specs.Refusals.{AreAlike}
+use Rattle.sed_check.specs.Refusals.{AreAlike}
 use Rattle.sedona_cli.specs.declared.refusal.Refusal.{Refusal}
 use Rattle.sedona_cli.specs.Agree.{AgreeOn, failed_by}
 use Rattle.sedona_cli.specs.Outside.{Ask, reads_in}

@@ -5,8 +5,8 @@ use Rattle.sed_outside.specs.Cause.{Rose}
 use Rattle.sed_outside.specs.Files.{Contents, KeepsCounts, KeepsOthers}
 use Rattle.sed_outside.specs.declared.files.Files.{Ghosts as FileGhosts}
 use Rattle.disk_model.specs.declared.disk.Disk.{Ghosts as DiskGhosts}
-use Rattle.file_steps.specs.Steps.{Read}
-use Rattle.file_steps.specs.Reads.{AreGiven, CountsMoved, HasReads, failed_names}
+use Rattle.sed_outside.specs.Steps.{Read}
+use Rattle.sed_outside.specs.Reads.{AreGiven, CountsMoved, HasReads, failed_names}
 use Rattle.sedona_cli.specs.Outside.{Ask, Writes, Wrote, Written, Unwritten, Withheld, AreAsked, of_reads, reads_in}
 use Rattle.sedona_cli.specs.Writing.{AsksOf, DidNotFailToWrite, HasWrite, IsWritten, KeepsFiles, KeepsWrites, once, nothing, unwritten_by, unwritten_in, written_in}
 use Rattle.sedona_cli.proofs.Agreeing.{WritesKnown}

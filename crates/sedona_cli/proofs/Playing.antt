@@ -11,7 +11,7 @@ use Rattle.comp_tree.specs.Application.{Application}
 use Rattle.dasp_session.specs.Outbox.{Datagram}
 use Rattle.node_events.specs.Node.{Node, opened}
 use Rattle.node_events.specs.Running.{Event, run}
-use Rattle.node_replay.specs.Replaying.{Replayed as NodeReplayed, Stopped, in_the_run, behind_it, end_text, replay_text}
+use Rattle.sed_node.specs.Replaying.{Replayed as NodeReplayed, Stopped, in_the_run, behind_it, end_text, replay_text}
 use Rattle.replay_log.specs.Entry.{Entry}
 use Rattle.replay_log.specs.Record.{IsRecord}
 use Rattle.sed_engine.specs.declared.engine.Engine.{Ghosts}

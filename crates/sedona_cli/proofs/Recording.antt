@@ -3,13 +3,13 @@ use Rattle.std.proofs.Common.{◌≡◌, ℕ, true, false, List, [], ◌++◌, O
 use Rattle.std.specs.Prelude.{IsSome}
 use Rattle.std.specs.List.{list_all}
 use Rattle.sed_typed.specs.declared.program.Program.{Program}
-use Rattle.dasp_users.specs.declared.user.User.{User}
-use Rattle.dasp_users.specs.UsersFile.{credential_of}
-use Rattle.file_steps.specs.Steps.{Decides}
-use Rattle.file_steps.specs.Reads.{failed_names}
+use Rattle.dasp_session.specs.declared.user.User.{User}
+use Rattle.dasp_session.specs.UsersFile.{credential_of}
+use Rattle.sed_outside.specs.Steps.{Decides}
+use Rattle.sed_outside.specs.Reads.{failed_names}
 use Rattle.input_files.specs.Inputs.{SecretRead, UsersRead}
-use Rattle.sed_kits.specs.Loading.{KitsLoaded}
-use Rattle.sed_kits.specs.Refusals.{AreAlike}
+use Rattle.sed_check.specs.Loading.{KitsLoaded}
+use Rattle.sed_check.specs.Refusals.{AreAlike}
 use Rattle.sedona_cli.specs.declared.generating.RecordInputs.{RecordInputs}
 use Rattle.sedona_cli.specs.declared.refusal.Refusal.{Refusal}
 use Rattle.sedona_cli.specs.Agree.{failed_by}

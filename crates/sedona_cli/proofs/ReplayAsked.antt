@@ -7,14 +7,14 @@ use Rattle.comp_tree.specs.Application.{Application}
 use Rattle.app_file.specs.Reading.{IsFile}
 use Rattle.disk_model.specs.Disk.{Attaches as IsAttach}
 use Rattle.disk_model.specs.declared.disk.Disk.{Ghosts as DiskGhosts}
-use Rattle.dasp_users.specs.declared.user.User.{User}
+use Rattle.dasp_session.specs.declared.user.User.{User}
 use Rattle.replay_log.specs.Entry.{Entry}
 use Rattle.replay_log.specs.Record.{IsRecord}
-use Rattle.file_steps.specs.Steps.{Read, AndThen, Decides, stops, goes_on}
+use Rattle.sed_outside.specs.Steps.{Read, AndThen, Decides, stops, goes_on}
 use Rattle.input_files.specs.Inputs.{RecordRead, SecretRead, UsersRead}
 use Rattle.input_files.specs.declared.refusal.InputRefusal.{InputRefusal}
 use Rattle.input_files.specs.declared.refusal.InputRefusal.TheVariants as inputs
-use Rattle.sed_kits.specs.Loading.{KitsLoaded}
+use Rattle.sed_check.specs.Loading.{KitsLoaded}
 use Rattle.sedona_cli.specs.declared.inputs.Inputs.{Inputs}
 use Rattle.sedona_cli.specs.declared.refusal.Refusal.{Refusal}
 use Rattle.sedona_words.specs.Command.{NodeAsked}

@@ -3,13 +3,13 @@ use Rattle.std.proofs.Common.{◌≡◌, ℕ, true, List, [], ◌∷◌, ◌++�
 use Rattle.std.proofs.lemmas.Grind.{flat_map-append}
 use Rattle.sed_typed.specs.declared.program.Program.{Program}
 use Rattle.comp_tree.specs.Application.{Application}
-use Rattle.dasp_users.specs.declared.user.User.{User}
+use Rattle.dasp_session.specs.declared.user.User.{User}
 use Rattle.replay_log.specs.Entry.{Entry}
-use Rattle.node_replay.specs.Replaying.{replay_text}
-use Rattle.file_steps.specs.Steps.{Read, AndThen, Decides, stops, goes_on, Agree}
-use Rattle.file_steps.specs.Reads.{failed_name, failed_names}
+use Rattle.sed_node.specs.Replaying.{replay_text}
+use Rattle.sed_outside.specs.Steps.{Read, AndThen, Decides, stops, goes_on, Agree}
+use Rattle.sed_outside.specs.Reads.{failed_name, failed_names}
 use Rattle.input_files.specs.Inputs.{RecordRead, SecretRead, UsersRead}
-use Rattle.sed_kits.specs.Refusals.{AreAlike}
+use Rattle.sed_check.specs.Refusals.{AreAlike}
 use Rattle.input_files.specs.declared.refusal.InputRefusal.{InputRefusal}
 use Rattle.sedona_cli.specs.declared.inputs.Inputs.{Inputs}
 use Rattle.sedona_cli.specs.declared.refusal.Refusal.{Refusal}

@@ -8,8 +8,8 @@ use Rattle.disk_model.specs.declared.disk.Disk.{Ghosts as DiskGhosts}
 use Rattle.app_save.specs.Store.{IsStore, Opens as IsOpen}
 use Rattle.app_file.specs.Reading.{IsFile}
 use Rattle.comp_tree.specs.Application.{Application}
-use Rattle.file_steps.specs.Steps.{Read, stops, goes_on}
-use Rattle.file_steps.proofs.Joining.{same_reads}
+use Rattle.sed_outside.specs.Steps.{Read, stops, goes_on}
+use Rattle.sed_outside.proofs.Joining.{same_reads}
 use Rattle.sed_engine.specs.Code.{Meaning as Code}
 use Rattle.sed_typed.specs.declared.program.Program.{Program}
 use Rattle.sedona_cli.specs.declared.inputs.Inputs.{Inputs}

@@ -9,10 +9,10 @@ use Rattle.app_file.specs.Reading as payload_read
 use Rattle.disk_model.specs.Disk.{Meaning}
 use Rattle.app_save.specs.Saving.{AllOpen, AllStores}
 use Rattle.comp_tree.specs.Application.{Application}
-use Rattle.dasp_users.specs.declared.user.User.{User}
-use Rattle.file_steps.specs.Steps.{Read, AndThen, Decides, stops, goes_on, UnlessFree}
-use Rattle.file_steps.specs.Reads.{HasReads}
-use Rattle.file_steps.proofs.Joining.{both_reads, no_reads, same_reads, unless_map}
+use Rattle.dasp_session.specs.declared.user.User.{User}
+use Rattle.sed_outside.specs.Steps.{Read, AndThen, Decides, stops, goes_on, UnlessFree}
+use Rattle.sed_outside.specs.Reads.{HasReads}
+use Rattle.sed_outside.proofs.Joining.{both_reads, no_reads, same_reads, unless_map}
 use Rattle.input_files.specs.Refusals.{is_want as inputs_want}
 use Rattle.input_files.specs.declared.refusal.InputRefusal.{InputRefusal}
 use Rattle.input_files.specs.declared.refusal.InputRefusal.TheVariants as inputs
@@ -21,7 +21,7 @@ use Rattle.sed_engine.specs.declared.engine.Engine.{Ghosts}
 use Rattle.sed_engine.specs.Code.{Meaning as Code}
 use Rattle.sed_engine.specs.Program.{meaning_of}
 use Rattle.sed_engine.specs.Whole.{HasTables}
-use Rattle.sed_kits.specs.Loading.{Told}
+use Rattle.sed_check.specs.Loading.{Told}
 use Rattle.sed_node.specs.Standing.{StandsFor, code_of, is_fixed, setup_of}
 use Rattle.sed_node.specs.declared.node.Node.{Node as Kept}
 use Rattle.sed_typed.specs.declared.program.Program.{Program}

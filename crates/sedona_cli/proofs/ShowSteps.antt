@@ -9,16 +9,16 @@ use Rattle.disk_model.specs.Disk.{Image}
 use Rattle.disk_model.specs.declared.disk.Disk.{Ghosts as DiskGhosts}
 use Rattle.app_save.specs.Saving.{SinceSync}
 use Rattle.app_save.specs.Store.{IsStore, Opens as IsOpen}
-use Rattle.file_steps.specs.Steps.{Read, AndThen, stops, goes_on}
-use Rattle.file_steps.specs.Reads.{HasReads}
-use Rattle.file_steps.proofs.Joining.{same_reads}
+use Rattle.sed_outside.specs.Steps.{Read, AndThen, stops, goes_on}
+use Rattle.sed_outside.specs.Reads.{HasReads}
+use Rattle.sed_outside.proofs.Joining.{same_reads}
 use Rattle.sed_typed.specs.declared.program.Program.{Program}
 use Rattle.sed_engine.specs.Program.{meaning_of}
 use Rattle.comp_tree.specs.Application.{Application}
 use Rattle.app_file.specs.Opens.{Opens as OpensTo}
 use Rattle.app_file.specs.Reading.{IsFile, file}
 use Rattle.printed_app.specs.Application.{application_text}
-use Rattle.sed_kits.specs.Loading.{KitsLoaded}
+use Rattle.sed_check.specs.Loading.{KitsLoaded}
 use Rattle.sedona_cli.specs.Steps.{KitsGenerated}
 use Rattle.sedona_cli.proofs.Generated.{done_by, generates_early}
 use Rattle.sedona_cli.specs.declared.refusal.Refusal.{Refusal}

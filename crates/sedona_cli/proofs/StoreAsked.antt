@@ -10,10 +10,10 @@ use Rattle.sed_engine.specs.Program.{meaning_of}
 use Rattle.comp_tree.specs.Application.{Application}
 use Rattle.app_file.specs.Reading.{IsFile, IsReadAs, Reading, no_file, wrong_kits, over_limit, file}
 use Rattle.sedona_cli.proofs.DiskCalls.{at_end, then_during, then_marks}
-use Rattle.file_steps.specs.Steps.{Read, stops, goes_on}
+use Rattle.sed_outside.specs.Steps.{Read, stops, goes_on}
 use Rattle.sedona_cli.specs.declared.refusal.Refusal.{Refusal}
 use Rattle.sedona_cli.specs.declared.refusal.Refusal.TheVariants.{DeviceFault, StoreExists, NoStore, NoApplication, WrongKits, OverLimit}
-use Rattle.sed_kits.specs.Loading.{KitsLoaded}
+use Rattle.sed_check.specs.Loading.{KitsLoaded}
 use Rattle.sedona_cli.specs.New.{NewOf, NewComes, text_of}
 use Rattle.sedona_cli.specs.Show.{ShowOf, ShowComes}
 use Rattle.sedona_cli.specs.Store.{application_in}

@@ -14,7 +14,7 @@ use Rattle.sedona_cli.specs.Puts.{IsOneOf}
 use Rattle.sedona_cli.specs.Program.{Comes, ComesUntil, IsAnswer, done, unput, stopped, refused, wanted, before_store, at_store, AttachesBy, AsksStore, SparesDisk, refusal_by}
 use Rattle.sedona_cli.specs.Refusals.{is_of_store}
 use Rattle.std.proofs.lemmas.List.{append-nil}
-use Rattle.file_steps.specs.Steps.{Read}
+use Rattle.sed_outside.specs.Steps.{Read}
 use Rattle.sedona_cli.specs.Writing.{written_in}
 use Rattle.sedona_cli.proofs.Asking.{reads_leave}
 use Rattle.sedona_cli.proofs.Comings.{early_alone, of_files_alone, reads_alone}

@@ -1,10 +1,10 @@
 -- Where memory was wanted for the words, nothing was asked of the outside.
 use Rattle.std.proofs.Common.{◌≡◌, ℕ, List, [], ◌∷◌, ◌++◌, Option, Some, None, inl, inr, refl, sym, ◌∙◌, arith}
 use Rattle.sed_outside.specs.declared.files.Files.{Ghosts as FileGhosts}
-use Rattle.live_outside.specs.declared.clock.Clock.{Ghosts as ClockGhosts}
-use Rattle.live_outside.specs.declared.link.Link.{Ghosts as LinkGhosts}
+use Rattle.sed_outside.specs.declared.clock.Clock.{Ghosts as ClockGhosts}
+use Rattle.sed_outside.specs.declared.link.Link.{Ghosts as LinkGhosts}
 use Rattle.disk_model.specs.declared.disk.Disk.{Ghosts as DiskGhosts}
-use Rattle.file_steps.proofs.Joining.{no_reads}
+use Rattle.sed_outside.proofs.Joining.{no_reads}
 use Rattle.sedona_cli.specs.Lines.{memory_line}
 use Rattle.sedona_cli.specs.Outside.{Ask, of_reads}
 use Rattle.sedona_cli.specs.Program.{AsksStore, IsAnswer, wanted, at_store}

@@ -1,7 +1,7 @@
 -- A store that is attached and opened, before anything is done with its payload.
 use Rattle.std.proofs.Common.{◌≡◌, ℕ, true, List, [], ◌∷◌, ◌++◌, Some, Result, Ok, Err, refl, sym, ap, subst, inr}
 use Rattle.disk_model.specs.declared.disk.Disk.{Ghosts as DiskGhosts}
-use Rattle.file_steps.specs.Steps.{AndThen, stops, goes_on}
+use Rattle.sed_outside.specs.Steps.{AndThen, stops, goes_on}
 use Rattle.sedona_cli.specs.declared.refusal.Refusal.{Refusal}
 use Rattle.sedona_cli.specs.Outside.{Ask, Attaches, Opens, Unheld, Spares, AsksDisk}
 use Rattle.sedona_cli.specs.Program.{OrWants}

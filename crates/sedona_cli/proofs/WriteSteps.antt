@@ -7,9 +7,9 @@ use Rattle.sed_outside.specs.Files.{KeepsCounts, KeepsOthers, WritesFile}
 use Rattle.sed_outside.specs.declared.files.Files.{Ghosts as FileGhosts}
 use Rattle.sed_outside.specs.declared.files.FileFault.{FileFault as FileFailure}
 use Rattle.sed_outside.specs.declared.files.FileFault.TheVariants.{Failed, Memory as NoMemory}
-use Rattle.file_steps.specs.Steps.{Read, AndThen, stops, goes_on, UnlessFree}
-use Rattle.file_steps.specs.Reads.{HasReads}
-use Rattle.file_steps.proofs.Joining.{same_reads}
+use Rattle.sed_outside.specs.Steps.{Read, AndThen, stops, goes_on, UnlessFree}
+use Rattle.sed_outside.specs.Reads.{HasReads}
+use Rattle.sed_outside.proofs.Joining.{same_reads}
 use Rattle.sedona_cli.specs.declared.refusal.Refusal.{Refusal}
 use Rattle.sedona_cli.specs.declared.refusal.Refusal.TheVariants.{Memory}
 use Rattle.sedona_cli.specs.Outside.{Ask, Writes, Written, Unwritten, Withheld, Spares, of_reads}

@@ -3,8 +3,8 @@
 use Rattle.std.proofs.Common.{◌≡◌, ℕ, true, false, List, [], ◌∷◌, ◌++◌, None, Result, Ok, Err, refl, sym, ap, subst, ◌∙◌, inl}
 use Rattle.std.specs.List.{list_all}
 use Rattle.std.proofs.lemmas.List.{append-nil}
-use Rattle.file_steps.specs.Steps.{Read, AndThen, stops, goes_on}
-use Rattle.file_steps.specs.Reads.{failed_names}
+use Rattle.sed_outside.specs.Steps.{Read, AndThen, stops, goes_on}
+use Rattle.sed_outside.specs.Reads.{failed_names}
 use Rattle.sedona_cli.specs.declared.refusal.Refusal.{Refusal}
 use Rattle.sedona_cli.specs.Agree.{AgreeOn, Pointwise, failed_by}
 use Rattle.sedona_cli.specs.Outside.{Ask, Writes, Wrote, Written, Unwritten, Spares, is_of_files, of_reads, reads_in}

@@ -1,8 +1,8 @@
 -- Answers that agree.
 use Rattle.std.specs.Prelude.{◌≡◌, ℕ, List, [], ◌∷◌, ◌++◌, Option, Some, None, Result, Ok, Err}
-use Rattle.file_steps.specs.Steps.{Agree}
+use Rattle.sed_outside.specs.Steps.{Agree}
 use Rattle.sedona_cli.specs.declared.refusal.Refusal.{Refusal}
-use Rattle.file_steps.specs.Reads.{failed_names}
+use Rattle.sed_outside.specs.Reads.{failed_names}
 use Rattle.sedona_cli.specs.Outside.{Ask, Writes, Attaches, Makes, Opens, Binds, Opened, Found, NotAStore, Unread}
 use Rattle.sedona_cli.specs.Outside.{Unheld, Wrote, Written, Unwritten, Withheld, reads_in}
 use Rattle.sedona_cli.specs.Refusals.{failed_of}

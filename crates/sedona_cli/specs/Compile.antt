@@ -4,8 +4,8 @@ use Rattle.sed_typed.specs.declared.program.Program.{Program as TheProgram}
 use Rattle.sed_outside.specs.Files.{WritesFile}
 use Rattle.sed_outside.specs.declared.files.Files.{Ghosts as FileGhosts}
 use Rattle.scode_compile.specs.Compiled.{IsImageOf}
-use Rattle.file_steps.specs.Steps.{AndThen}
-use Rattle.file_steps.specs.Reads.{HasReads}
+use Rattle.sed_outside.specs.Steps.{AndThen}
+use Rattle.sed_outside.specs.Reads.{HasReads}
 use Rattle.sedona_cli.specs.declared.refusal.Refusal.{Refusal}
 use Rattle.sedona_cli.specs.Outside.{Ask}
 use Rattle.sedona_cli.specs.Steps.{AfterKits, FileWritten, KitsGenerated}

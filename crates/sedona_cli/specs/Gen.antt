@@ -4,11 +4,11 @@ use Rattle.sed_typed.specs.declared.program.Program.{Program as TheProgram}
 use Rattle.sed_engine.specs.Program.{meaning_of}
 use Rattle.sed_outside.specs.Files.{WritesFile}
 use Rattle.sed_outside.specs.declared.files.Files.{Ghosts as FileGhosts}
-use Rattle.dasp_users.specs.declared.user.User.{User}
-use Rattle.dasp_users.specs.UsersFile.{credential_of}
+use Rattle.dasp_session.specs.declared.user.User.{User}
+use Rattle.dasp_session.specs.UsersFile.{credential_of}
 use Rattle.record_making.specs.Spec.{IsRecordOf}
-use Rattle.file_steps.specs.Steps.{AndThen, Decides}
-use Rattle.file_steps.specs.Reads.{HasReads}
+use Rattle.sed_outside.specs.Steps.{AndThen, Decides}
+use Rattle.sed_outside.specs.Reads.{HasReads}
 use Rattle.sedona_cli.specs.declared.generating.RecordInputs.{RecordInputs}
 use Rattle.sedona_cli.specs.declared.refusal.Refusal.{Refusal}
 use Rattle.sedona_cli.specs.declared.refusal.Refusal.TheVariants.{BadUsers}

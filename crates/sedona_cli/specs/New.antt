@@ -4,10 +4,10 @@ use Rattle.sed_typed.specs.declared.program.Program.{Program as TheProgram}
 use Rattle.sed_outside.specs.declared.files.Files.{Ghosts as FileGhosts}
 use Rattle.disk_model.specs.Disk.{Meaning, MarksUp}
 use Rattle.sed_engine.specs.Program.{meaning_of}
-use Rattle.new_store.specs.Alone.{AllNew, text_alone}
-use Rattle.file_steps.specs.Steps.{AndThen}
-use Rattle.file_steps.specs.Reads.{HasReads}
-use Rattle.sed_kits.specs.Loading.{KitsLoaded}
+use Rattle.app_writer.specs.Alone.{AllNew, text_alone}
+use Rattle.sed_outside.specs.Steps.{AndThen}
+use Rattle.sed_outside.specs.Reads.{HasReads}
+use Rattle.sed_check.specs.Loading.{KitsLoaded}
 use Rattle.sedona_cli.specs.declared.refusal.Refusal.{Refusal}
 use Rattle.sedona_cli.specs.Outside.{Ask}
 use Rattle.sedona_cli.specs.Steps.{AfterKits, Prints, done_text}

@@ -7,12 +7,12 @@ use Rattle.sed_engine.specs.Code.{Meaning as Code}
 use Rattle.comp_tree.specs.Application.{Application}
 use Rattle.app_file.specs.Opens.{Opens}
 use Rattle.app_save.specs.Store.{IsStore}
-use Rattle.dasp_users.specs.declared.user.User.{User}
+use Rattle.dasp_session.specs.declared.user.User.{User}
 use Rattle.node_events.specs.Node.{opened}
 use Rattle.sed_node.specs.Running.{ComesTo, OpensSince, acknowledged_in}
 use Rattle.sed_node.specs.Standing.{StandsFor, code_of, is_fixed, setup_of}
 use Rattle.sed_node.specs.declared.node.Node.{Node as Kept}
-use Rattle.file_steps.specs.Steps.{AndThen}
+use Rattle.sed_outside.specs.Steps.{AndThen}
 use Rattle.sedona_cli.specs.declared.refusal.Refusal.{Refusal}
 use Rattle.sedona_cli.specs.Outside.{Ask, Ran, saves_in}
 use Rattle.sedona_cli.specs.Store.{AppRead, StoreAttached, StoreOpened}

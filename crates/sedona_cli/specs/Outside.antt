@@ -19,8 +19,8 @@ use Rattle.node_events.specs.Running.{Event, Reached, run, saves_of, sent_by}
 use Rattle.node_events.specs.Saving.{Save}
 use Rattle.sed_node.specs.Handling.{AreFiles, AreSaved}
 use Rattle.sed_node.specs.Running.{ComesTo, CrashesOpen}
-use Rattle.file_steps.specs.Steps.{Read}
-use Rattle.file_steps.specs.Reads.{HasReads}
+use Rattle.sed_outside.specs.Steps.{Read}
+use Rattle.sed_outside.specs.Reads.{HasReads}
 
 -- ---- what is asked
 

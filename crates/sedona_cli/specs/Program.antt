@@ -7,12 +7,12 @@ use Rattle.sed_typed.specs.declared.program.Program.{Program as TheProgram}
 use Rattle.sed_outside.specs.Cause.{Rose}
 use Rattle.sed_outside.specs.Sink.{with_text, PutsFront}
 use Rattle.sed_outside.specs.declared.files.Files.{Ghosts as FileGhosts}
-use Rattle.live_outside.specs.declared.clock.Clock.{Ghosts as ClockGhosts}
-use Rattle.live_outside.specs.declared.link.Link.{Ghosts as LinkGhosts}
+use Rattle.sed_outside.specs.declared.clock.Clock.{Ghosts as ClockGhosts}
+use Rattle.sed_outside.specs.declared.link.Link.{Ghosts as LinkGhosts}
 use Rattle.disk_model.specs.Disk.{Image, Meaning, Attaches as IsAttach, Keeps, MarksUp}
 use Rattle.disk_model.specs.declared.disk.Disk.{Ghosts as DiskGhosts}
 use Rattle.app_save.specs.Store.{Opens as IsOpen}
-use Rattle.file_steps.specs.Steps.{Read, AndThen}
+use Rattle.sed_outside.specs.Steps.{Read, AndThen}
 use Rattle.sed_cycles.specs.Cycles.{text_after}
 use Rattle.sedona_cli.specs.declared.refusal.Refusal.{Refusal}
 use Rattle.sed_engine.specs.Program.{meaning_of}

@@ -6,8 +6,8 @@ use Rattle.input_files.specs.declared.refusal.InputRefusal.{InputRefusal}
 use Rattle.input_files.specs.declared.refusal.InputRefusal.TheVariants as inputs
 use Rattle.sed_outside.specs.declared.files.FileFault.{FileFault as FileFailure}
 use Rattle.sed_outside.specs.declared.files.FileFault.TheVariants.{Failed, Memory as NoMemory}
-use Rattle.sed_kits.specs.declared.refusal.KitsRefusal.{KitsRefusal}
-use Rattle.sed_kits.specs.declared.refusal.KitsRefusal.TheVariants as kits
+use Rattle.sed_check.specs.declared.refusal.KitsRefusal.{KitsRefusal}
+use Rattle.sed_check.specs.declared.refusal.KitsRefusal.TheVariants as kits
 use Rattle.sedona_cli.specs.declared.refusal.Refusal.{Refusal}
 use Rattle.sedona_cli.specs.declared.refusal.Refusal.TheVariants.{FileFault, Refused, Rule, SlotTooSmall, DeviceFault}
 use Rattle.sedona_cli.specs.declared.refusal.Refusal.TheVariants.{StoreExists, NoStore, NoApplication, WrongKits}

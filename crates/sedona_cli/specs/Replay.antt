@@ -9,15 +9,15 @@ use Rattle.disk_model.specs.declared.disk.Disk.{Ghosts as DiskGhosts}
 use Rattle.sed_engine.specs.Program.{meaning_of}
 use Rattle.comp_tree.specs.Application.{Application}
 use Rattle.app_file.specs.Opens.{Opens as OpensTo}
-use Rattle.dasp_users.specs.declared.user.User.{User}
+use Rattle.dasp_session.specs.declared.user.User.{User}
 use Rattle.dasp_session.specs.Outbox.{AreTexts, Datagram}
 use Rattle.replay_log.specs.Entry.{Entry}
 use Rattle.replay_log.specs.Record.{IsRecord}
 use Rattle.node_events.specs.Running.{Event, run}
 use Rattle.sed_node.specs.Running.{lines_of}
-use Rattle.node_replay.specs.Replaying.{end_text, replay_text}
-use Rattle.file_steps.specs.Steps.{AndThen, Decides}
-use Rattle.file_steps.specs.Reads.{HasReads}
+use Rattle.sed_node.specs.Replaying.{end_text, replay_text}
+use Rattle.sed_outside.specs.Steps.{AndThen, Decides}
+use Rattle.sed_outside.specs.Reads.{HasReads}
 use Rattle.sedona_cli.specs.declared.inputs.Inputs.{Inputs}
 use Rattle.sedona_cli.specs.declared.refusal.Refusal.{Refusal}
 use Rattle.sedona_words.specs.Command.{NodeAsked}

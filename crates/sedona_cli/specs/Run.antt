@@ -6,25 +6,25 @@ use Rattle.sed_typed.specs.declared.program.Program.{Program as TheProgram}
 use Rattle.sed_outside.specs.Cause.{Rose}
 use Rattle.sed_outside.specs.Sink.{PutsFront, with_text}
 use Rattle.sed_outside.specs.declared.files.Files.{Ghosts as FileGhosts}
-use Rattle.live_outside.specs.Clock.{Moments, later_moments, next_moment}
+use Rattle.sed_outside.specs.Clock.{Moments, later_moments, next_moment}
 use Rattle.sed_outside.specs.Counts.{one_more}
-use Rattle.live_outside.specs.Link.{Bound, Binds as IsBind}
-use Rattle.live_outside.specs.Rounds.{LiveCycle, polls_at}
-use Rattle.live_outside.specs.Told.{AddsWhereTold}
-use Rattle.live_outside.specs.declared.clock.Clock.{Ghosts as ClockGhosts}
-use Rattle.live_outside.specs.declared.link.Link.{Ghosts as LinkGhosts}
+use Rattle.sed_outside.specs.Link.{Bound, Binds as IsBind}
+use Rattle.sed_outside.specs.Rounds.{LiveCycle, polls_at}
+use Rattle.sed_outside.specs.Told.{AddsWhereTold}
+use Rattle.sed_outside.specs.declared.clock.Clock.{Ghosts as ClockGhosts}
+use Rattle.sed_outside.specs.declared.link.Link.{Ghosts as LinkGhosts}
 use Rattle.disk_model.specs.Disk.{Meaning}
 use Rattle.disk_model.specs.declared.disk.Disk.{Ghosts as DiskGhosts}
 use Rattle.sed_engine.specs.Code.{Meaning as Code}
 use Rattle.sed_engine.specs.Program.{meaning_of}
 use Rattle.comp_tree.specs.Application.{Application}
 use Rattle.app_file.specs.Opens.{Opens as OpensTo}
-use Rattle.dasp_users.specs.declared.user.User.{User}
+use Rattle.dasp_session.specs.declared.user.User.{User}
 use Rattle.dasp_session.specs.Outbox.{Datagram}
 use Rattle.sed_node.specs.Living.{AreRounds, AreTextsByEvent, IsLeft, Sleeps, offers}
-use Rattle.node_replay.specs.Replaying.{end_text}
-use Rattle.file_steps.specs.Steps.{AndThen, Decides}
-use Rattle.file_steps.specs.Reads.{HasReads}
+use Rattle.sed_node.specs.Replaying.{end_text}
+use Rattle.sed_outside.specs.Steps.{AndThen, Decides}
+use Rattle.sed_outside.specs.Reads.{HasReads}
 use Rattle.sedona_cli.specs.declared.inputs.NodeInputs.{NodeInputs}
 use Rattle.sedona_cli.specs.declared.refusal.Refusal.{Refusal}
 use Rattle.sedona_cli.specs.declared.refusal.Refusal.TheVariants.{LinkFault}

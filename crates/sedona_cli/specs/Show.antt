@@ -9,9 +9,9 @@ use Rattle.sed_engine.specs.Program.{meaning_of}
 use Rattle.comp_tree.specs.Application.{Application}
 use Rattle.app_file.specs.Opens.{Opens}
 use Rattle.printed_app.specs.Application.{application_text}
-use Rattle.file_steps.specs.Steps.{AndThen}
-use Rattle.file_steps.specs.Reads.{HasReads}
-use Rattle.sed_kits.specs.Loading.{KitsLoaded}
+use Rattle.sed_outside.specs.Steps.{AndThen}
+use Rattle.sed_outside.specs.Reads.{HasReads}
+use Rattle.sed_check.specs.Loading.{KitsLoaded}
 use Rattle.sedona_cli.specs.declared.refusal.Refusal.{Refusal}
 use Rattle.sedona_cli.specs.Outside.{Ask}
 use Rattle.sedona_cli.specs.Steps.{AfterKits, Prints}

@@ -1,12 +1,12 @@
 -- The steps that commands share: the loading and generating of programs, and printing.
 use Rattle.std.specs.Prelude.{◌≡◌, ℕ, All, List, [], ◌∷◌, ◌++◌, Result, Ok, Err, codes}
 use Rattle.sed_typed.specs.declared.program.Program.{Program as TheProgram}
-use Rattle.file_steps.specs.Steps.{Read, AndThen, Decides}
-use Rattle.dasp_users.specs.declared.user.User.{User}
+use Rattle.sed_outside.specs.Steps.{Read, AndThen, Decides}
+use Rattle.dasp_session.specs.declared.user.User.{User}
 use Rattle.input_files.specs.Inputs.{RecordRead, SecretRead, UsersRead}
 use Rattle.scode_gen.specs.Generated.{IsFirstTooLong, IsShort}
-use Rattle.sed_kits.specs.declared.refusal.KitsRefusal.{KitsRefusal}
-use Rattle.sed_kits.specs.Loading.{KitsLoaded, TextLoaded, Told}
+use Rattle.sed_check.specs.declared.refusal.KitsRefusal.{KitsRefusal}
+use Rattle.sed_check.specs.Loading.{KitsLoaded, TextLoaded, Told}
 use Rattle.sedona_cli.specs.declared.refusal.Refusal.{Refusal}
 use Rattle.sedona_cli.specs.Lines.{line_end}
 use Rattle.sedona_cli.specs.declared.refusal.Refusal.TheVariants.{FileFault, MethodTooLong}

@@ -5,7 +5,7 @@ use Rattle.sed_engine.specs.Program.{meaning_of}
 use Rattle.sed_engine.specs.Whole.{HasTables}
 use Rattle.comp_tree.specs.Application.{Application}
 use Rattle.app_file.specs.Reading.{CanBeTold, IsReadAs, Reading, no_file, wrong_kits, over_limit, file}
-use Rattle.file_steps.specs.Steps.{Decides}
+use Rattle.sed_outside.specs.Steps.{Decides}
 use Rattle.sedona_cli.specs.declared.refusal.Refusal.{Refusal}
 use Rattle.sedona_cli.specs.declared.refusal.Refusal.TheVariants.{SlotTooSmall, DeviceFault, StoreExists, NoStore}
 use Rattle.sedona_cli.specs.declared.refusal.Refusal.TheVariants.{NoApplication, WrongKits, OverLimit}

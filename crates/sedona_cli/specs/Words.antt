@@ -2,7 +2,7 @@
 use Rattle.std.specs.Prelude.{ℕ, Bool, false, if◌then◌else◌, List, [], ◌∷◌, Option, None, codes}
 use Rattle.std.specs.Option.{option_map}
 use Rattle.std.specs.Str.{bytes_eq}
-use Rattle.run_words.specs.Run.{run_of}
+use Rattle.sedona_words.specs.Run.{run_of}
 use Rattle.sedona_words.specs.Command.{Command, Run, command_of}
 
 -- whether the first word is the name of the command whose words clap reads

@@ -5,7 +5,7 @@ use Rattle.sed_outside.specs.Cause.{HasCause, Rose}
 use Rattle.sed_outside.specs.Files.{KeepsCounts, KeepsOthers, WritesFile}
 use Rattle.sed_outside.specs.declared.files.Files.{Ghosts as FileGhosts}
 use Rattle.disk_model.specs.declared.disk.Disk.{Ghosts as DiskGhosts}
-use Rattle.file_steps.specs.Reads.{HasReads}
+use Rattle.sed_outside.specs.Reads.{HasReads}
 use Rattle.sedona_cli.specs.Outside.{Ask, Reads, Writes, Attaches, Makes, Opens, Binds, Runs, Wrote, Written, Unwritten}
 use Rattle.sedona_cli.specs.Outside.{Withheld, HasAsks, of_reads}
 

@@ -1,6 +1,6 @@
 //! What a command that only reads comes to, before it is put.
 ghost use Rattle.std.specs.Prelude.{◌≡◌, ◌≤◌, length, IfOk};
-ghost use Rattle.file_steps.specs.Reads.{HasReads};
+ghost use Rattle.sed_outside.specs.Reads.{HasReads};
 ghost use Rattle.sed_cycles.specs.Cycles.{text_after};
 ghost use Rattle.sed_engine.specs.Program.{meaning_of};
 ghost use Rattle.sed_engine.specs.Runnable.{IsRunnable};

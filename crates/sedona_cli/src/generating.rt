@@ -1,8 +1,8 @@
 //! `gen`: the record of a generated run, written into a file.
 ghost use Rattle.std.specs.Prelude.{◌≡◌, IfErr, IfOk, IsSome, OnOk};
-ghost use Rattle.dasp_users.specs.UsersFile.{AreUsers, credential_of};
-ghost use Rattle.file_steps.specs.Reads.{HasReads};
-ghost use Rattle.file_steps.specs.Steps.{UnlessFree};
+ghost use Rattle.dasp_session.specs.UsersFile.{AreUsers, credential_of};
+ghost use Rattle.sed_outside.specs.Reads.{HasReads};
+ghost use Rattle.sed_outside.specs.Steps.{UnlessFree};
 ghost use Rattle.record_making.specs.Spec.{IsAllowed, IsRecordOf};
 ghost use Rattle.sed_engine.specs.Program.{meaning_of};
 ghost use Rattle.sedona_words.specs.Asked.{asked_record, IsMeantRecord};
@@ -16,7 +16,7 @@ ghost use Rattle.sedona_cli.specs.Writing.{HasOutput};
 use crate::inputs::{node_program, node_secret, node_users};
 use crate::refusal::Refusal;
 use crate::writing::write_output;
-use dasp_users::Users;
+use dasp_session::Users;
 use record_making::{GenAsked, RecordRefusal, generated};
 use scode_compile::Compiled;
 use sed_outside::Files;

@@ -1,7 +1,7 @@
 //! What a node is run from beside its store, read.
 ghost use Rattle.std.specs.Prelude.{◌≤◌, IfOk, IsTrue, length};
-ghost use Rattle.file_steps.specs.Reads.{HasReads};
-ghost use Rattle.file_steps.specs.Steps.{UnlessFree};
+ghost use Rattle.sed_outside.specs.Reads.{HasReads};
+ghost use Rattle.sed_outside.specs.Steps.{UnlessFree};
 ghost use Rattle.input_files.specs.Inputs.{HasEntries};
 ghost use Rattle.sedona_words.specs.Asked.{asked_node, IsMeantNode};
 ghost use Rattle.sedona_words.specs.Command as words_of;
@@ -13,7 +13,7 @@ ghost use Rattle.sedona_cli.specs.Steps.{AfterKits, AfterRecord, AfterSecret, Af
 
 use crate::loading::kits_program;
 use crate::refusal::{Refusal, of_inputs};
-use dasp_users::Users;
+use dasp_session::Users;
 use input_files::{read_record, read_secret, read_users};
 use scode_compile::Compiled;
 use sed_outside::Files;

@@ -7,10 +7,10 @@ ghost use Rattle.sedona_cli.specs.Outside.{Ask};
 ghost use Rattle.sedona_cli.specs.Program.{Comes, refusal_by};
 
 use app_file::bytes_are_read_as_one;
+use app_writer::texts_alone_are_alike;
 use input_files::{failed_inputs_are_told, inputs_agree};
-use new_store::texts_alone_are_alike;
 use scode_compile::programs_alike_are_refused_alike;
-use sed_kits::{failed_loads_are_told, loads_agree};
+use sed_check::{failed_loads_are_told, loads_agree};
 
 /// Of answers that agree a command comes to one end: to texts, or to one refusal.
 pub fn one_end()

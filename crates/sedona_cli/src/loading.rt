@@ -1,7 +1,7 @@
 //! The loading and compiling of programs, as a step of a command.
 ghost use Rattle.std.specs.Prelude.{◌≡◌, ◌≤◌, length, IfOk};
-ghost use Rattle.file_steps.specs.Reads.{HasReads};
-ghost use Rattle.file_steps.specs.Steps.{UnlessFree};
+ghost use Rattle.sed_outside.specs.Reads.{HasReads};
+ghost use Rattle.sed_outside.specs.Steps.{UnlessFree};
 ghost use Rattle.sed_engine.specs.Runnable.{IsRunnable};
 ghost use Rattle.sed_typed.specs.Typed.{Typed};
 ghost use Rattle.sedona_words.specs.Command.{texts};
@@ -10,7 +10,7 @@ ghost use Rattle.sedona_cli.specs.Steps.{IsGenerated, KitsGenerated, TextGenerat
 
 use crate::refusal::{Refusal, of_compiling, of_kits};
 use scode_compile::{Compiled, compile};
-use sed_kits::{load_kits, load_text};
+use sed_check::{load_kits, load_text};
 use sed_outside::Files;
 use sed_typed::Program;
 use std::alloc::Global;

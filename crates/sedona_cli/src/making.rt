@@ -1,9 +1,9 @@
 //! `new`: a store with an application of the App alone.
 ghost use Rattle.std.specs.Prelude.{◌≡◌, ◌≤◌, ◌<◌, false, Some, length, IfErr, IfOk, IsTrue, OnOk};
 ghost use Rattle.disk_model.specs.Disk.{MarksUp};
-ghost use Rattle.file_steps.specs.Steps.{AndThen};
+ghost use Rattle.sed_outside.specs.Steps.{AndThen};
 ghost use Rattle.sed_engine.specs.Program.{meaning_of};
-ghost use Rattle.new_store.specs.Alone.{AllNew};
+ghost use Rattle.app_writer.specs.Alone.{AllNew};
 ghost use Rattle.sedona_words.specs.Asked.{IsMeantStore};
 ghost use Rattle.sedona_words.specs.Command as words_of;
 ghost use Rattle.sedona_cli.specs.New as meaning;
@@ -17,8 +17,8 @@ use crate::loading::kits_program;
 use crate::printing::done_text;
 use crate::refusal::Refusal;
 use crate::store::{attach_store, make_store};
+use app_writer::{NewRefusal, new_stores_open_to_the_app, text_of_alone, the_app_is_small};
 use disk_model::Disk;
-use new_store::{NewRefusal, new_stores_open_to_the_app, text_of_alone, the_app_is_small};
 use scode_compile::Compiled;
 use sed_engine::typed_programs_are_whole;
 use sed_outside::Files;

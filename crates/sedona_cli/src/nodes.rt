@@ -14,11 +14,9 @@ ghost use Rattle.sedona_cli.specs.Store.{IsRead};
 
 use crate::refusal::{Refusal, of_app};
 use crate::store::{attach_store, open_with_slot};
-use app_formed::schema_can_be_told;
-use app_reader::read_app;
+use app_reader::{read_app, schema_can_be_told};
 use app_save::Store;
-use dasp_session::Outbox;
-use dasp_users::Users;
+use dasp_session::{Outbox, Users};
 use disk_model::Disk;
 use link_prop::App;
 use scode_compile::Compiled;

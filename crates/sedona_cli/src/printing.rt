@@ -5,8 +5,7 @@ ghost use Rattle.printed_app.specs.Application as printed;
 ghost use Rattle.sedona_cli.specs.Steps as steps;
 
 use link_prop::App;
-use printed_app::put_application;
-use printed_text::Collected;
+use printed_app::{Collected, put_application};
 use sed_engine::Engine;
 use sed_value::{Items, Memory};
 use std::alloc::{AllocError, Global};

@@ -1,7 +1,7 @@
 //! The top call.
 ghost use Rattle.std.specs.Prelude.{◌≡◌, ◌≢◌, ◌⊎◌, ℕ, false, List, None, Err, IsOk, [], ◌∷◌, length, IsTrue, Result};
 ghost use Rattle.sed_outside.specs.Cause.{Rose};
-ghost use Rattle.file_steps.specs.Reads.{AreKnown};
+ghost use Rattle.sed_outside.specs.Reads.{AreKnown};
 ghost use Rattle.sedona_cli.specs.declared.refusal.Refusal.{Refusal as TheRefusal};
 ghost use Rattle.sedona_words.specs.Asked.{asked_command, IsMeant};
 ghost use Rattle.sedona_words.specs.Command.{Command, New, NodeAsked, Replay, Run, RunAsked, Show, output_of, port_of};
@@ -33,8 +33,7 @@ use crate::status::Status;
 use app_file::bytes_are_read_as_one;
 use app_save::stores_open_to_one;
 use disk_model::Disk;
-use live_outside::{Clock, Link};
-use sed_outside::{Files, Sink};
+use sed_outside::{Clock, Files, Link, Sink};
 use sed_value::{Items, Memory};
 use sedona_words::Asked;
 use std::alloc::Global;

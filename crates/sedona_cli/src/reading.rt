@@ -5,9 +5,8 @@ ghost use Rattle.sedona_cli.specs.Words.{command_asked, is_run};
 ghost use Rattle.sedona_words.specs.Asked.{asked_command, IsMeant};
 ghost use Rattle.sedona_words.specs.Command.{texts};
 
-use run_words::read_run;
 use sed_value::Memory;
-use sedona_words::{Asked, read_words};
+use sedona_words::{Asked, read_run, read_words};
 use std::alloc::Global;
 
 /// What the words ask for. None exactly where they are outside the table of words. It fails only for want of memory,

@@ -7,7 +7,7 @@ use input_files::InputRefusal;
 use kit_manifest::Text;
 use kit_sources::Why;
 use scode_compile::CompileRefusal;
-use sed_kits::KitsRefusal;
+use sed_check::KitsRefusal;
 use sed_value::KitRef;
 
 /// Why a command is refused. Each has a status and a line.

@@ -5,7 +5,7 @@ use Rattle.std.specs.Option.{option_map_or, option_and_then}
 use Rattle.std.specs.FinMap as map
 use Rattle.sed_engine.specs.declared.engine.Engine.{Ghosts}
 use Rattle.sed_engine.specs.Code.{Meaning}
-use Rattle.link_table.specs.Link.{Link}
+use Rattle.sub_table.specs.Link.{Link}
 use Rattle.comp_tree.specs.Application.{Component}
 use Rattle.comp_tree.specs.Edit.{part_bytes}
 use Rattle.comp_tree.specs.Held.{components_of}

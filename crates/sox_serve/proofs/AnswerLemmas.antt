@@ -16,12 +16,12 @@ use Rattle.link_prop.specs.Linked.{Linked, application_of}
 use Rattle.link_prop.specs.Marks.{Tells}
 use Rattle.sox_msg.specs.Answered as told
 use Rattle.sox_msg.specs.Command.{Asked, add}
-use Rattle.sox_commands.specs.Answer.{Answer, WantsMemory, answer_by, command_of, done_with, refusal_of, refused_by}
-use Rattle.sox_commands.specs.Replies.{reply_bytes}
-use Rattle.sox_commands.specs.declared.served.Served.{Served}
-use Rattle.sox_commands.specs.declared.served.Served.TheVariants.{Replied}
-use Rattle.sox_commands.proofs.ByRow.{refused_first}
-use Rattle.sox_commands.proofs.OneText.{refusal_found}
+use Rattle.sox_serve.specs.Answer.{Answer, WantsMemory, answer_by, command_of, done_with, refusal_of, refused_by}
+use Rattle.sox_serve.specs.Replies.{reply_bytes}
+use Rattle.sox_serve.specs.declared.served.Served.{Served}
+use Rattle.sox_serve.specs.declared.served.Served.TheVariants.{Replied}
+use Rattle.sox_serve.proofs.ByRow.{refused_first}
+use Rattle.sox_serve.proofs.OneText.{refusal_found}
 use Rattle.sox_serve.specs.Serves.{Gives, Serves, answer_over}
 
 -- the answer itself, and nothing else

@@ -1,3 +1,8 @@
+pub mod ByRow
+pub mod OneText
+pub mod Building
+pub mod Examples
+pub mod Refusing
 pub mod AnswerLemmas
 pub mod RefusalLemmas
 pub mod SaveLemmas

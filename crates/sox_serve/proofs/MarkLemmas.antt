@@ -12,7 +12,7 @@ use Rattle.link_prop.proofs.AppMarks.{keeps_all}
 use Rattle.sox_msg.specs.Answered as told
 use Rattle.sox_msg.specs.Answered.{Answered}
 use Rattle.sox_msg.specs.Command.{Asked, invoke}
-use Rattle.sox_commands.specs.Replies.{capital_in, reply_bytes}
+use Rattle.sox_serve.specs.Replies.{capital_in, reply_bytes}
 use Rattle.sox_serve.specs.Marks.{KeepsRow, MarksByRow, Row, nothing, row_of}
 use Rattle.sox_serve.proofs.RefusalLemmas.{first_byte}
 

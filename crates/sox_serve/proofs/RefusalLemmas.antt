@@ -9,9 +9,9 @@ use Rattle.link_prop.specs.Linked.{Linked, application_of}
 use Rattle.sox_msg.specs.Answered as told
 use Rattle.sox_msg.specs.Answered.{Answered}
 use Rattle.sox_msg.specs.Command.{Asked, add, read_part, delete, invoke, link, unlink, rename, reorder, read_slot, subscribe, unsubscribe, version, write, clear}
-use Rattle.sox_commands.specs.Answer.{Answer, answer_by, answered_by, asks_for_save, command_of, done_with}
-use Rattle.sox_commands.specs.Replies.{capital_in, reply_bytes}
-use Rattle.sox_commands.specs.declared.served.Served.{Served}
+use Rattle.sox_serve.specs.Answer.{Answer, answer_by, answered_by, asks_for_save, command_of, done_with}
+use Rattle.sox_serve.specs.Replies.{capital_in, reply_bytes}
+use Rattle.sox_serve.specs.declared.served.Served.{Served}
 use Rattle.sox_serve.specs.Serves.{Gives, IsAnswered, Serves, answer_over}
 
 -- no reply to what is done begins as a refusal does

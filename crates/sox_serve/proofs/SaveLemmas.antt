@@ -10,12 +10,12 @@ use Rattle.comp_tree.specs.Refusals.{first_refusal}
 use Rattle.link_prop.specs.Linked.{Linked, application_of}
 use Rattle.sox_msg.specs.Answered.{Answered}
 use Rattle.sox_msg.specs.Command.{Asked, add, read_part, delete, invoke, link, unlink, rename, reorder, read_slot, subscribe, unsubscribe, version, write, clear}
-use Rattle.sox_commands.specs.Answer.{Answer, answer, answer_by, asks_for_save, command_of, may_want_memory, served_by}
-use Rattle.sox_commands.specs.Replies.{reply_bytes}
-use Rattle.sox_commands.specs.Table.{refusals_of}
-use Rattle.sox_commands.specs.declared.served.Served.{Served}
-use Rattle.sox_commands.specs.declared.served.Served.TheVariants.{Replied, SaveAsked, Subscribe, Unsubscribe, Deleted}
-use Rattle.sox_commands.proofs.ByRow.{done_else, refused_first}
+use Rattle.sox_serve.specs.Answer.{Answer, answer, answer_by, asks_for_save, command_of, may_want_memory, served_by}
+use Rattle.sox_serve.specs.Replies.{reply_bytes}
+use Rattle.sox_serve.specs.Table.{refusals_of}
+use Rattle.sox_serve.specs.declared.served.Served.{Served}
+use Rattle.sox_serve.specs.declared.served.Served.TheVariants.{Replied, SaveAsked, Subscribe, Unsubscribe, Deleted}
+use Rattle.sox_serve.proofs.ByRow.{done_else, refused_first}
 use Rattle.sox_serve.specs.Serves.{IsAnswered, Serves}
 
 abbrev is_save_asked : Served → Bool

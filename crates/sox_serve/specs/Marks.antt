@@ -10,8 +10,8 @@ use Rattle.link_prop.specs.Marks.{KeepsAppMarks, Parts, added_at, links_at_ends,
 use Rattle.link_prop.specs.Marks.{no_marks, tree_above, tree_at, values_at}
 use Rattle.sox_msg.specs.Answered as told
 use Rattle.sox_msg.specs.Command.{Asked, add, delete, invoke, link, unlink, rename, reorder, write}
-use Rattle.sox_commands.specs.Replies.{reply_bytes}
-use Rattle.sox_commands.specs.Table.{link_between}
+use Rattle.sox_serve.specs.Replies.{reply_bytes}
+use Rattle.sox_serve.specs.Table.{link_between}
 
 -- the marks that may be set, for every place: of parts t, c and r of each component, and of the links at it
 pub record Row : Type 0 where

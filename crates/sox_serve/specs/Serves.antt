@@ -4,9 +4,9 @@ use Rattle.sed_engine.specs.declared.engine.Engine.{Ghosts}
 use Rattle.link_prop.specs.Linked.{Linked, application_of}
 use Rattle.link_prop.specs.Marks.{Tells}
 use Rattle.sox_msg.specs.Command.{Asked, add}
-use Rattle.sox_commands.specs.Answer.{Answer, WantsMemory, answer}
-use Rattle.sox_commands.specs.Replies.{reply_bytes}
-use Rattle.sox_commands.specs.declared.served.Served.{Served}
+use Rattle.sox_serve.specs.Answer.{Answer, WantsMemory, answer}
+use Rattle.sox_serve.specs.Replies.{reply_bytes}
+use Rattle.sox_serve.specs.declared.served.Served.{Served}
 
 -- what a command to an application over an engine comes to, with so many turns for each root call, at a moment
 abbrev pub answer_over : {E : Type 0} → Ghosts E → Linked E → Asked → ℕ → ℤ → Answer

@@ -2,7 +2,7 @@
 ghost use Rattle.std.specs.Prelude.{◌≡◌, Some, None, IsTrue, MatchResult};
 ghost use Rattle.comp_tree.specs.Held.{components_of};
 ghost use Rattle.comp_tree.specs.Refusals.{first_refusal, refusals_of_clear};
-ghost use Rattle.sox_commands.specs.Replies.{reply_bytes};
+ghost use Rattle.sox_serve.specs.Replies.{reply_bytes};
 ghost use Rattle.sox_msg.specs.Answered as told;
 ghost use Rattle.sox_msg.specs.Reply.{is_plain};
 

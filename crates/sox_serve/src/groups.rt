@@ -3,9 +3,9 @@ ghost use Rattle.std.specs.Prelude.{◌≡◌};
 ghost use Rattle.sox_msg.specs.View.{asked_of};
 ghost use Rattle.sox_serve.specs.Groups.{asked_of_group};
 
-use link_table::LinkRec;
 use sed_value::Id;
 use sox_msg::Command;
+use sub_table::LinkRec;
 
 /// A command that changes which components there are, or what they are called.
 #[derive(Clone, Copy)]

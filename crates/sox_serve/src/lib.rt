@@ -9,14 +9,20 @@
 
 mod answering;
 mod groups;
+mod laws;
 mod links;
 mod reading;
 mod replies;
 pub mod reply_buf;
+pub mod served;
 mod serving;
 mod shape;
 mod values;
 mod watching;
 
+pub use laws::{
+    answers_have_one_text, commands_are_refused_by_their_rows, refused_commands_change_nothing,
+};
 pub use reply_buf::ReplyBuf;
+pub use served::Served;
 pub use serving::serve;

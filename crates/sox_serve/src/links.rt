@@ -5,13 +5,13 @@ ghost use Rattle.sox_serve.specs.Groups.{asked_of_links};
 ghost use Rattle.sox_serve.specs.Marks.{MarksByRow};
 ghost use Rattle.sox_serve.specs.Serves.{Gives, answer_over};
 
+use crate::Served;
 use crate::answering::reply_to;
 use crate::groups::LinkCommand;
 use crate::reply_buf::ReplyBuf;
 use link_prop::App;
-use link_table::LinkRec;
 use sed_engine::Engine;
-use sox_commands::Served;
+use sub_table::LinkRec;
 
 /// Does such a command.
 pub fn serve_links<E: Engine>(

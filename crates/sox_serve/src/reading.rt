@@ -3,13 +3,14 @@ ghost use Rattle.std.specs.Prelude.{◌≡◌, ◌≤◌, ℕ, ℤ, Some, IsTrue
 ghost use Rattle.comp_tree.specs.Edit.{part_bytes, schema_bytes};
 ghost use Rattle.comp_tree.specs.Values.{spelling_of};
 ghost use Rattle.link_prop.specs.Linked.{application_of};
-ghost use Rattle.sox_commands.specs.Replies.{reply_bytes};
+ghost use Rattle.sox_serve.specs.Replies.{reply_bytes};
 ghost use Rattle.sox_msg.specs.Answered as told;
 ghost use Rattle.sox_msg.specs.Command.{is_part, read_part as part_read, read_slot as slot_read};
 ghost use Rattle.sox_msg.specs.Command.{version as version_read, CanBeAsked};
 ghost use Rattle.sox_serve.specs.Groups.{asked_of_read};
 ghost use Rattle.sox_serve.specs.Serves.{Gives, answer_over};
 
+use crate::Served;
 use crate::answering::check_live;
 use crate::groups::ReadCommand;
 use crate::replies::{reply_part, reply_refused, reply_slot, reply_version};
@@ -18,7 +19,6 @@ use app_parts::{write_part, write_schema, write_value};
 use link_prop::App;
 use sed_engine::Engine;
 use sed_value::{Id, SlotBuf, Value};
-use sox_commands::Served;
 
 /// Does such a command.
 pub fn serve_read<E: Engine>(

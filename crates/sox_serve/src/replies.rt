@@ -1,6 +1,6 @@
 //! Replies of each kind.
 ghost use Rattle.std.specs.Prelude.{◌≡◌, ◌≤◌, Some, IsTrue, length};
-ghost use Rattle.sox_commands.specs.Replies.{reply_bytes};
+ghost use Rattle.sox_serve.specs.Replies.{reply_bytes};
 ghost use Rattle.sox_msg.specs.Answered as told;
 ghost use Rattle.sox_msg.specs.Command.{is_part};
 ghost use Rattle.sox_msg.specs.Reply.{is_plain};

@@ -1,6 +1,6 @@
 //! Where a reply is put.
 ghost use Rattle.std.specs.Prelude.{◌≡◌, ◌≤◌, [], Some, length};
-ghost use Rattle.sox_commands.specs.Replies.{reply_bytes};
+ghost use Rattle.sox_serve.specs.Replies.{reply_bytes};
 ghost use Rattle.sox_msg.specs.Answered.{answered_of};
 ghost use Rattle.sox_msg.specs.Reply.{MayReply, reply_text};
 

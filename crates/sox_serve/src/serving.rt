@@ -4,9 +4,9 @@ ghost use Rattle.sed_value.specs.declared.refusal.Refusal.{Refusal};
 ghost use Rattle.link_prop.specs.Linked.{application_of};
 ghost use Rattle.link_prop.specs.Marks.{Tells};
 ghost use Rattle.comp_tree.specs.Refusals.{first_refusal};
-ghost use Rattle.sox_commands.specs.Answer.{asks_for_save};
-ghost use Rattle.sox_commands.specs.Table.{refusals_of};
-ghost use Rattle.sox_commands.specs.Replies.{reply_bytes};
+ghost use Rattle.sox_serve.specs.Answer.{asks_for_save};
+ghost use Rattle.sox_serve.specs.Table.{refusals_of};
+ghost use Rattle.sox_serve.specs.Replies.{reply_bytes};
 ghost use Rattle.sox_msg.specs.Answered.{refused as refused_as};
 ghost use Rattle.sox_msg.specs.Command.{CanBeAsked};
 ghost use Rattle.sox_msg.specs.View.{asked_of};
@@ -21,9 +21,9 @@ use crate::reply_buf::ReplyBuf;
 use crate::shape::serve_shape;
 use crate::values::serve_values;
 use crate::watching::serve_watch;
+use crate::{Served, refused_commands_change_nothing};
 use link_prop::App;
 use sed_engine::Engine;
-use sox_commands::{Served, refused_commands_change_nothing};
 use sox_msg::Request;
 
 /// Does one request on an application, and puts its reply in the place of what there was. The callbacks and actions

@@ -5,6 +5,7 @@ ghost use Rattle.sox_serve.specs.Groups.{asked_of_shape};
 ghost use Rattle.sox_serve.specs.Marks.{MarksByRow};
 ghost use Rattle.sox_serve.specs.Serves.{Gives, Serves, answer_over};
 
+use crate::Served;
 use crate::answering::reply_to;
 use crate::groups::ShapeCommand;
 use crate::replies::{reply_added, reply_done, reply_refused};
@@ -12,7 +13,6 @@ use crate::reply_buf::ReplyBuf;
 use link_prop::App;
 use sed_engine::Engine;
 use sed_value::{Id, Refusal};
-use sox_commands::Served;
 
 /// Does such a command.
 pub fn serve_shape<E: Engine>(

@@ -6,6 +6,7 @@ ghost use Rattle.sox_serve.specs.Groups.{asked_of_values};
 ghost use Rattle.sox_serve.specs.Marks.{MarksByRow};
 ghost use Rattle.sox_serve.specs.Serves.{Gives, answer_over};
 
+use crate::Served;
 use crate::answering::reply_to;
 use crate::groups::ValueCommand;
 use crate::replies::reply_refused;
@@ -13,7 +14,6 @@ use crate::reply_buf::ReplyBuf;
 use link_prop::App;
 use sed_engine::Engine;
 use sed_value::Id;
-use sox_commands::Served;
 
 /// Does such a command.
 pub fn serve_values<E: Engine>(

@@ -4,6 +4,7 @@ ghost use Rattle.sox_msg.specs.Command.{subscribe as subscribed, unsubscribe as 
 ghost use Rattle.sox_serve.specs.Groups.{asked_of_watch};
 ghost use Rattle.sox_serve.specs.Serves.{Gives, answer_over};
 
+use crate::Served;
 use crate::answering::check_live;
 use crate::groups::WatchCommand;
 use crate::replies::{reply_done, reply_refused};
@@ -11,7 +12,6 @@ use crate::reply_buf::ReplyBuf;
 use link_prop::App;
 use sed_engine::Engine;
 use sed_value::Id;
-use sox_commands::Served;
 
 /// Does such a command.
 pub fn serve_watch<E: Engine>(

@@ -1,3 +1,9 @@
+pub mod Marked
+pub mod Link
+pub mod Links
+pub mod LinkRows
+pub mod Ends
+pub mod Marks
 pub mod Words
 pub mod Parts
 pub mod Holders

@@ -1,8 +1,7 @@
 //! Links and clocks in memory.
 use crate::told::{here, list, tell};
-use live_outside::{Clock, Link, MemClock, MemLink, Polled, Polling, Round, wake};
 use rows::{Case, CaseFault};
-use sed_outside::Addr;
+use sed_outside::{Addr, Clock, Link, MemClock, MemLink, Polled, Polling, Round, wake};
 use sed_value::Items;
 
 /// What calls of a link and of a clock answer, and what those tell then.

@@ -1,7 +1,7 @@
 //! A socket of 127.0.0.1, and the system's clock.
 use crate::told::{here, tell};
-use live_outside::{Clock, Link, Polled, RealClock, UdpLink};
 use rows::Case;
+use sed_outside::{Clock, Link, Polled, RealClock, UdpLink};
 use std::net::Net;
 use std::time;
 

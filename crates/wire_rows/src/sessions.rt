@@ -2,8 +2,7 @@
 ghost use Rattle.std.specs.Prelude.{◌≡◌, ◌<◌, length};
 
 use crate::told::{array, here, tell};
-use dasp_session::{Handed, Outbox, Sessions};
-use dasp_users::{Users, digest, is_same_digest, nonce};
+use dasp_session::{Handed, Outbox, Sessions, Users, digest, is_same_digest, nonce};
 use rows::{Case, CaseFault};
 use sed_outside::Addr;
 use std::alloc::Global;

@@ -1,6 +1,6 @@
 //! The two windows of a session: what is taken, and what is sent again.
 use crate::told::{array, outcome_of, tell};
-use dasp_window::{Due, Receiver, Sender};
+use dasp_msg::{Due, Receiver, Sender};
 use rows::{Case, CaseFault};
 use sha1::Sha1;
 

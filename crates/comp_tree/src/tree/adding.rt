@@ -13,12 +13,11 @@ ghost use Rattle.comp_tree.specs.Marks.{KeepsMarks, added_at, all_parts, marks_a
 ghost use Rattle.comp_tree.specs.Order.{least_free};
 ghost use Rattle.comp_tree.specs.Refusals.{config_types, first_refusal, refusals_of_add};
 ghost use Rattle.comp_tree.specs.Values.{taken};
-ghost use Rattle.prop_values.specs.Read.{refusal_of_values};
+ghost use Rattle.node_table.specs.Read.{refusal_of_values};
 
 use crate::joining::{kind_to_add, new_child};
 use crate::tree::Tree;
-use node_table::{Children, Marks, Node, Nodes, Parts};
-use prop_values::{config_refusal, store_config};
+use node_table::{Children, Marks, Node, Nodes, Parts, config_refusal, store_config};
 use sed_engine::{AddRefusal, Callback, Engine, Place};
 use sed_typed::TypeNo;
 use sed_value::{Id, Name, Refusal};

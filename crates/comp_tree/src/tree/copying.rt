@@ -1,6 +1,6 @@
 //! Values that are copied from property to property.
 ghost use Rattle.std.specs.Prelude.{◌≡◌, IsTrue};
-ghost use Rattle.link_table.specs.Link.{Link};
+ghost use Rattle.sub_table.specs.Link.{Link};
 ghost use Rattle.comp_tree.specs.Application.{type_at};
 ghost use Rattle.comp_tree.specs.Marks.{KeepsMarks, values_at};
 ghost use Rattle.comp_tree.specs.Links.{copy as copied, go_together_if_there, has_changed};

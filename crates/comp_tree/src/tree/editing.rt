@@ -15,8 +15,7 @@ ghost use Rattle.sed_engine.specs.declared.call.Root.TheVariants.{Action as Acti
 use crate::order::{new_order, reorder_node};
 use crate::siblings::{new_name, rename_node};
 use crate::tree::Tree;
-use node_table::Parts;
-use prop_values::{are_same, form_of, one_argument, one_value};
+use node_table::{Parts, are_same, form_of, one_argument, one_value};
 use sed_engine::{CallEnd, Callback, Engine, Root};
 use sed_typed::{SlotForm, SlotNo};
 use sed_value::{Id, Refusal, SlotBuf, SlotType, Value};

@@ -1,6 +1,6 @@
 //! An application with links from the start.
 ghost use Rattle.std.specs.Prelude.{◌≡◌, ◌≤◌, ℕ, true, IfOk, length};
-ghost use Rattle.link_table.specs.Links.{AreInOrder};
+ghost use Rattle.sub_table.specs.Links.{AreInOrder};
 ghost use Rattle.comp_tree.specs.Application.{most_links};
 ghost use Rattle.link_prop.specs.Linked.{AreLinked};
 ghost use Rattle.link_prop.specs.Marks.{is_marked};
@@ -8,11 +8,10 @@ ghost use Rattle.link_prop.specs.Marks.AppPart.{OfLinks};
 
 use crate::app::App;
 use comp_tree::Tree;
-use link_marks::LinkMarks;
-use link_table::{LinkRec, Links};
 use sed_engine::Engine;
 use sed_value::Memory;
 use std::alloc::Global;
+use sub_table::{LinkMarks, LinkRec, Links};
 
 impl<E: Engine> App<E> {
     ghost use Rattle.comp_tree.specs.Held.{components_of};

@@ -14,9 +14,9 @@ ghost use Rattle.link_prop.specs.Marks.{AppPart, KeepsAppMarks, added_at, has_ma
 ghost use Rattle.link_prop.specs.Marks.{no_marks, tree_at, values_at};
 
 use crate::app::App;
-use link_marks::LinkMarks;
 use sed_engine::{CallEnd, Callback, Engine};
 use sed_value::{Id, Refusal};
+use sub_table::LinkMarks;
 
 impl<E: Engine> App<E> {
     ghost use Rattle.comp_tree.specs.Held.{components_of};

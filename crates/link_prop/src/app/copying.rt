@@ -1,7 +1,7 @@
 //! Values that go along links.
 ghost use Rattle.std.specs.Prelude.{◌≡◌, ◌≤◌, ◌<◌, ◌+◌, ℕ, length};
 ghost use Rattle.std.specs.List.{All, fold};
-ghost use Rattle.link_table.specs.Link.{most_links};
+ghost use Rattle.sub_table.specs.Link.{most_links};
 ghost use Rattle.comp_tree.specs.Calls.{Counted, traps_of};
 ghost use Rattle.link_prop.specs.Linked.{one_if};
 ghost use Rattle.comp_tree.specs.Links.{copy_along, copy_into as copied_into};
@@ -12,9 +12,9 @@ ghost use Rattle.link_prop.specs.Marks.{KeepsAppMarks, no_links, values_at};
 
 use crate::app::App;
 use comp_tree::Tree;
-use link_table::LinkRec;
 use sed_engine::{CallEnd, Callback, Engine};
 use sed_value::Id;
+use sub_table::LinkRec;
 
 impl<E: Engine> App<E> {
     ghost use Rattle.comp_tree.specs.Held.{components_of};

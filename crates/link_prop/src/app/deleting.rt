@@ -1,7 +1,7 @@
 //! Components that go, and the links at them.
 ghost use Rattle.std.specs.Prelude.{◌≡◌, ◌<◌, ◌≤◌, All, OnOk, OnErr, MatchResult, Some, None};
-ghost use Rattle.link_table.specs.Links.{without_links_at};
-ghost use Rattle.link_table.specs.Marks.{AreMarked};
+ghost use Rattle.sub_table.specs.Links.{without_links_at};
+ghost use Rattle.sub_table.specs.Marks.{AreMarked};
 ghost use Rattle.comp_tree.specs.Application.{most_components};
 ghost use Rattle.comp_tree.specs.Edits.{after_delete};
 ghost use Rattle.comp_tree.specs.Order.{subtree as subtree_of};
@@ -11,10 +11,10 @@ ghost use Rattle.link_prop.specs.Marks.{KeepsAppMarks, links_with, tree_above};
 use crate::app::App;
 use crate::app::marking::mark_linked;
 use crate::ends::is_live;
-use link_table::laws::links_taken_out_are_gone;
 use sed_engine::Engine;
 use sed_value::limits::MOST_COMPONENTS;
 use sed_value::{Id, Refusal};
+use sub_table::laws::links_taken_out_are_gone;
 
 impl<E: Engine> App<E> {
     ghost use Rattle.comp_tree.specs.Held.{components_of};

@@ -1,7 +1,7 @@
 //! Links that come and go.
 ghost use Rattle.std.specs.Prelude.{◌≡◌, nat_le, OnOk, OnErr, MatchResult, Some, None, length};
 ghost use Rattle.std.specs.List.{list_any};
-ghost use Rattle.link_table.specs.Links.{has_target, is_same_link, links_at, with_link, without_link};
+ghost use Rattle.sub_table.specs.Links.{has_target, is_same_link, links_at, with_link, without_link};
 ghost use Rattle.comp_tree.specs.Application.{most_links_at_component};
 ghost use Rattle.comp_tree.specs.Held.{components_of};
 ghost use Rattle.comp_tree.specs.Refusals.{first_refusal, refusals_of_link, refusals_of_unlink};
@@ -12,11 +12,11 @@ use crate::app::App;
 use crate::app::marking::mark_ends;
 use crate::ends::{form_at, go_together, is_live, type_of};
 use comp_tree::Tree;
-use link_table::laws::{a_new_link_joins_the_others, links_taken_out_are_gone};
-use link_table::{LinkRec, Links};
 use sed_engine::Engine;
 use sed_value::limits::MOST_LINKS_AT_COMPONENT;
 use sed_value::{Id, Refusal};
+use sub_table::laws::{a_new_link_joins_the_others, links_taken_out_are_gone};
+use sub_table::{LinkRec, Links};
 
 impl<E: Engine> App<E> {
     ghost use Rattle.comp_tree.specs.Held.{components_of};

@@ -2,8 +2,8 @@
 ghost use Rattle.std.specs.Prelude.{◌≡◌, ◌==◌, ◌&&◌, ◌||◌, ◌<◌, ◌+◌, ◌/◌, ◌%◌, ℕ, List, false, IsSome, Some};
 ghost use Rattle.std.specs.Prelude.{if◌then◌else◌, length, slice_get};
 ghost use Rattle.std.specs.FinMap as map;
-ghost use Rattle.link_table.specs.Marks.{AreMarked, is_at_mark, is_marked as is_leaving};
-ghost use Rattle.link_marks.specs.Marked.{most_ids};
+ghost use Rattle.sub_table.specs.Marks.{AreMarked, is_at_mark, is_marked as is_leaving};
+ghost use Rattle.sub_table.specs.Marked.{most_ids};
 ghost use Rattle.comp_tree.specs.Application.{most_components};
 ghost use Rattle.comp_tree.specs.Held.{components_of};
 ghost use Rattle.link_prop.specs.Linked.{application_of};
@@ -11,10 +11,9 @@ ghost use Rattle.link_prop.specs.Marks.{AppPart, has_mark, is_in_mask, is_marked
 
 use crate::app::App;
 use comp_tree::Tree;
-use link_marks::LinkMarks;
-use link_table::{LinkRec, Links};
 use sed_engine::Engine;
 use sed_value::Id;
+use sub_table::{LinkMarks, LinkRec, Links};
 
 impl<E: Engine> App<E> {
     ghost use Rattle.comp_tree.specs.Held.{components_of};

@@ -1,5 +1,5 @@
 use Rattle.std.proofs.Common.{drop}
-use Rattle.prop_values.specs.Read.{types_in}
+use Rattle.node_table.specs.Read.{types_in}
 use Rattle.app_front.specs.ValueForm as form
 use Rattle.app_front.proofs.ValueRows.{LeftOf}
 use Rattle.app_front.proofs.values.values.Given as goal

@@ -3,7 +3,7 @@ use Rattle.std.specs.Prelude.{IfOk, OnOk}
 use Rattle.comp_tree.specs.Application.{ById, data_size_of}
 use Rattle.comp_tree.specs.Held.{components_of}
 use Rattle.comp_tree.specs.Loads.{AreToLoad, loaded}
-use Rattle.row_tree.specs.Reached.{StayWithin}
+use Rattle.app_front.specs.Reached.{StayWithin}
 use Rattle.app_reader.specs.Entries.{entries_of}
 use Rattle.app_reader.specs.Ready.{components_told, tree_with}
 use Rattle.app_reader.proofs.BuildLemmas.{are_to_load}

@@ -1,9 +1,9 @@
 use Rattle.std.proofs.Common.{◌≡◌, Err, sym, ap, subst, ◌∙◌}
 use Rattle.std.specs.Prelude.{None, Some}
-use Rattle.row_tree.specs.Rows.{Ascend}
+use Rattle.app_front.specs.TreeRows.{Ascend}
 use Rattle.app_file.specs.Limits.{first_passed}
-use Rattle.app_told.specs.FormedFile.{tree_rows}
-use Rattle.app_limits.specs.Passed.{passed_by}
+use Rattle.app_reader.specs.FormedFile.{tree_rows}
+use Rattle.app_reader.specs.Passed.{passed_by}
 use Rattle.app_reader.specs.Ready.{application_told, children_told}
 use Rattle.app_reader.specs.declared.ready.FormedRows.{FormedRows}
 use Rattle.app_reader.proofs.LimitLemmas.{passed_first}

@@ -2,8 +2,8 @@ use Rattle.std.proofs.Common.{◌≡◌, refl, sym, ap, subst, ◌∙◌}
 use Rattle.std.specs.Prelude.{IsSomeAnd}
 use Rattle.std.specs.FinMap as map
 use Rattle.sed_engine.specs.Code.{new_object}
-use Rattle.prop_values.specs.Properties.{config_types}
-use Rattle.prop_values.specs.Values.{AreOfTypes}
+use Rattle.node_table.specs.Properties.{config_types}
+use Rattle.node_table.specs.Values.{AreOfTypes}
 use Rattle.comp_tree.specs.Held.{IsPlaced}
 use Rattle.comp_tree.proofs.LoadLemmas.{one_by_id, one_placed}
 use Rattle.comp_tree.proofs.MapLemmas.{get_put}

@@ -1,6 +1,6 @@
 use Rattle.std.proofs.Common.{◌≡◌, ℤ, sym, ◌∙◌, subst, to_z-of_z}
-use Rattle.dasp_window.specs.declared.due.Due.TheVariants.{Spent}
-use Rattle.dasp_window.specs.Posted.{due_of}
+use Rattle.dasp_msg.specs.declared.due.Due.TheVariants.{Spent}
+use Rattle.dasp_msg.specs.Posted.{due_of}
 use Rattle.dasp_session.proofs.DueLemmas.{spent-true}
 use Rattle.dasp_session.proofs.ticking.has_spent.Goals as goal
 

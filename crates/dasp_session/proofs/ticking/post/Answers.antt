@@ -1,6 +1,6 @@
 use Rattle.std.proofs.Common.{ℕ, ℤ, refl, ◌∙◌, ap, subst, to_z-of_z}
-use Rattle.dasp_window.specs.Posted.{after_push}
-use Rattle.dasp_window.specs.Sending.{SendsLike}
+use Rattle.dasp_msg.specs.Posted.{after_push}
+use Rattle.dasp_msg.specs.Outgoing.{SendsLike}
 use Rattle.dasp_msg.specs.declared.kind.MsgKind.TheVariants.{Datagram}
 use Rattle.dasp_session.specs.Letters.{bare, with_acks, carrying}
 use Rattle.dasp_session.proofs.KeepLemmas.{like-posted, resend-sends}

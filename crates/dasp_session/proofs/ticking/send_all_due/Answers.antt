@@ -2,8 +2,8 @@ use Rattle.std.proofs.Common.{◌≡◌, ◌+◌, Bool, false, ℤ, length, refl
 use Rattle.std.specs.Prelude.{if◌then◌else◌}
 use Rattle.std.proofs.lemmas.List.Sums.{count_by-le-length}
 use Rattle.std.specs.List.{list_any}
-use Rattle.dasp_window.specs.declared.message.Message.{Message as Posted}
-use Rattle.dasp_window.specs.Posted.{is_spent}
+use Rattle.dasp_msg.specs.declared.outgoing.Message.{Message as Posted}
+use Rattle.dasp_msg.specs.Posted.{is_spent}
 use Rattle.dasp_session.specs.Doing.{Does, Resends}
 use Rattle.dasp_session.specs.Ticking.{sent_all}
 use Rattle.dasp_session.proofs.GoesLemmas.{goes-none, goes-more, goes-done}

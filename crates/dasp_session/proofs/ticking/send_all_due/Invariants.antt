@@ -1,7 +1,7 @@
 use Rattle.std.proofs.Common.{◌≡◌, ◌≤◌, ◌+◌, true, false, length}
 use Rattle.std.specs.Prelude.{count_by}
 use Rattle.std.specs.List.{list_any}
-use Rattle.dasp_window.specs.Posted.{is_due, is_spent}
+use Rattle.dasp_msg.specs.Posted.{is_due, is_spent}
 use Rattle.dasp_session.specs.Doing.{Goes}
 use Rattle.dasp_session.specs.Keeping.{Like}
 use Rattle.dasp_session.specs.Session.{Session}

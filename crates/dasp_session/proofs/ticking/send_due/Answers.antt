@@ -1,8 +1,8 @@
 use Rattle.std.proofs.Common.{◌≡◌, ◌<◌, ℤ, [], ◌∷◌, length, refl, sym, ◌∙◌, ap, subst, arith, to_z-of_z}
-use Rattle.dasp_window.specs.declared.message.Message.{Message as Posted}
-use Rattle.dasp_window.specs.declared.due.Due.TheVariants.{Resend}
-use Rattle.dasp_window.specs.Posted.{open_part, due_from, due_of, after_resend}
-use Rattle.dasp_window.specs.Sending.{SendsLike}
+use Rattle.dasp_msg.specs.declared.outgoing.Message.{Message as Posted}
+use Rattle.dasp_msg.specs.declared.due.Due.TheVariants.{Resend}
+use Rattle.dasp_msg.specs.Posted.{open_part, due_from, due_of, after_resend}
+use Rattle.dasp_msg.specs.Outgoing.{SendsLike}
 use Rattle.dasp_session.specs.Letters.{datagram}
 use Rattle.dasp_session.proofs.DueLemmas.{due-some, Once, once, after_one, Rests, rests}
 use Rattle.dasp_session.proofs.KeepLemmas.{like-posted, resend-sends}

@@ -1,7 +1,7 @@
 use Rattle.std.proofs.Common.{◌≡◌, ℤ, Bool, true, false, not, [], ◌∷◌, refl, sym, ◌∙◌, ap, subst, to_z-of_z}
 use Rattle.std.specs.List.{list_any}
 use Rattle.std.proofs.lemmas.Bool.{or_parts}
-use Rattle.dasp_window.specs.Posted.{is_spent}
+use Rattle.dasp_msg.specs.Posted.{is_spent}
 use Rattle.dasp_msg.specs.Shown.{Message}
 use Rattle.dasp_session.specs.Doing.{Does}
 use Rattle.dasp_session.specs.Outbox.{Sends}

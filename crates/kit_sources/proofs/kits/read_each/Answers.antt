@@ -1,7 +1,7 @@
 use Rattle.std.proofs.Common.{◌≡◌, ℕ, Ok, Err, get_or, length, sym, subst}
 use Rattle.std.specs.Prelude.{All}
 use Rattle.std.proofs.lemmas.List.{get_or_default}
-use Rattle.file_steps.proofs.Rows.{row_goes, row_stops}
+use Rattle.sed_outside.proofs.Rows.{row_goes, row_stops}
 use Rattle.sed_classes.specs.declared.kit_units.KitUnits.{KitUnits}
 use Rattle.kit_sources.specs.Refusals.{is_want}
 use Rattle.kit_sources.specs.Sources.{KitRead, manifest_at}

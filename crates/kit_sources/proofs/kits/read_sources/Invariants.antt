@@ -1,7 +1,7 @@
 use Rattle.std.proofs.Common.{take, Ok}
 use Rattle.std.specs.Prelude.{All}
-use Rattle.file_steps.specs.Steps.{Each}
-use Rattle.file_steps.specs.Reads.{HasReads}
+use Rattle.sed_outside.specs.Steps.{Each}
+use Rattle.sed_outside.specs.Reads.{HasReads}
 use Rattle.kit_sources.specs.Sources.{SourceRead}
 use Rattle.kit_sources.specs.Text.{IsOfBytes}
 use Rattle.kit_sources.proofs.kits.read_sources.Given as goal

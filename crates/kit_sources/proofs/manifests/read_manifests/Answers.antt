@@ -1,4 +1,4 @@
-use Rattle.file_steps.proofs.Rows.{row_goes, row_stops}
+use Rattle.sed_outside.proofs.Rows.{row_goes, row_stops}
 use Rattle.kit_sources.specs.Refusals.{is_want}
 use Rattle.kit_sources.specs.Sources.{ManifestRead, names_of}
 use Rattle.kit_sources.proofs.Loops.{named, named_within, row_wanted}

@@ -1,6 +1,6 @@
 use Rattle.std.proofs.Common.{take, Ok}
-use Rattle.file_steps.specs.Steps.{Each}
-use Rattle.file_steps.specs.Reads.{HasReads}
+use Rattle.sed_outside.specs.Steps.{Each}
+use Rattle.sed_outside.specs.Reads.{HasReads}
 use Rattle.kit_sources.specs.Sources.{ManifestRead, names_of}
 use Rattle.kit_sources.proofs.manifests.read_manifests.Given as goal
 

@@ -1,7 +1,7 @@
 use Rattle.std.proofs.Common.{rules}
 use Rattle.std.proofs.lemmas.Option.{slice_get-get_or}
 use Rattle.comp_tree.specs.Held.{components_of}
-use Rattle.printed_text.proofs.Sequence.{all_put, one_fails, one_more}
+use Rattle.printed_app.proofs.Sequence.{all_put, one_fails, one_more}
 use Rattle.printed_app.specs.Application.{component_text}
 use Rattle.printed_app.proofs.application.put_each.Goals as goal
 

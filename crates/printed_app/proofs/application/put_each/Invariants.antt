@@ -1,7 +1,7 @@
 use Rattle.std.proofs.Common.{Ok, take}
 use Rattle.std.specs.List.{flat_map}
 use Rattle.comp_tree.specs.Held.{components_of}
-use Rattle.printed_text.specs.Puts.{Puts}
+use Rattle.printed_app.specs.Puts.{Puts}
 use Rattle.printed_app.specs.Application.{component_text}
 use Rattle.printed_app.proofs.application.put_each.Given as goal
 

@@ -3,7 +3,7 @@ use Rattle.std.specs.Prelude.{option_copied, slice_get}
 use Rattle.std.specs.Option.{option_map_or}
 use Rattle.sed_typed.specs.declared.schema.ClassInfo.{ClassInfo}
 use Rattle.sed_typed.specs.declared.schema.Schema.{Schema}
-use Rattle.printed_text.proofs.Sequence.{nothing, text_is}
+use Rattle.printed_app.proofs.Sequence.{nothing, text_is}
 use Rattle.printed_app.specs.Application.{kit_name}
 use Rattle.printed_app.proofs.component.put_class.Goals as goal
 

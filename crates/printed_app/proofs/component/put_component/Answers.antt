@@ -1,5 +1,5 @@
 use Rattle.comp_tree.specs.Held.{components_of}
-use Rattle.printed_text.proofs.Sequence.{stops, text_is, then_put}
+use Rattle.printed_app.proofs.Sequence.{stops, text_is, then_put}
 use Rattle.printed_app.proofs.Entries.{text_of_entry}
 use Rattle.printed_app.proofs.component.put_component.Goals as goal
 

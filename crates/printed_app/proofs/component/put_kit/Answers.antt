@@ -2,7 +2,7 @@ use Rattle.std.proofs.Common.{ℕ, List, [], Option, ap, sym, ◌∙◌}
 use Rattle.std.specs.Option.{option_map_or}
 use Rattle.sed_value.specs.declared.kit.KitRef.{KitRef}
 use Rattle.sed_typed.specs.declared.schema.Schema.{Schema}
-use Rattle.printed_text.proofs.Sequence.{nothing, text_is}
+use Rattle.printed_app.proofs.Sequence.{nothing, text_is}
 use Rattle.printed_app.proofs.Missing.{none_past}
 use Rattle.printed_app.proofs.component.put_kit.Goals as goal
 

@@ -1,4 +1,4 @@
-use Rattle.printed_text.proofs.Sequence.{stops, then_put}
+use Rattle.printed_app.proofs.Sequence.{stops, then_put}
 use Rattle.printed_app.proofs.links.put_end.Goals as goal
 
 pub returns-in_err-put_number : goal.returns-in_err-put_number

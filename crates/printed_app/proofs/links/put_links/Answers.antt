@@ -1,6 +1,6 @@
 use Rattle.std.proofs.Common.{rules, sym}
 use Rattle.printed_app.specs.Application.{link_line}
-use Rattle.printed_text.proofs.Sequence.{all_put, one_fails, one_more}
+use Rattle.printed_app.proofs.Sequence.{all_put, one_fails, one_more}
 use Rattle.printed_app.proofs.links.put_links.Goals as goal
 
 pub loop-n-preserved : goal.loop-n-preserved

@@ -1,6 +1,6 @@
 use Rattle.std.proofs.Common.{Ok, take}
 use Rattle.std.specs.List.{flat_map}
-use Rattle.printed_text.specs.Puts.{Puts}
+use Rattle.printed_app.specs.Puts.{Puts}
 use Rattle.printed_app.specs.Application.{link_line}
 use Rattle.printed_app.proofs.links.put_links.Given as goal
 

@@ -1,6 +1,6 @@
 use Rattle.std.proofs.Common.{arith, sym}
 use Rattle.comp_tree.specs.Held.{components_of}
-use Rattle.printed_text.proofs.Sequence.{text_is, then_put}
+use Rattle.printed_app.proofs.Sequence.{text_is, then_put}
 use Rattle.printed_app.proofs.Paths.{step}
 use Rattle.printed_app.proofs.path.put_step.Goals as goal
 

@@ -1,7 +1,7 @@
 use Rattle.std.proofs.Common.{rules}
 use Rattle.std.specs.List.{enumerate_from}
 use Rattle.comp_tree.specs.Held.{components_of}
-use Rattle.printed_text.proofs.Sequence.{all_put, one_fails, one_more, placed, placed_all}
+use Rattle.printed_app.proofs.Sequence.{all_put, one_fails, one_more, placed, placed_all}
 use Rattle.printed_app.specs.Application.{slot_line}
 use Rattle.printed_app.proofs.properties.put_slots.Goals as goal
 

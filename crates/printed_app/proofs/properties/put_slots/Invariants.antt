@@ -1,7 +1,7 @@
 use Rattle.std.proofs.Common.{Ok, take}
 use Rattle.std.specs.List.{enumerate_from, flat_map}
 use Rattle.comp_tree.specs.Held.{components_of}
-use Rattle.printed_text.specs.Puts.{Puts}
+use Rattle.printed_app.specs.Puts.{Puts}
 use Rattle.printed_app.specs.Application.{slot_line}
 use Rattle.printed_app.proofs.properties.put_slots.Given as goal
 

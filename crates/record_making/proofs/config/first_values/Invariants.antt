@@ -1,6 +1,6 @@
 use Rattle.std.proofs.Common.{◌≡◌, take, map}
 use Rattle.sed_engine.specs.Code.{new_object, slot_value}
-use Rattle.prop_values.specs.Values.{spelling_of_all}
+use Rattle.node_table.specs.Values.{spelling_of_all}
 use Rattle.record_making.proofs.config.first_values.Given as goal
 
 abbrev pub invariant-loop-slot : goal.invariant-loop-slot

@@ -1,7 +1,7 @@
 use Rattle.std.proofs.Common.{◌∙◌, ℕ, Option, Ok, ap}
-use Rattle.scode_machine.specs.AtWork.{running_on}
-use Rattle.scode_machine.specs.Root.{rooted}
-use Rattle.scode_machine.specs.RootCall.{question_of}
+use Rattle.scode_engine.specs.AtWork.{running_on}
+use Rattle.scode_engine.specs.Root.{rooted}
+use Rattle.scode_engine.specs.RootCall.{question_of}
 use Rattle.scode_engine.proofs.Answering.{answered_by_none, method_found}
 use Rattle.scode_engine.proofs.calls.answer.Goals as goal
 

@@ -5,8 +5,8 @@ use Rattle.std.proofs.lemmas.Bool.{lt-ltb}
 use Rattle.std.proofs.lemmas.Int.{to_z-of_z}
 use Rattle.sed_engine.specs.Code.{Object, called, root_of}
 use Rattle.scode_code.specs.Image.{meaning_of}
-use Rattle.scode_machine.specs.AtWork.{running_on}
-use Rattle.scode_objects.specs.Loaded.{live_of, statics_of}
+use Rattle.scode_engine.specs.AtWork.{running_on}
+use Rattle.scode_engine.specs.Loaded.{live_of, statics_of}
 use Rattle.scode_engine.specs.Answered.{IsAnswered, IsReady}
 use Rattle.scode_engine.proofs.Asking.{is_ready, its_block, its_end, its_left, its_may, its_object, own, root_at, said}
 use Rattle.scode_engine.proofs.calls.call.Goals as goal

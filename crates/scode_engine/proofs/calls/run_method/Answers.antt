@@ -1,6 +1,6 @@
-use Rattle.scode_machine.specs.AtWork.{running_on}
-use Rattle.scode_machine.specs.Root.{rooted}
-use Rattle.scode_machine.specs.RootCall.{question_of}
+use Rattle.scode_engine.specs.AtWork.{running_on}
+use Rattle.scode_engine.specs.Root.{rooted}
+use Rattle.scode_engine.specs.RootCall.{question_of}
 use Rattle.scode_engine.proofs.Answering.{answered_by, argument_found, may_begin}
 use Rattle.scode_engine.proofs.calls.run_method.Goals as goal
 

@@ -1,6 +1,6 @@
 use Rattle.sed_program.specs.Methods.{methods_of}
 use Rattle.sed_terms.specs.Faults.{all_faults}
-use Rattle.sed_sound_bodies.specs.Bodies.{context_in}
+use Rattle.sed_body_laws.specs.Bodies.{context_in}
 use Rattle.sed_check.proofs.Bodying.{have_bodies}
 use Rattle.sed_check.proofs.Emptying.{empty_stays}
 use Rattle.sed_check.proofs.Faultless.{none_declared, unbroken}

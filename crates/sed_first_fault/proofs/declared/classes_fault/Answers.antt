@@ -1,6 +1,6 @@
 use Rattle.std.proofs.Common.{◌<◌, ◌≤◌, length, ◌∙◌, arith}
 use Rattle.sed_classes.specs.LimitRules.{statics_before}
-use Rattle.sed_objects.specs.Rounds.{capped}
+use Rattle.sed_outline.specs.Rounds.{capped}
 use Rattle.sed_first_fault.proofs.Loops.{declared_end, declared_next, row_end, row_item}
 use Rattle.sed_first_fault.proofs.declared.classes_fault.Goals as goal
 

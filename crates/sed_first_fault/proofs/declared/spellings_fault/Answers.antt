@@ -3,7 +3,7 @@ use Rattle.std.specs.List.{flat_map}
 use Rattle.sed_faults.specs.Faults.{least}
 use Rattle.sed_classes.specs.Faults.{first_of}
 use Rattle.sed_classes.specs.Members.{members_of}
-use Rattle.sed_nodes.specs.Nodes.{spelled_faults}
+use Rattle.sed_first_fault.specs.Nodes.{spelled_faults}
 use Rattle.sed_first_fault.specs.Parts.{spelled_at}
 use Rattle.sed_first_fault.proofs.Loops.{row_end, row_item, spelled_begin, spelled_end, spelled_next}
 use Rattle.sed_first_fault.proofs.declared.spellings_fault.Goals as goal

@@ -2,8 +2,8 @@ use Rattle.std.proofs.Common.{◌≡◌, ◌<◌, ℕ, List, [], ◌∷◌, leng
 use Rattle.std.specs.Prelude.{map, slice_index_or}
 use Rattle.std.proofs.lemmas.List.{map-append, take_more}
 use Rattle.std.proofs.Math.Seq.{take-length}
-use Rattle.live_outside.specs.declared.offer.Offer.{Offer}
-use Rattle.live_outside.specs.Told.{AddsWhereTold}
+use Rattle.sed_outside.specs.declared.offer.Offer.{Offer}
+use Rattle.sed_outside.specs.Told.{AddsWhereTold}
 use Rattle.dasp_session.specs.Outbox.{Datagram}
 use Rattle.sed_node.specs.Living.{offered_at}
 use Rattle.sed_node.proofs.Lines.{nothing}

@@ -1,6 +1,6 @@
 use Rattle.std.proofs.Common.{◌≡◌, ◌≤◌, length, take}
 use Rattle.std.specs.Prelude.{map}
-use Rattle.live_outside.specs.Told.{AddsWhereTold}
+use Rattle.sed_outside.specs.Told.{AddsWhereTold}
 use Rattle.sed_node.specs.Living.{offered_at}
 use Rattle.sed_node.proofs.living.offer_all.Given as goal
 

@@ -1,6 +1,6 @@
 use Rattle.std.proofs.Common.{◌≡◌, take}
 use Rattle.std.specs.List.{sum_by}
-use Rattle.sed_objects.specs.Rounds.{item}
+use Rattle.sed_outline.specs.Rounds.{item}
 use Rattle.sed_program.proofs.parts.sum_over.Given as goal
 
 -- the classes so far

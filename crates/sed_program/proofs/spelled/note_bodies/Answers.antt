@@ -4,8 +4,8 @@ use Rattle.sed_faults.specs.Faults.{least}
 use Rattle.sed_classes.specs.Bodies.{texts_of}
 use Rattle.sed_classes.specs.Declarations.{all_classes}
 use Rattle.sed_classes.specs.Members.{members_of}
-use Rattle.sed_nodes.specs.Nodes.{spelled_faults}
-use Rattle.sed_nodes.specs.Texts.{with_literals}
+use Rattle.sed_first_fault.specs.Nodes.{spelled_faults}
+use Rattle.sed_first_fault.specs.Texts.{with_literals}
 use Rattle.sed_program.proofs.Rows.{row_step}
 use Rattle.sed_program.proofs.Spellings.{class_step}
 use Rattle.sed_program.proofs.spelled.note_bodies.Goals as goal

@@ -2,8 +2,8 @@ use Rattle.std.proofs.Common.{◌≡◌, take}
 use Rattle.std.specs.List.{flat_map}
 use Rattle.sed_faults.specs.Faults.{least, lesser}
 use Rattle.sed_classes.specs.Bodies.{texts_of}
-use Rattle.sed_nodes.specs.Nodes.{spelled_faults}
-use Rattle.sed_nodes.specs.Texts.{with_literals}
+use Rattle.sed_first_fault.specs.Nodes.{spelled_faults}
+use Rattle.sed_first_fault.specs.Texts.{with_literals}
 use Rattle.sed_program.proofs.spelled.note_members.Given as goal
 
 -- the members so far

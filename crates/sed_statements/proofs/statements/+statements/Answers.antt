@@ -1,9 +1,9 @@
 use Rattle.std.proofs.Common.{[], ◌∷◌, ap, ◌∙◌, arith}
 use Rattle.sed_units.specs.StatementTree.{first_tree}
 use Rattle.sed_units.specs.Tree.{row}
-use Rattle.sed_scope.specs.Scope.{Scope, past, behind}
+use Rattle.sed_body_rules.specs.Scope.{Scope, past, behind}
 use Rattle.sed_statements.proofs.Kept.{whatever_comes}
-use Rattle.sed_statements.proofs.Rows.{row_falls}
+use Rattle.sed_statements.proofs.StatementRows.{row_falls}
 use Rattle.sed_statements.proofs.statements.+statements.Goals as goal
 
 -- an item of a row is smaller than the row

@@ -3,7 +3,7 @@ use Rattle.sed_units.specs.Tree.{row, tree_size}
 use Rattle.sed_terms.specs.declared.judged.Judged.TheVariants.{Sound}
 use Rattle.sed_terms.specs.Faults.{least_fault}
 use Rattle.sed_terms.specs.Term.{Absent}
-use Rattle.sed_scope.specs.Scope.{behind_all, behind_cases}
+use Rattle.sed_body_rules.specs.Scope.{behind_all, behind_cases}
 use Rattle.sed_statements.specs.Statements.{judge_stmts, judge_cases}
 use Rattle.sed_statements.proofs.statements.+statements.Given as goal
 

@@ -1,7 +1,7 @@
 use Rattle.std.proofs.Common.{ℕ, List, Err, ap, subst, ◌∙◌}
-use Rattle.file_steps.specs.Steps.{UnlessFree}
-use Rattle.file_steps.specs.Reads.{HasReads}
-use Rattle.file_steps.proofs.Joining.{no_reads}
+use Rattle.sed_outside.specs.Steps.{UnlessFree}
+use Rattle.sed_outside.specs.Reads.{HasReads}
+use Rattle.sed_outside.proofs.Joining.{no_reads}
 use Rattle.sedona_cli.specs.declared.refusal.Refusal.TheVariants.{Memory}
 use Rattle.sedona_words.specs.Command.{names_within, texts}
 use Rattle.sedona_cli.specs.Outside.{of_reads}

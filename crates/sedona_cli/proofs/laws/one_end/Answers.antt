@@ -1,5 +1,5 @@
 use Rattle.std.proofs.Common.{ℕ, List}
-use Rattle.sed_kits.specs.Loading.{KitsLoaded, TextLoaded}
+use Rattle.sed_check.specs.Loading.{KitsLoaded, TextLoaded}
 use Rattle.sedona_cli.specs.New.{most_data}
 use Rattle.sedona_cli.proofs.Comings.{OneEnds, one_comes}
 use Rattle.sedona_cli.proofs.Generated.{RefusedAlike, generates_one}

@@ -1,7 +1,7 @@
 use Rattle.std.proofs.Common.{◌≡◌, ℕ, ℤ, true, false, ap, inr, IsErr, FitsSigned, of_z, to_z, w64, refl, rules, subst, sym}
 use Rattle.std.specs.Prelude.{IfSome, is_ok}
 use Rattle.std.proofs.lemmas.Int.{to_z-of_z}
-use Rattle.live_outside.specs.Clock.{next_moment}
+use Rattle.sed_outside.specs.Clock.{next_moment}
 use Rattle.app_save.specs.Saving.{AllStores}
 use Rattle.sedona_words.specs.Asked.{asked_run}
 use Rattle.sedona_cli.specs.Run.{unbound, unready}

@@ -3,7 +3,7 @@ use Rattle.sed_typed.specs.declared.program.Program.{Program}
 use Rattle.scode_gen.specs.Generated.{IsFirstTooLong}
 use Rattle.scode_compile.specs.declared.refusal.CompileRefusal.{CompileRefusal}
 use Rattle.scode_compile.specs.declared.refusal.CompileRefusal.TheVariants as compile
-use Rattle.file_steps.specs.Steps.{UnlessFree}
+use Rattle.sed_outside.specs.Steps.{UnlessFree}
 use Rattle.sedona_cli.specs.declared.refusal.Refusal.{Refusal}
 use Rattle.sedona_cli.specs.Refusals.{is_want, of_compiling}
 use Rattle.sedona_cli.specs.Steps.{IsGenerated}

@@ -1,4 +1,4 @@
-use Rattle.sed_kits.specs.Loading.{KitsLoaded}
+use Rattle.sed_check.specs.Loading.{KitsLoaded}
 use Rattle.sedona_words.specs.Command.{texts}
 use Rattle.sedona_cli.proofs.Building.{is_compiled, not_loaded}
 use Rattle.sedona_cli.proofs.loading.kits_program.Goals as goal

@@ -1,4 +1,4 @@
-use Rattle.sed_kits.specs.Loading.{TextLoaded}
+use Rattle.sed_check.specs.Loading.{TextLoaded}
 use Rattle.sedona_cli.proofs.Building.{is_compiled, not_loaded}
 use Rattle.sedona_cli.proofs.loading.text_program.Goals as goal
 

@@ -1,8 +1,8 @@
 use Rattle.std.proofs.Common.{◌≤◌, ℕ, List, Result, subst, ◌∙◌, arith}
 use Rattle.app_save.specs.Store.{Opens}
-use Rattle.file_steps.specs.Steps.{AndThen}
+use Rattle.sed_outside.specs.Steps.{AndThen}
 use Rattle.sed_engine.specs.Program.{meaning_of}
-use Rattle.new_store.specs.Alone.{data_alone}
+use Rattle.app_writer.specs.Alone.{data_alone}
 use Rattle.sedona_cli.specs.declared.refusal.Refusal.{Refusal}
 use Rattle.sedona_cli.specs.New.{most_data}
 use Rattle.sedona_cli.specs.Outside.{AsksDisk}

@@ -3,7 +3,7 @@ use Rattle.sed_typed.specs.declared.program.Program.{Program}
 use Rattle.sed_engine.specs.Code.{Meaning}
 use Rattle.sed_engine.specs.Program.{meaning_of}
 use Rattle.scode_engine.specs.contracts.machine.MachineEngine.TheImpl as machine
-use Rattle.new_store.specs.Alone.{text_alone}
+use Rattle.app_writer.specs.Alone.{text_alone}
 use Rattle.sedona_cli.specs.declared.refusal.Refusal.{Refusal}
 use Rattle.sedona_cli.specs.declared.refusal.Refusal.TheVariants.{SlotTooSmall}
 use Rattle.sedona_cli.specs.New.{most_data, text_of}

@@ -1,6 +1,6 @@
 use Rattle.std.proofs.Common.{ℕ, List, Result, Err, Some, ap, subst, ◌∙◌}
-use Rattle.file_steps.specs.Steps.{UnlessFree}
-use Rattle.file_steps.specs.Reads.{HasReads}
+use Rattle.sed_outside.specs.Steps.{UnlessFree}
+use Rattle.sed_outside.specs.Reads.{HasReads}
 use Rattle.sed_typed.specs.declared.program.Program.{Program}
 use Rattle.sedona_cli.specs.declared.refusal.Refusal.{Refusal}
 use Rattle.sedona_words.specs.Command.{Show, texts}

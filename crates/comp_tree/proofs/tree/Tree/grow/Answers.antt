@@ -7,7 +7,7 @@ use Rattle.comp_tree.specs.Application.{with_components}
 use Rattle.comp_tree.specs.Edits.{added}
 use Rattle.comp_tree.specs.Held.{Held, IsHeld, by_id_of, components_of}
 use Rattle.comp_tree.specs.Order.{least_free}
-use Rattle.prop_values.specs.Read.{refusal_of_values}
+use Rattle.node_table.specs.Read.{refusal_of_values}
 use Rattle.comp_tree.specs.Refusals.{config_types}
 use Rattle.comp_tree.specs.Values.{taken}
 use Rattle.comp_tree.proofs.AddLemmas.{few_children, free_pushed, grown_held, grown_is, grown_live, least_is, len_same, live_two}

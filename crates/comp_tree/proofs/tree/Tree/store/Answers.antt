@@ -4,7 +4,7 @@ use Rattle.std.specs.FinMap as map
 use Rattle.sed_engine.specs.Code.{may_store}
 use Rattle.comp_tree.specs.Held.{Held, by_id_of, components_of}
 use Rattle.comp_tree.specs.Links.{has_changed, store}
-use Rattle.prop_values.specs.Same.{is_same_value}
+use Rattle.node_table.specs.Same.{is_same_value}
 use Rattle.comp_tree.proofs.EditLemmas.{change_is, none_there, placed_store, property_here, reads_again, store_is}
 use Rattle.comp_tree.proofs.RunLemmas.{may_here}
 use Rattle.comp_tree.proofs.TreeLemmas.{no_component}

@@ -1,6 +1,6 @@
 use Rattle.std.proofs.Common.{ℕ, Bool, cond, List, ◌∙◌, ap}
 use Rattle.std.specs.Prelude.{Some, None}
-use Rattle.dasp_window.specs.TakenIndexes.{is_ahead}
+use Rattle.dasp_msg.specs.TakenIndexes.{is_ahead}
 use Rattle.dasp_session.proofs.AckLemmas.{bytes-above}
 use Rattle.dasp_session.proofs.letters.Acks.of.Goals as goal
 

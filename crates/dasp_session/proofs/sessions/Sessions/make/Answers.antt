@@ -9,7 +9,7 @@ use Rattle.std.proofs.lemmas.Bool.{cond-false}
 use Rattle.std.proofs.lemmas.Iterator.Adapters.{position_from-zero}
 use Rattle.std.proofs.lemmas.List.Quantifiers.{position-Some}
 use Rattle.sed_outside.specs.declared.addr.Addr.{Addr}
-use Rattle.dasp_users.specs.Digest.{nonce_of}
+use Rattle.dasp_session.specs.Digest.{nonce_of}
 use Rattle.dasp_msg.specs.Shown.{Message}
 use Rattle.dasp_session.specs.declared.sessions.Sessions.{Sessions}
 use Rattle.dasp_session.specs.Closing.{too_many}

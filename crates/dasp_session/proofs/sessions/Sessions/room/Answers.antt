@@ -1,7 +1,7 @@
 use Rattle.std.proofs.Common.{◌≡◌, ℕ, Bool, true, false, length, get_or, sym, ◌∙◌, ap, subst}
 use Rattle.std.specs.Prelude.{Option, is_some, ◌&&◌, nat_lt}
 use Rattle.std.specs.Option.{option_map_or}
-use Rattle.dasp_window.specs.Posted.{has_room}
+use Rattle.dasp_msg.specs.Posted.{has_room}
 use Rattle.dasp_session.specs.declared.place.Place.{Place}
 use Rattle.dasp_session.specs.Looking.{session_at}
 use Rattle.dasp_session.specs.Keeping.{Holds}

@@ -2,7 +2,7 @@ use Rattle.std.proofs.Common.{◌≡◌, ◌<◌, ◌+◌, ◌%◌, ℕ, ℤ, Bo
 use Rattle.std.specs.Prelude.{Option, Some, is_some, ◌&&◌, nat_lt, slice_get}
 use Rattle.std.specs.Option.{option_map_or}
 use Rattle.std.proofs.lemmas.List.{get_or_default}
-use Rattle.dasp_users.specs.declared.user.User.{User}
+use Rattle.dasp_session.specs.declared.user.User.{User}
 use Rattle.dasp_msg.specs.View.{message_of}
 use Rattle.dasp_session.specs.declared.handed.Handed.TheVariants.{Nothing}
 use Rattle.dasp_session.specs.declared.place.Place.{Place}

@@ -1,6 +1,6 @@
 use Rattle.std.proofs.Common.{ℕ, ◌≡◌, ◌≤◌, length, List, sym, ap, subst, w64, to_z, of_z, arith}
 use Rattle.std.specs.List.{All}
-use Rattle.link_table.specs.Link.{Link, most_links}
+use Rattle.sub_table.specs.Link.{Link, most_links}
 use Rattle.comp_tree.specs.Calls.{Counted}
 use Rattle.comp_tree.specs.Held.{components_of}
 use Rattle.comp_tree.specs.Whole.{IsLink}

@@ -4,7 +4,7 @@ use Rattle.link_prop.specs.Linked.{Linked}
 use Rattle.link_prop.specs.Marks.{KeepsAppMarks, links_with, tree_above}
 use Rattle.link_prop.proofs.AppMarks.{keeps_app}
 use Rattle.link_prop.proofs.LinkParts.{part_without_links}
-use Rattle.link_table.specs.Marks.{AreMarked}
+use Rattle.sub_table.specs.Marks.{AreMarked}
 use Rattle.comp_tree.specs.Held.{components_of}
 use Rattle.comp_tree.specs.Order.{subtree}
 use Rattle.link_prop.proofs.DeletedLinks.{linked_after_delete}

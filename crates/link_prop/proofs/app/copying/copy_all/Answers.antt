@@ -1,6 +1,6 @@
 use Rattle.std.proofs.Common.{ℕ, ◌+◌, sym, ◌∙◌, ap, subst, w64, to_z, of_z}
 use Rattle.sed_engine.specs.Code.{Meaning}
-use Rattle.link_table.specs.Link.{Link}
+use Rattle.sub_table.specs.Link.{Link}
 use Rattle.comp_tree.specs.Held.{components_of}
 use Rattle.comp_tree.specs.Links.{copy_along}
 use Rattle.comp_tree.specs.Whole.{IsLink}

@@ -6,7 +6,7 @@ use Rattle.comp_tree.specs.Marks.{KeepsMarks, values_at}
 use Rattle.link_prop.proofs.AlikeComponents.{alike_run, class_at}
 use Rattle.link_prop.proofs.CopiedMarks.{keeps_more}
 use Rattle.std.specs.Prelude.{IsTrue}
-use Rattle.link_table.specs.Link.{Link}
+use Rattle.sub_table.specs.Link.{Link}
 use Rattle.comp_tree.specs.Application.{Components, is_live}
 use Rattle.comp_tree.specs.Held.{components_of}
 use Rattle.comp_tree.specs.Whole.{IsLink}

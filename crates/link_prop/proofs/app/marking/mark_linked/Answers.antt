@@ -3,8 +3,8 @@ use Rattle.std.specs.Prelude.{List, ◌||◌, ◌&&◌}
 use Rattle.std.specs.List.{list_any}
 use Rattle.std.proofs.lemmas.List.Folds.{list_any_more}
 use Rattle.std.proofs.lemmas.Option.{get_or_from_slice_get}
-use Rattle.link_table.specs.Link.{Link}
-use Rattle.link_table.specs.Marks.{is_at_mark}
+use Rattle.sub_table.specs.Link.{Link}
+use Rattle.sub_table.specs.Marks.{is_at_mark}
 use Rattle.link_prop.specs.Marks.{has_mark, links_at_ends}
 use Rattle.link_prop.proofs.LinkParts.{links_marked, or_more, take_all}
 use Rattle.link_prop.proofs.app.marking.mark_linked.Goals as goal

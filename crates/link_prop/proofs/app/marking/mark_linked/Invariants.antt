@@ -1,8 +1,8 @@
 use Rattle.std.proofs.Common.{◌≡◌, ℕ, take}
 use Rattle.std.specs.Prelude.{◌||◌, ◌&&◌}
 use Rattle.std.specs.List.{list_any}
-use Rattle.link_table.specs.Link.{Link}
-use Rattle.link_table.specs.Marks.{is_at_mark}
+use Rattle.sub_table.specs.Link.{Link}
+use Rattle.sub_table.specs.Marks.{is_at_mark}
 use Rattle.link_prop.specs.Marks.{has_mark, links_at_ends}
 use Rattle.link_prop.proofs.app.marking.mark_linked.Given as goal
 

@@ -5,7 +5,7 @@ use Rattle.scode_code.specs.Tables.{schema_of}
 use Rattle.scode_cells.specs.Frames.{Frames}
 use Rattle.scode_vm.specs.Calling.{AreZeros}
 use Rattle.scode_vm.specs.Doings.{HasCells}
-use Rattle.scode_objects.specs.Loaded.{IsLoaded, statics_of}
+use Rattle.scode_engine.specs.Loaded.{IsLoaded, statics_of}
 use Rattle.scode_engine.proofs.machine.Machine.new.Goals as goal
 
 pub invariant_of-result : goal.invariant_of-result

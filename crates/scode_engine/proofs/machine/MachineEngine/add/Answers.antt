@@ -4,7 +4,7 @@ use Rattle.sed_engine.specs.declared.call.AddRefusal.TheVariants.{DataFull}
 use Rattle.sed_engine.specs.Code.{data_of}
 use Rattle.scode_image.specs.declared.image.Image.{Image}
 use Rattle.scode_code.specs.Image.{meaning_of}
-use Rattle.scode_objects.specs.Loaded.{live_of, statics_of}
+use Rattle.scode_engine.specs.Loaded.{live_of, statics_of}
 use Rattle.scode_engine.specs.Kept.{Loaded}
 use Rattle.scode_engine.proofs.machine.MachineEngine.add.Goals as goal
 

@@ -7,7 +7,7 @@ use Rattle.sed_value.specs.declared.value.Value.{Value}
 use Rattle.sed_engine.specs.Code.{Object, called, root_of}
 use Rattle.scode_image.specs.declared.image.Image.{Image}
 use Rattle.scode_code.specs.Image.{meaning_of}
-use Rattle.scode_objects.specs.Loaded.{live_of, statics_of}
+use Rattle.scode_engine.specs.Loaded.{live_of, statics_of}
 use Rattle.scode_engine.specs.Kept.{Loaded}
 use Rattle.scode_engine.proofs.Moved.{moved}
 use Rattle.scode_engine.proofs.machine.MachineEngine.call.Goals as goal

@@ -1,7 +1,7 @@
 use Rattle.std.proofs.Common.{◌≡◌, ◌∙◌, ap, subst}
 use Rattle.scode_image.specs.declared.image.Image.{Image}
 use Rattle.scode_code.specs.Image.{meaning_of}
-use Rattle.scode_objects.specs.Loaded.{statics_of}
+use Rattle.scode_engine.specs.Loaded.{statics_of}
 use Rattle.scode_engine.specs.Kept.{Loaded}
 use Rattle.scode_engine.proofs.machine.MachineEngine.remove.Goals as goal
 

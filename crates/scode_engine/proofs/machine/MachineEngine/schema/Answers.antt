@@ -4,7 +4,7 @@ use Rattle.std.specs.FinMap as map
 use Rattle.sed_engine.specs.Fits.{Fits}
 use Rattle.sed_engine.specs.Whole.{IsObject, IsWhole}
 use Rattle.scode_code.specs.Image.{meaning_of}
-use Rattle.scode_objects.specs.Loaded.{live_of, statics_of}
+use Rattle.scode_engine.specs.Loaded.{live_of, statics_of}
 use Rattle.scode_engine.specs.Kept.{Loaded}
 use Rattle.scode_engine.proofs.machine.MachineEngine.schema.Goals as goal
 

@@ -3,7 +3,7 @@ use Rattle.std.specs.Prelude.{Result}
 use Rattle.sed_value.specs.declared.refusal.Refusal.{Refusal}
 use Rattle.sox_msg.specs.Answered.{refused}
 use Rattle.sox_msg.specs.declared.command.Request.{Request}
-use Rattle.sox_commands.specs.Replies.{answered_text}
+use Rattle.sox_serve.specs.Replies.{answered_text}
 use Rattle.dasp_session.specs.Receive.{post_of}
 use Rattle.dasp_session.specs.Standing.{Leaves}
 use Rattle.node_events.specs.Heard.{Wish, is_refused}

@@ -7,7 +7,7 @@ use Rattle.comp_tree.specs.Whole.{Whole}
 use Rattle.link_prop.specs.Linked.{application_of}
 use Rattle.app_file.specs.Text.{app_text}
 use Rattle.sox_msg.specs.View.{asked_of}
-use Rattle.sox_commands.specs.Answer.{command_of}
+use Rattle.sox_serve.specs.Answer.{command_of}
 use Rattle.sox_events.specs.Due.{subscriptions}
 use Rattle.sox_serve.specs.Serves.{Serves}
 use Rattle.dasp_session.specs.Receive.{post_of}

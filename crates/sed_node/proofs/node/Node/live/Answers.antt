@@ -3,14 +3,14 @@ use Rattle.std.proofs.Common.{rules, ℤ, FitsSigned, arith, of_z, to_z, w64}
 use Rattle.std.specs.Prelude.{◌-◌, map, IfSome, Option}
 use Rattle.std.proofs.lemmas.Int.{to_z-of_z}
 use Rattle.sed_outside.specs.declared.addr.Addr.{Addr}
-use Rattle.live_outside.specs.declared.datagram.Datagram.{Datagram}
-use Rattle.live_outside.specs.declared.offer.Offer.{Offer}
-use Rattle.live_outside.specs.declared.polling.Polling.{Polling}
-use Rattle.live_outside.specs.declared.sleep.Sleep.{Sleep}
-use Rattle.live_outside.specs.Clock.{next_moment}
+use Rattle.sed_outside.specs.declared.datagram.Datagram.{Datagram}
+use Rattle.sed_outside.specs.declared.offer.Offer.{Offer}
+use Rattle.sed_outside.specs.declared.polling.Polling.{Polling}
+use Rattle.sed_outside.specs.declared.sleep.Sleep.{Sleep}
+use Rattle.sed_outside.specs.Clock.{next_moment}
 use Rattle.sed_outside.specs.Counts.{one_more}
-use Rattle.live_outside.specs.Rounds.{HearsWhereTold, LiveCycle, most_polls, sleeps_in, wake_moment}
-use Rattle.live_outside.specs.Told.{AddsWhereTold, Told}
+use Rattle.sed_outside.specs.Rounds.{HearsWhereTold, LiveCycle, most_polls, sleeps_in, wake_moment}
+use Rattle.sed_outside.specs.Told.{AddsWhereTold, Told}
 use Rattle.app_save.specs.Saving.{AllStores}
 use Rattle.replay_log.specs.Entry.{datagram, tick}
 use Rattle.node_events.specs.Node.{Setup}

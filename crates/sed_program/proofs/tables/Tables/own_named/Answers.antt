@@ -1,7 +1,7 @@
 use Rattle.std.proofs.Common.{◌≡◌, position, ap, ◌∙◌}
 use Rattle.std.specs.Option.{option_and_then, option_copied, option_map}
 use Rattle.sed_classes.specs.Members.{has_name, members_of, own_named}
-use Rattle.sed_objects.specs.Rounds.{row_of}
+use Rattle.sed_outline.specs.Rounds.{row_of}
 use Rattle.sed_program.specs.Tables.{declared_in, declared_of, item_at}
 use Rattle.sed_program.proofs.Found.{own_found}
 use Rattle.sed_program.proofs.tables.Tables.own_named.Goals as goal

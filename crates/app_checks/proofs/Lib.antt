@@ -1,3 +1,0 @@
-pub mod EachRow
-pub mod Apart
-pub mod Linking

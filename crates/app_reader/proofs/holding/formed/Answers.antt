@@ -1,0 +1,67 @@
+use Rattle.std.proofs.Common.{◌≡◌, ◌∙◌, ℕ, List, Bool, true, false, sym, ap, subst}
+use Rattle.std.proofs.lemmas.List.{length-map}
+use Rattle.std.specs.Prelude.{Err, length, IsTrue}
+use Rattle.std.specs.List.{All}
+use Rattle.app_front.specs.TreeRows.{Ascend}
+use Rattle.app_front.specs.Tree.{IsTreeOf, children_in}
+use Rattle.app_front.specs.declared.tree_rows.TreeRow.{TreeRow}
+use Rattle.app_front.specs.declared.refusal.TreeRefusal.TheVariants.{NoTree}
+use Rattle.app_front.specs.declared.rows.FileRow.{FileRow}
+use Rattle.app_reader.specs.FormedFile.{GivesItsValues, tree_row, tree_rows}
+use Rattle.app_reader.specs.Checked.{IsChecked}
+use Rattle.app_reader.proofs.Together.{checked_of, together}
+use Rattle.app_reader.proofs.holding.formed.Goals as goal
+
+contradicts : {A : Type 0} (b : Bool) → IsTrue b → b ≡ false → A
+contradicts b held is = absurd (let no : ◌≡◌ {A = Bool} true false = sym held ∙ is in cc)
+
+same_size : (rows : List FileRow) (n : ℕ) → n ≡ length (tree_rows rows) → n ≡ length rows
+same_size rows n is = is ∙ length-map rows tree_row
+
+pub returns-then-not-are_ascending-clause-none : goal.returns-then-not-are_ascending-clause-none
+returns-then-not-are_ascending-clause-none g c =
+    λ same others is. contradicts c.are_ascending.result (c.are_ascending.ensures.1 (subst Ascend (sym c.requires.tree) is.ascend)) c.if-not-are_ascending.true
+
+pub returns-in-Err-clause-none : goal.returns-in-Err-clause-none
+returns-in-Err-clause-none g c =
+    λ same others is. c.in-Err.ensures.none (ap Err (let refusal : c.in-Err.refusal ≡ NoTree = cc in refusal)) others
+    (subst (λ (ts : List TreeRow). IsTreeOf ts others) (sym c.requires.tree) is.tree)
+
+pub returns-then-not-is_checked-clause-none : goal.returns-then-not-is_checked-clause-none
+returns-then-not-is_checked-clause-none g c =
+    λ same others is.
+    let m = g.E.Engine.meaning c.args.engine.now in
+    let f = c.args.file.now in
+    let lists = c.in-Ok.lists in
+    let size = same_size f.rows (length lists) (subst (λ (ts : List TreeRow). length lists ≡ length ts) c.requires.tree c.in-Ok.ensures.size) in
+    let only = c.in-Ok.ensures.only others (subst (λ (ts : List TreeRow). IsTreeOf ts others) (sym c.requires.tree) is.tree) in
+    let checked = checked_of f lists is.ascend size c.in-Ok.ensures.within m others is (λ id. only id ∙ ap (λ (ts : List TreeRow). children_in ts lists id) c.requires.tree) in
+    contradicts c.is_checked.result ((c.is_checked.ensures m (sym c.schema.ensures.same)).1 (subst (IsChecked m f) (sym c.as_slice.ensures) checked)) c.if-not-is_checked.true
+
+pub returns-then-give-clause-formed : goal.returns-then-give-clause-formed
+returns-then-give-clause-formed g c =
+    let m = g.E.Engine.meaning c.args.engine.now in
+    let f = c.args.file.now in
+    let lists = c.in-Ok.lists in
+    let ascend = subst Ascend c.requires.tree (c.are_ascending.ensures.0 c.if-not-are_ascending.false) in
+    let size = same_size f.rows (length lists) (subst (λ (ts : List TreeRow). length lists ≡ length ts) c.requires.tree c.in-Ok.ensures.size) in
+    let tree = subst (λ (ts : List TreeRow). IsTreeOf ts (children_in ts lists)) c.requires.tree c.in-Ok.ensures.tree in
+    let checked = subst (IsChecked m f) c.as_slice.ensures ((c.is_checked.ensures m (sym c.schema.ensures.same)).0 c.if-not-is_checked.false) in
+    let gives = subst (All (GivesItsValues m)) c.as_slice-2.ensures (c.in-Ok-all_give.ensures.0 c.if-give.true) in
+    together f lists ascend size c.in-Ok.ensures.within m tree checked gives
+
+pub returns-then-give-clause-only : goal.returns-then-give-clause-only
+returns-then-give-clause-only g c =
+    λ others is id.
+    c.in-Ok.ensures.only others (subst (λ (ts : List TreeRow). IsTreeOf ts others) (sym c.requires.tree) is.tree) id
+    ∙ ap (λ (ts : List TreeRow). children_in ts c.in-Ok.lists id) c.requires.tree
+
+pub returns-then-give-clause-size : goal.returns-then-give-clause-size
+returns-then-give-clause-size g c =
+    same_size c.args.file.now.rows (length c.in-Ok.lists) (subst (λ (ts : List TreeRow). length c.in-Ok.lists ≡ length ts) c.requires.tree c.in-Ok.ensures.size)
+
+pub returns-in-Ok-all_give-clause-none : goal.returns-in-Ok-all_give-clause-none
+returns-in-Ok-all_give-clause-none g c =
+    λ same others is.
+    let m = g.E.Engine.meaning c.args.engine.now in
+    contradicts c.in-Ok-all_give.give (c.in-Ok-all_give.ensures.1 (subst (All (GivesItsValues m)) (sym c.as_slice-2.ensures) is.gives)) c.if-give.false

@@ -1,0 +1,89 @@
+//! The first limit that is passed.
+ghost use Rattle.std.specs.Prelude.{◌≡◌, ◌≤◌, ◌==◌, ◌||◌, nat_le, nat_lt, length, count_by, filter};
+ghost use Rattle.std.specs.List.{list_any};
+ghost use Rattle.sub_table.specs.Link.{Link};
+ghost use Rattle.sub_table.specs.Links.{links_at};
+ghost use Rattle.app_file.specs.Limits.{first_passed};
+ghost use Rattle.app_front.specs.TreeRows.{Ascend};
+ghost use Rattle.app_front.specs.declared.tree_rows.TreeRow.{TreeRow as AnyRow};
+ghost use Rattle.app_reader.specs.Passed.{depth_in, passed_by};
+
+use crate::depth::depth;
+use app_front::TreeRow;
+use sed_value::Items;
+use sub_table::LinkRec;
+
+/// The number of the first limit that rows, the lists of their children and links pass: 1 an id of 4,096 or more, 2
+/// more than 8,192 links, 3 a row that stands more than 16 levels below the App's, 4 more than 200 children of one row,
+/// 5 more than 60 links at one. The ids of the rows ascend.
+pub fn limit_passed(rows: &[TreeRow], lists: &[Items<usize>], links: &[LinkRec]) -> Option<u8>
+    requires { Ascend rows.now }
+    ensures { result ≡ first_passed (passed_by rows.now lists.now links.now) }
+{
+    if has_great_id(rows) {
+        return Some(1);
+    }
+    if links.len() > 8192 {
+        return Some(2);
+    }
+    if has_deep(rows) {
+        return Some(3);
+    }
+    if has_many_children(lists) {
+        return Some(4);
+    }
+    if has_many_links(rows, links) {
+        return Some(5);
+    }
+    None
+}
+
+fn has_great_id(rows: &[TreeRow]) -> bool
+    ensures { result ≡ list_any (λ (r : AnyRow). nat_le 4096 r.id) rows.now }
+{
+    rows.iter().any(|row| row.id >= 4096)
+}
+
+fn has_deep(rows: &[TreeRow]) -> bool
+    requires { Ascend rows.now }
+    ensures { result ≡ list_any (λ (r : AnyRow). nat_lt 16 (depth_in rows.now r)) rows.now }
+{
+    for row in rows {
+        if depth(rows, row.id) > 16 {
+            return true;
+        }
+    }
+    false
+}
+
+fn has_many_children(lists: &[Items<usize>]) -> bool
+    ensures { result ≡ list_any (λ list. nat_lt 200 (length list)) lists.now }
+{
+    for list in lists {
+        if list.len() > 200 {
+            return true;
+        }
+    }
+    false
+}
+
+fn has_many_links(rows: &[TreeRow], links: &[LinkRec]) -> bool
+    ensures { result ≡ list_any (λ (r : AnyRow). nat_lt 60 (length (links_at r.id links.now))) rows.now }
+{
+    for row in rows {
+        if count_at(links, row.id) > 60 {
+            return true;
+        }
+    }
+    false
+}
+
+// How many links are at an id.
+fn count_at(links: &[LinkRec], id: u16) -> usize
+    ensures { result ≡ length (links_at id links.now) }
+{
+    links
+        .iter()
+        .filter(|link| link.from.0 == id || link.to.0 == id)
+        .count()
+}

@@ -1,5 +1,0 @@
-use Rattle.app_told.proofs.Telling.{are_told}
-use Rattle.app_told.proofs.laws.bytes_that_stand_are_rows.Goals as goal
-
-pub returns : goal.returns
-returns c = are_told

@@ -1,2 +1,0 @@
-mod Executing
-mod Printing

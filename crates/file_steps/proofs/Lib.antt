@@ -1,5 +1,0 @@
-pub mod OneRead
-pub mod Joining
-pub mod One
-pub mod Failing
-pub mod Rows

@@ -1,5 +1,0 @@
-mod FilterLemmas
-mod OrderLemmas
-mod RowLemmas
-mod KeptLemmas
-mod LawLemmas

@@ -1,8 +1,0 @@
-use Rattle.std.proofs.Common.{sym, subst}
-use Rattle.std.specs.List.Sorted.{IsNonDecreasingBy}
-use Rattle.link_table.specs.Link.{Link}
-use Rattle.link_table.proofs.RowLemmas.{targets_rise}
-use Rattle.link_table.proofs.links.Links.into_component.Goals as goal
-
-pub links_of-requires : goal.links_of-requires
-links_of-requires c = subst (IsNonDecreasingBy (λ (l : Link). l.to)) (sym c.deref.ensures.value) (targets_rise c.self.inside.by_target.items c.self.invariant.targets)

@@ -1,5 +1,0 @@
-pub mod Link
-pub mod Links
-pub mod Rows
-pub mod Ends
-pub mod Marks

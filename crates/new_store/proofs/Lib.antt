@@ -1,4 +1,0 @@
-pub mod FirstText
-pub mod NewStores
-pub mod SmallApp
-pub mod AlikeTexts

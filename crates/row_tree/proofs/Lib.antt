@@ -1,4 +1,0 @@
-pub mod Places
-pub mod Chaining
-pub mod Meeting
-pub mod Trees

@@ -1,6 +1,0 @@
-pub mod Rows
-pub mod Tree
-pub mod Chains
-pub mod Reached
-pub mod Visits
-pub mod Root

@@ -1,3 +1,0 @@
-pub mod Storing
-pub mod Numbering
-pub mod Comparing

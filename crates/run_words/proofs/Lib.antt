@@ -1,4 +1,0 @@
-mod Added
-mod Found
-mod Steps
-mod Pairs

@@ -1,3 +1,0 @@
-pub mod AtWork
-pub mod Root
-pub mod RootCall

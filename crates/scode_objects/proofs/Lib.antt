@@ -1,9 +1,0 @@
-pub mod Sums
-pub mod Changes
-pub mod Adding
-pub mod Behind
-pub mod Parts
-pub mod Told
-pub mod Leaving
-pub mod Properties
-pub mod Fields

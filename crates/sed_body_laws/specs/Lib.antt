@@ -1,0 +1,6 @@
+pub mod Nesting
+pub mod Levels
+pub mod NestedBodies
+pub mod TermHeight
+pub mod Declared
+pub mod Bodies

@@ -1,0 +1,16 @@
+//! Laws of method bodies: a body without a fault is a body of a typed program, and neither too deep nor too high.
+//!
+//! In a program in which names mean what they say, what a body comes to is typed and its locals are numbered on, and it
+//! is unknown only with a fault. `specs/Nesting` counts the constructs that are open at a place of a source, and
+//! `specs/Levels` how high its typed tree may be. What the grammar derives nests at most 64 deep, and so its typed
+//! trees are at most 2,080 levels high; the judgement of bodies makes no construct of its own, so a sound body nests at
+//! most as deep as its source. Each law is the contract of a function that does nothing.
+#![tactic(auto)]
+
+mod depth_laws;
+pub mod laws;
+mod nesting_laws;
+
+pub use depth_laws::{judged_bodies_are_shallow, sound_bodies_are_shallow};
+pub use laws::{judged_methods_are_typed, sound_bodies_are_bodies};
+pub use nesting_laws::derived_bodies_are_shallow;

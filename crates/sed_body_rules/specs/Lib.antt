@@ -1,0 +1,9 @@
+pub mod Scope
+pub mod LocalTypes
+pub mod Conversions
+pub mod Wants
+pub mod Pairs
+pub mod Values
+pub mod Operands
+pub mod Choices
+pub mod Stores

@@ -1,0 +1,21 @@
+use Rattle.sed_check.specs.Loading.{TextLoaded}
+use Rattle.sed_check.proofs.Ends.{Ends, comes, fault_rose, fault_comes}
+use Rattle.sed_check.proofs.loading.load_text.Goals as goal
+
+pub returns-clause-comes : goal.returns-clause-comes
+returns-clause-comes g c =
+    let step = TextLoaded c.args.name.now in
+    let ends : Ends step = record { one = c.loads_agree.ensures.text c.args.name.now; failed = c.failed_loads_are_told.ensures.text c.args.name.now } in
+    comes g.F.Files c.args.files.now c.read_and_checked_alone.new.files step ends c.read_and_checked_alone.result c.read_and_checked_alone.ensures.loaded
+
+pub returns-clause-file_fault : goal.returns-clause-file_fault
+returns-clause-file_fault g c =
+    let step = TextLoaded c.args.name.now in
+    let ends : Ends step = record { one = c.loads_agree.ensures.text c.args.name.now; failed = c.failed_loads_are_told.ensures.text c.args.name.now } in
+    fault_rose g.F.Files c.args.files.now c.read_and_checked_alone.new.files step ends c.read_and_checked_alone.result c.read_and_checked_alone.ensures.loaded
+
+pub returns-clause-file_fault_comes : goal.returns-clause-file_fault_comes
+returns-clause-file_fault_comes g c =
+    let step = TextLoaded c.args.name.now in
+    let ends : Ends step = record { one = c.loads_agree.ensures.text c.args.name.now; failed = c.failed_loads_are_told.ensures.text c.args.name.now } in
+    fault_comes g.F.Files c.args.files.now c.read_and_checked_alone.new.files step ends c.read_and_checked_alone.result c.read_and_checked_alone.ensures.loaded

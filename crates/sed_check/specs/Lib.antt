@@ -1,0 +1,9 @@
+pub mod Bodies
+pub mod Judgements
+pub mod Checked
+pub mod Parts
+pub mod Read
+pub mod Means
+pub use Rattle.kit_sources.specs.Sources
+pub mod Refusals
+pub mod Loading

@@ -1,4 +1,0 @@
-pub mod Conversions
-pub mod Wants
-pub mod Pairs
-pub mod Values

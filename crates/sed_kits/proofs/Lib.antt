@@ -1,4 +1,0 @@
-pub mod Loads
-pub mod Ends
-pub mod Units
-pub mod Alike

@@ -1,5 +1,0 @@
-pub mod Called
-pub mod Standing
-pub mod Defines
-pub mod Agreeing
-pub mod Inside

@@ -1,5 +1,0 @@
-use Rattle.sed_meant.proofs.Inside.{stands}
-use Rattle.sed_meant.proofs.laws.a_body_stands_in_what_is_meant.Goals as goal
-
-pub returns : goal.returns
-returns c = stands

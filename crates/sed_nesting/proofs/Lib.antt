@@ -1,4 +1,0 @@
-mod Rooms
-mod Expressions
-mod Statements
-pub mod Units

@@ -1,4 +1,0 @@
--- What a value of each sort is.
-use Rattle.sed_conversions.specs.Values.{number_value, bool_value, reference_value}
-
-pub ruleset values = (number_value, bool_value, reference_value)

@@ -1,5 +1,0 @@
-use Rattle.sed_order.proofs.Ordered.{ordered}
-use Rattle.sed_order.proofs.laws.classes_stand_in_order.Goals as goal
-
-pub returns : goal.returns
-returns c = λ units program u s f. ordered units u program s f

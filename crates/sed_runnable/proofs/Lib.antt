@@ -1,2 +1,0 @@
-mod AsRead
-mod First

@@ -1,0 +1,16 @@
+use Rattle.std.proofs.Common.{rules}
+use Rattle.std.proofs.lemmas.List.Sorted.{IsPartitionPoint-from_clause}
+use Rattle.sub_table.specs.Links.{is_before}
+use Rattle.sub_table.proofs.FilterLemmas.{take_is, drop_is}
+use Rattle.sub_table.proofs.OrderLemmas.{by_target, parted}
+use Rattle.sub_table.proofs.link_rows.place_by_target.Goals as goal
+
+pub returns-clause-before : goal.returns-clause-before
+returns-clause-before c =
+    let point = IsPartitionPoint-from_clause (λ k. is_before k c.args.l.now) _ _ c.partition_point.ensures.partitioned (parted is_before by_target c.args.l.now c.args.links.now c.requires) (λ a r q k. search rules) in
+    take_is (λ k. is_before k c.args.l.now) c.args.links.now c.partition_point.result c.partition_point.ensures.bound point.0 point.1
+
+pub returns-clause-after : goal.returns-clause-after
+returns-clause-after c =
+    let point = IsPartitionPoint-from_clause (λ k. is_before k c.args.l.now) _ _ c.partition_point.ensures.partitioned (parted is_before by_target c.args.l.now c.args.links.now c.requires) (λ a r q k. search rules) in
+    drop_is (λ k. is_before k c.args.l.now) c.args.links.now c.partition_point.result c.partition_point.ensures.bound point.0 point.1

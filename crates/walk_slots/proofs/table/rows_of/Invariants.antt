@@ -1,6 +1,0 @@
-use Rattle.std.proofs.Common.{◌≡◌, length}
-use Rattle.walk_slots.specs.Slots.{AreRows}
-use Rattle.walk_slots.proofs.table.rows_of.Given as goal
-
-abbrev pub invariant-loop-class : goal.invariant-loop-class
-invariant-loop-class l = (length l.rows.items ≡ l.class) × AreRows l.plan l.rows.items
