@@ -91,7 +91,17 @@ pub fn walker<R: Files + AllocGlobal>(rt: &R, case: &mut Case, kits: &Kits) -> O
         case.fail(CaseFault::BadInput);
         return None;
     };
-    match Walker::new(case.alloc(), program, kits.limit) {
+    walker_of(case, program, kits.limit)
+}
+
+/// The walker over a program, without a component.
+pub fn walker_of(case: &mut Case, program: Program, limit: u32) -> Option<Walker>
+    requires { Typed program }
+    ensures bare { IfSome result (λ w. w.live ≡ map.empty) }
+    ensures statics { IfSome result (λ w. w.statics ≡ initial_statics w.program) }
+    ensures limit { IfSome result (λ w. w.limit ≡ limit) }
+{
+    match Walker::new(case.alloc(), program, limit) {
         Ok(walker) => Some(walker),
         Err(_) => {
             case.fail(CaseFault::Memory);
@@ -108,6 +118,14 @@ pub fn machine<R: Files + AllocGlobal>(rt: &R, case: &mut Case, kits: &Kits) -> 
         case.fail(CaseFault::BadInput);
         return None;
     };
+    machine_of(case, program, kits.limit)
+}
+
+/// The machine over the image of a program, without a component. Where code is too long, tells so.
+pub fn machine_of(case: &mut Case, program: Program, limit: u32) -> Option<Machine>
+    requires { Typed program }
+    ensures { IfSome result (λ m. ⟦<Machine as Engine>⟧.live m ≡ map.empty) }
+{
     let compiled = match compile(case.alloc(), program) {
         Ok(compiled) => compiled,
         Err(refusal) => {
@@ -115,7 +133,7 @@ pub fn machine<R: Files + AllocGlobal>(rt: &R, case: &mut Case, kits: &Kits) -> 
             return None;
         }
     };
-    match compiled.machine(case.alloc(), kits.limit) {
+    match compiled.machine(case.alloc(), limit) {
         Ok(machine) => Some(machine),
         Err(_) => {
             case.fail(CaseFault::Memory);

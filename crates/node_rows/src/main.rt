@@ -5,6 +5,7 @@
 
 mod files;
 mod kits;
+mod programs;
 mod scripts;
 mod stores;
 
@@ -12,13 +13,14 @@ use rows::{Case, CaseFault, run};
 use std::io;
 
 // The tables, in the order in which they run.
-const TABLES: [&str; 17] = [
+const TABLES: [&str; 18] = [
     "scripts",
     "tiny",
     "requests",
     "cycles",
     "events",
     "printed",
+    "programs",
     "datagrams",
     "summaries",
     "files",
@@ -48,6 +50,7 @@ fn of_scripts(rt: &HostRuntime, name: &str, case: &mut Case) {
         "scripts" | "tiny" | "requests" | "cycles" | "events" | "printed" => scripts::scripts(
             case, rt,
         ),
+        "programs" => programs::programs(case),
         "datagrams" => scripts::datagrams(case),
         "summaries" => scripts::summaries(case),
         "files" => files::files(case, rt),

@@ -352,8 +352,8 @@ fn did_request<E: Engine>(case: &mut Case, stage: &mut Stage<E>, payload: &[u8])
     !reply.bytes().starts_with(b"!")
 }
 
-// So many turns, as a root call may have.
-fn budget(turns: u32) -> u32
+/// So many turns, as a root call may have.
+pub fn budget(turns: u32) -> u32
     ensures some { 1 ≤ result }
     ensures most { result ≤ 1000000 }
 {
