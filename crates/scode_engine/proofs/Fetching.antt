@@ -1,11 +1,10 @@
 -- The instruction at a place, and the place behind it.
-use Rattle.std.proofs.Common.{◌≡◌, ℕ, zero, suc, ◌+◌, ◌<◌, ◌≤◌, nat_le, Bool, true, List, [], ◌∷◌, get_or, length, take, drop, Option, Some, None, refl, sym, ap, subst, ◌∙◌, arith, length-drop}
+use Rattle.std.proofs.Common.{◌≡◌, ℕ, zero, suc, ◌+◌, ◌<◌, ◌≤◌, nat_le, Bool, true, List, [], ◌∷◌, length, take, drop, Option, Some, None, refl, sym, ap, subst, ◌∙◌, arith, length-drop}
 use Rattle.std.specs.Prelude.{slice_get}
 use Rattle.std.specs.List.{list_all}
 use Rattle.std.specs.Option.{option_map_or}
 use Rattle.std.proofs.lemmas.Bool.{and_parts, leb-true}
 use Rattle.std.proofs.lemmas.List.{length-take}
-use Rattle.std.proofs.lemmas.Option.{slice_get-get_or, slice_get_within}
 use Rattle.scode_ops.specs.declared.op.Op.{Op}
 use Rattle.scode_ops.specs.Codes.{StandsAt, code_of}
 use Rattle.scode_ops.specs.Decoding.{op_at}
@@ -22,15 +21,18 @@ each_passes test (y ∷ ys) zero x all e =
     (let same : y ≡ x = cc in subst (λ z. test z ≡ true) same (and_parts (test y) (list_all test ys) all).0)
 each_passes test (y ∷ ys) (suc n) x all e = each_passes test ys n x (and_parts (test y) (list_all test ys) all).1 e
 
--- code is so short that its places are 16 bits
-pub short_code : (image : Image) (n : ℕ) (m : ImageMethod) → tables_agree image ≡ true
-    → slice_get image.methods n ≡ Some m → length m.code ≤ 65535
-short_code image n m agree known =
+-- the methods of an image whose tables agree keep the limits
+pub all_keep_limits : (image : Image) → tables_agree image ≡ true → list_all method_keeps_limits image.methods ≡ true
+all_keep_limits image agree =
     let limits : keeps_limits image ≡ true = (and_parts _ (keeps_limits image) agree).1 in
     let some = (and_parts _ (nat_le (length image.methods) 65535) limits).0 in
-    let all : list_all method_keeps_limits image.methods ≡ true =
-    (and_parts _ (list_all method_keeps_limits image.methods) some).1 in
-    let own : method_keeps_limits m ≡ true = each_passes method_keeps_limits image.methods n m all known in
+    (and_parts _ (list_all method_keeps_limits image.methods) some).1
+
+-- code is so short that its places are 16 bits
+pub short_code : (methods : List ImageMethod) (n : ℕ) (m : ImageMethod) → list_all method_keeps_limits methods ≡ true
+    → slice_get methods n ≡ Some m → length m.code ≤ 65535
+short_code methods n m all known =
+    let own : method_keeps_limits m ≡ true = each_passes method_keeps_limits methods n m all known in
     leb-true (length m.code) 65535 (and_parts _ (nat_le (length m.code) 65535) own).1
 
 -- what stands at a place ends within the code
@@ -49,7 +51,7 @@ pub at_code : (image : Image) (n place : ℕ) (m : ImageMethod) → slice_get im
 at_code image n place m known =
     ap (λ (o : Option ImageMethod). op_at (option_map_or (λ m. m.code) o []) place) known
 
-no_code : (place : ℕ) → op_at [] place ≡ None
+pub no_code : (place : ℕ) → op_at [] place ≡ None
 no_code zero = refl
 no_code (suc n) = refl
 
@@ -63,13 +65,3 @@ method_there image n place i here = by_case (slice_get image.methods n) refl her
         → (m : ImageMethod) × (slice_get image.methods n ≡ Some m)
     by_case None e h = absurd (let both : None ≡ Some i = sym (no_code place) ∙ h in cc)
     by_case (Some m) e h = (m, e)
-
--- the method at the index
-pub method_at : (image : Image) (n place : ℕ) (i : Op) → instruction_at image n place ≡ Some i
-    → (methods : List ImageMethod) (k : ℕ) (m : ImageMethod) → methods ≡ image.methods → k ≡ n → m ≡ get_or methods k m
-    → slice_get image.methods n ≡ Some m
-method_at image n place i here methods k m e f is =
-    let there = method_there image n place i here in
-    slice_get-get_or image.methods n m (slice_get_within image.methods n there.0 there.1)
-    ∙ ap Some (sym (ap (λ (l : List ImageMethod). get_or l k m) e ∙ ap (λ (x : ℕ). get_or image.methods x m) f)
-    ∙ sym is)

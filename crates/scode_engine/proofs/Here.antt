@@ -1,16 +1,18 @@
 -- What may be done in a root call, and what is done in it, from what the groups of instructions ask and give.
-use Rattle.std.proofs.Common.{◌≡◌, ℕ, Result, Ok, Err, refl, ◌∙◌}
+use Rattle.std.proofs.Common.{◌≡◌, ℕ, Result, Ok, Err, refl, sym, subst, ◌∙◌}
 use Rattle.sed_engine.specs.declared.call.Place.{Place}
 use Rattle.sed_engine.specs.declared.trap.Trap.{Trap}
 use Rattle.sed_engine.specs.State.{Shared}
 use Rattle.scode_code.specs.Fields.{Setting}
+use Rattle.scode_code.specs.Steps.{effect}
+use Rattle.scode_ops.specs.declared.op.Op.{Op}
 use Rattle.scode_mem.specs.Blocks.{Held}
 use Rattle.scode_cells.specs.Frames.{Frames, IsRunning}
 use Rattle.scode_vm.specs.declared.course.Course.{Course}
 use Rattle.scode_vm.specs.Calling.{DoesOf, MayDoOf, RunsUnlessOver, arrived}
-use Rattle.scode_vm.specs.Doings.{Does, DoesWith, Doing, MayDo, reached}
+use Rattle.scode_vm.specs.Doings.{Does, DoesWith, Doing, MayDo, behind, reached}
 use Rattle.scode_access.specs.Within.{DoesIn, IsGround, KeepsBlocks, MayDoIn}
-use Rattle.scode_engine.specs.AtWork.{DoesHere, MayDoHere, Rooted, Running, on_or_trap, running_on, setting_of, shared_by}
+use Rattle.scode_engine.specs.AtWork.{DoesHere, DoesNext, MayDoHere, MayDoNext, Rooted, Running, on_or_trap, running_on, setting_of, shared_by}
 
 -- ---- what may be done
 
@@ -115,3 +117,53 @@ module _ (q : Rooted) (f : Doing) (old : Frames) (h : Held) (turns : ℕ) (may :
       runs = d.runs;
       most = d.most;
     }
+
+-- ---- behind an instruction
+
+-- frames that stand behind an instruction that may be done there
+module _ (q : Rooted) (i : Op) (s : Frames) (h : Held) (turns : ℕ) (next : MayDoNext q i (running_on s h turns))
+    (t : Frames) (e : t ≡ behind s i) where
+  may_there : MayDoHere q (λ w. effect w i) (running_on t h turns)
+  may_there = subst (λ (x : Frames). MayDoHere q (λ w. effect w i) (running_on x h turns)) (sym e) next.may
+
+  pub may : MayDo (λ w. effect w i) t
+  may = may_do q (λ w. effect w i) (running_on t h turns) may_there
+
+  pub may_of : MayDoOf q.image (λ w. effect w i) t turns
+  may_of = may_do_of q (λ w. effect w i) (running_on t h turns) may_there
+
+  pub may_in : MayDoIn (λ w. effect w i) q.image t h
+  may_in = may_do_in q (λ w. effect w i) (running_on t h turns) may_there
+
+  from_there : (a b : Result Course Trap) (new : Running) → a ≡ b
+      → DoesHere q (λ w. effect w i) (running_on t h turns) b new → DoesNext q i (running_on s h turns) a new
+  from_there a b new same d =
+      subst (λ (x : Frames). DoesHere q (λ w. effect w i) (running_on x h turns) a new) e
+      (subst (λ (r : Result Course Trap). DoesHere q (λ w. effect w i) (running_on t h turns) r new) (sym same) d)
+
+  pub done : (a : Result Course Trap) (result : Result (Unit {0}) Trap) (new : Frames) → a ≡ on_or_trap result
+      → Does (λ w. effect w i) t result new → DoesNext q i (running_on s h turns) a (running_on new h turns)
+  done a result new same d =
+      from_there a (on_or_trap result) (running_on new h turns) same
+      (does q (λ w. effect w i) t h turns may_there result new d)
+
+  pub done_with : (a : Result Course Trap) (result : Result (Unit {0}) Trap) (new : Frames) (left : ℕ)
+      → a ≡ on_or_trap result → DoesWith (λ w. effect w i) t turns q.moment result new left
+      → DoesNext q i (running_on s h turns) a (running_on new h left)
+  done_with a result new left same d =
+      from_there a (on_or_trap result) (running_on new h left) same
+      (does_with q (λ w. effect w i) t h turns may_there result new left d)
+
+  pub done_in : (a : Result Course Trap) (result : Result (Unit {0}) Trap) (new : Frames) (after : Held)
+      → a ≡ on_or_trap result → DoesIn (λ w. effect w i) q.image t h result new after
+      → DoesNext q i (running_on s h turns) a (running_on new after turns)
+  done_in a result new after same d =
+      from_there a (on_or_trap result) (running_on new after turns) same
+      (does_in q (λ w. effect w i) t h turns may_there result new after d)
+
+  pub done_of : (result : Result Course Trap) (new : Frames) (left : ℕ)
+      → DoesOf q.image (λ w. effect w i) t turns q.moment result new left
+      → DoesNext q i (running_on s h turns) result (running_on new h left)
+  done_of result new left d =
+      from_there result result (running_on new h left) refl
+      (does_of q (λ w. effect w i) t h turns may_there result new left d)

@@ -1,7 +1,7 @@
 pub mod Sums
 pub mod Changes
 pub mod Adding
-pub mod Behind
+pub mod ObjectsBehind
 pub mod Parts
 pub mod Told
 pub mod Leaving
@@ -12,6 +12,7 @@ pub mod Here
 pub mod Steps
 pub mod Begins
 pub mod Ends
+pub mod Decoded
 pub mod Answering
 pub mod Asking
 pub mod Enough

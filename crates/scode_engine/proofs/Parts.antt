@@ -25,7 +25,7 @@ use Rattle.scode_whole.proofs.Truths.{no_truth}
 use Rattle.scode_whole.proofs.Whole.{first_rule}
 use Rattle.scode_engine.specs.Loaded.{IsLoaded, object_in}
 use Rattle.scode_engine.specs.Slots.{IsPart, field_of, type_of}
-use Rattle.scode_engine.proofs.Behind.{IsBehind, behind_type}
+use Rattle.scode_engine.proofs.ObjectsBehind.{IsBehind, behind_type}
 
 -- what may be stored goes to a property
 pub behind_store : (image : Image) (h : Held) → IsLoaded image h → (class n : ℕ) (v : Value)

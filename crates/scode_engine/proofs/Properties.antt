@@ -24,7 +24,7 @@ use Rattle.scode_mem.specs.Blocks.{Held, Kept, bytes_of}
 use Rattle.scode_state.specs.Stands.{IsStored, StandsAt, contents_in}
 use Rattle.scode_engine.specs.Loaded.{IsLoaded, live_of, object_in, statics_of}
 use Rattle.scode_engine.specs.Slots.{IsPart, field_of, is_held, slot_at, type_of}
-use Rattle.scode_engine.proofs.Behind.{IsBehind, behind_property, same_behind}
+use Rattle.scode_engine.proofs.ObjectsBehind.{IsBehind, behind_property, same_behind}
 use Rattle.scode_engine.proofs.Changes.{block_at, live_changed, loaded_changed, no_statics, object_at, object_there, told}
 use Rattle.scode_engine.proofs.Parts.{behind_store, goes_there, got, is_part, put, stands}
 

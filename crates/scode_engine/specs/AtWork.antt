@@ -1,15 +1,17 @@
 -- A root call that runs on frames of cells and the blocks of a pool, and where it leads.
-use Rattle.std.specs.Prelude.{ℕ, ℤ, ◌≡◌, length, Option, Result, Ok, Err}
+use Rattle.std.specs.Prelude.{ℕ, ℤ, ◌≡◌, ◌+◌, ◌≤◌, length, Option, Result, Ok, Err}
 use Rattle.sed_engine.specs.declared.call.Place.{Place}
 use Rattle.sed_engine.specs.declared.trap.Trap.{Trap}
 use Rattle.sed_engine.specs.Expressions.{Called}
 use Rattle.sed_engine.specs.State.{Shared}
 use Rattle.sed_engine.specs.Stops.{Traps}
+use Rattle.scode_ops.specs.declared.op.Op.{Op}
+use Rattle.scode_ops.specs.Decoding.{size_of}
 use Rattle.scode_image.specs.declared.image.Image.{Image}
 use Rattle.scode_code.specs.Faults.{IsVerified}
 use Rattle.scode_code.specs.Fields.{Setting}
 use Rattle.scode_code.specs.Machine.{Point, At, Over}
-use Rattle.scode_code.specs.Steps.{step, steps}
+use Rattle.scode_code.specs.Steps.{effect, step, steps}
 use Rattle.scode_code.specs.Verified.{KindsIn}
 use Rattle.scode_sound.specs.Cells.{Concrete}
 use Rattle.scode_sound.specs.Fine.{FineAt}
@@ -19,7 +21,7 @@ use Rattle.scode_cells.specs.Frames.{Frames, IsRunning, running}
 use Rattle.scode_vm.specs.declared.course.Course.{Course}
 use Rattle.scode_vm.specs.declared.course.Course.TheVariants.{On}
 use Rattle.scode_vm.specs.Calling.{HasRoomFor, RunsUnlessOver, arrived, given_by, in_image}
-use Rattle.scode_vm.specs.Doings.{Doing, HasCells, HasRoom, IsTypedOn, ending, point_from}
+use Rattle.scode_vm.specs.Doings.{Doing, HasCells, HasRoom, IsTypedOn, behind, ending, point_from}
 use Rattle.scode_vm.specs.Seen.{machine_seen, shared_seen}
 use Rattle.scode_access.specs.Within.{IsGround, KeepsBlocks}
 
@@ -86,6 +88,22 @@ pub record DoesHere (q : Rooted) (f : Doing) (old : Running) (result : Result Co
   pub keeps : KeepsBlocks q.image q.place old.blocks new.blocks
   pub runs : RunsUnlessOver result new.cells
   pub most : new.cells.most ≡ old.cells.most
+
+-- ---- one instruction where it stands
+
+-- the frames behind it
+abbrev pub past : Running → Op → Running
+past r i = running_on (behind r.cells i) r.blocks r.turns
+
+-- The place behind it has 16 bits, and there it may be done.
+pub record MayDoNext (q : Rooted) (i : Op) (r : Running) : Type 0 where
+  pub runs : IsRunning r.cells
+  pub fits : (running r.cells).place + size_of i ≤ 65535
+  pub may : MayDoHere q (λ w. effect w i) (past r i)
+
+-- done behind it, it leads to these frames and blocks, or to this end
+abbrev pub DoesNext : Rooted → Op → Running → Result Course Trap → Running → Type 0
+DoesNext q i old result new = DoesHere q (λ w. effect w i) (past old i) result new
 
 -- ---- one step
 

@@ -1,5 +1,5 @@
 -- What a machine stands for, and what is true of all that it keeps.
-use Rattle.std.specs.Prelude.{◌≡◌, List, [], refl}
+use Rattle.std.specs.Prelude.{◌≡◌, List, [], IsSomeAnd, Option, refl}
 use Rattle.std.specs.Coded.{Coded, code_by, coded×}
 use Rattle.sed_typed.specs.declared.schema.Schema.{Schema}
 use Rattle.scode_image.specs.declared.image.Image.{Image}
@@ -11,6 +11,8 @@ use Rattle.scode_cells.specs.Frames.{Frames}
 use Rattle.scode_engine.specs.Loaded.{IsLoaded}
 use Rattle.scode_vm.specs.Calling.{AreZeros}
 use Rattle.scode_vm.specs.Doings.{HasCells}
+use Rattle.scode_ops.specs.declared.op.Op.{Op}
+use Rattle.scode_engine.specs.Rows.{AreRows}
 
 -- an image, and the blocks of its live objects and of its statics
 pub record Loaded : Type 0 where
@@ -20,15 +22,20 @@ pub record Loaded : Type 0 where
 abbrev pub loaded : Image → Held → Loaded
 loaded image blocks = record { image = image; blocks = blocks }
 
+-- frames of which none runs, with cells enough for any method
+pub record HaveRoom (image : Image) (cells : Frames) : Type 0 where
+  pub idle : cells.frames ≡ []
+  pub enough : HasCells image cells.most
+
 -- The image breaks no rule and its blocks are objects and statics of it; the schema is its own, what locals begin as is
--- known, no call runs, and there are cells enough for any.
-pub record IsKept (image : Image) (schema : Schema) (zeros : List (List Cell)) (blocks : Held) (cells : Frames) : Type 0
-  where
-    pub objects : IsLoaded image blocks
-    pub schema_is : schema ≡ schema_of image
-    pub zeros_are : AreZeros image zeros
-    pub idle : cells.frames ≡ []
-    pub enough : HasCells image cells.most
+-- known, its code is decoded, no call runs, and there are cells enough for any.
+pub record IsKept (image : Image) (schema : Schema) (zeros : List (List Cell)) (rows : List (List Op))
+    (blocks : Held) (cells : Option Frames) : Type 0 where
+  pub objects : IsLoaded image blocks
+  pub schema_is : schema ≡ schema_of image
+  pub zeros_are : AreZeros image zeros
+  pub rows_are : AreRows image.methods rows
+  pub room : IsSomeAnd cells (HaveRoom image)
 
 abbrev pub loaded_code : Coded Image → Coded Loaded
 loaded_code image =

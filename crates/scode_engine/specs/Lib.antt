@@ -3,6 +3,8 @@ pub mod Slots
 pub mod AtWork
 pub mod Root
 pub mod RootCall
+pub mod Rows
+pub mod Frequent
 pub mod Answered
 pub mod Kept
 pub mod Lookups

@@ -1,5 +1,5 @@
 //! Root calls on live objects.
-ghost use Rattle.std.specs.Prelude.{◌≡◌, ◌≤◌, [], IfSome, IsSomeAnd, IsTrue, Ok, Some};
+ghost use Rattle.std.specs.Prelude.{◌≡◌, ◌≤◌, IfSome, IsSomeAnd, IsTrue, Ok, Some};
 ghost use Rattle.std.specs.FinMap as finite;
 ghost use Rattle.sed_engine.specs.Code.{called, may_call, root_of};
 ghost use Rattle.scode_code.specs.Image.{meaning_of};
@@ -7,10 +7,11 @@ ghost use Rattle.scode_code.specs.Root.{root_method as root_method_of};
 ghost use Rattle.scode_code.specs.Tables.{schema_of};
 ghost use Rattle.scode_engine.specs.Loaded.{IsLoaded, live_of, statics_of};
 ghost use Rattle.scode_vm.specs.Calling.{AreZeros};
-ghost use Rattle.scode_vm.specs.Doings.{HasCells};
 ghost use Rattle.scode_engine.specs.AtWork.{running_on};
 ghost use Rattle.scode_engine.specs.Root.{rooted};
+ghost use Rattle.scode_engine.specs.Rows.{AreRows};
 ghost use Rattle.scode_engine.specs.Answered.{IsAnswered, IsReady};
+ghost use Rattle.scode_engine.specs.Kept.{HaveRoom};
 
 use crate::arguments::{argument_cell, call_end};
 use crate::methods::root_method;
@@ -18,17 +19,68 @@ use crate::{RootCall, root_calls_leave_objects, run_root};
 use scode_cells::{Cell, Cells};
 use scode_image::Image;
 use scode_mem::Pool;
+use scode_ops::Op;
 use scode_sound::has_root;
 use sed_engine::{CallEnd, Place, Root};
 use sed_typed::Schema;
 use sed_value::{Items, Value};
 
 /// Runs a root call on a live object. It ends as the image's root call does, and leaves the contents and statics that
-/// this leaves; the other objects stay. No frame runs before or behind it.
+/// this leaves; the other objects stay. No frame runs before or behind it. The frames are taken out and put back, so
+/// that they stand in the call's own memory while it runs.
 pub fn call(
     image: &Image,
     schema: &Schema,
     zeros: &[Items<Cell>],
+    rows: &[Items<Op>],
+    pool: &mut Pool,
+    kept: &mut Option<Cells>,
+    p: Place,
+    which: Root,
+    argument: &Value,
+    turns: u32,
+    moment: i64,
+) -> CallEnd
+    requires loaded { IsLoaded image.now pool.old }
+    requires schema { schema.now ≡ schema_of image.now }
+    requires zeros { AreZeros image.now zeros.now }
+    requires rows { AreRows image.now.methods rows.now }
+    requires cells { IsSomeAnd kept.old (HaveRoom image.now) }
+    requires may { IsSomeAnd (finite.get (live_of image.now pool.old) p.0)
+        (λ o. IsTrue (may_call (meaning_of image.now) o.class which argument.now)) }
+    requires some_turns { 1 ≤ turns }
+    requires most_turns { turns ≤ 1000000 }
+    ensures loaded { IsLoaded image.now pool.new }
+    ensures end { IfSome (finite.get (live_of image.now pool.old) p.0) (λ o. result
+        ≡ (root_of (meaning_of image.now) o (statics_of image.now pool.old) which argument.now turns moment).end) }
+    ensures left { IfSome (finite.get (live_of image.now pool.old) p.0) (λ o. live_of image.now pool.new
+        ≡ finite.insert (live_of image.now pool.old) p.0 (called o
+        (root_of (meaning_of image.now) o (statics_of image.now pool.old) which argument.now turns moment))) }
+    ensures statics { IfSome (finite.get (live_of image.now pool.old) p.0) (λ o. statics_of image.now pool.new
+        ≡ (root_of (meaning_of image.now) o (statics_of image.now pool.old) which argument.now turns moment).statics) }
+    ensures limit { pool.new.limit ≡ pool.old.limit }
+    ensures cells { kept.new ≡ kept.old }
+{
+    match kept.take() {
+        Some(own) => {
+            let mut cells = own;
+            let end = call_on(
+                image, schema, zeros, rows, pool, &mut cells, p, which, argument, turns, moment,
+            );
+            let _ = kept.replace(cells);
+            end
+        }
+        None => unreachable!(),
+    }
+}
+
+// Runs a root call on a live object on frames of which none runs.
+#[inline(always)]
+fn call_on(
+    image: &Image,
+    schema: &Schema,
+    zeros: &[Items<Cell>],
+    rows: &[Items<Op>],
     pool: &mut Pool,
     cells: &mut Cells,
     p: Place,
@@ -40,8 +92,8 @@ pub fn call(
     requires loaded { IsLoaded image.now pool.old }
     requires schema { schema.now ≡ schema_of image.now }
     requires zeros { AreZeros image.now zeros.now }
-    requires cells { HasCells image.now cells.old.most }
-    requires idle { cells.old.frames ≡ [] }
+    requires rows { AreRows image.now.methods rows.now }
+    requires cells { HaveRoom image.now cells.old }
     requires may { IsSomeAnd (finite.get (live_of image.now pool.old) p.0)
         (λ o. IsTrue (may_call (meaning_of image.now) o.class which argument.now)) }
     requires some_turns { 1 ≤ turns }
@@ -62,6 +114,7 @@ pub fn call(
     let asked = RootCall {
         image,
         zeros,
+        rows,
         class,
         place: p,
         moment,
@@ -70,6 +123,7 @@ pub fn call(
 }
 
 // Runs a root call that may be asked.
+#[inline(always)]
 fn answer(
     call: &RootCall,
     schema: &Schema,
@@ -81,6 +135,7 @@ fn answer(
 ) -> CallEnd
     requires schema { schema.now ≡ schema_of call.now.image.now }
     requires zeros { AreZeros call.now.image.now call.now.zeros.now }
+    requires rows { AreRows call.now.image.now.methods call.now.rows.now }
     requires ready { IsReady (rooted call.now) which argument.now (running_on cells.old pool.old turns) }
     ensures { IsAnswered (rooted call.now) which argument.now (running_on cells.old pool.old turns) result cells.new
         pool.new }
@@ -93,6 +148,7 @@ fn answer(
 }
 
 // Runs the method of a root call that may be asked.
+#[inline(always)]
 fn run_method(
     call: &RootCall,
     number: u16,
@@ -103,6 +159,7 @@ fn run_method(
     cells: &mut Cells,
 ) -> CallEnd
     requires zeros { AreZeros call.now.image.now call.now.zeros.now }
+    requires rows { AreRows call.now.image.now.methods call.now.rows.now }
     requires ready { IsReady (rooted call.now) which argument.now (running_on cells.old pool.old turns) }
     requires found { root_method_of call.now.image.now call.now.class which ≡ Ok (Some number) }
     ensures { IsAnswered (rooted call.now) which argument.now (running_on cells.old pool.old turns) result cells.new

@@ -8,8 +8,12 @@
 #![tactic(auto)]
 
 mod arguments;
+mod behind;
 mod calls;
 mod forms;
+mod frequent;
+mod groups;
+mod instructions;
 mod laws;
 mod looping;
 mod machine;
@@ -18,6 +22,7 @@ mod objects;
 mod rooms;
 mod root_call;
 mod roots;
+mod rows;
 mod schema;
 mod slots;
 mod stepping;
@@ -28,6 +33,7 @@ pub use machine::Machine;
 pub use objects::{add_object, new_objects, remove_object};
 pub use root_call::RootCall;
 pub use roots::run_root;
+pub use rows::rows_of;
 pub use schema::schema_of;
 pub use slots::{get_slot, is_same_field, set_slot};
 pub use stepping::step;

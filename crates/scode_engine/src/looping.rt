@@ -3,6 +3,7 @@ ghost use Rattle.std.specs.Prelude.{◌≡◌};
 ghost use Rattle.scode_vm.specs.Calling.{AreZeros};
 ghost use Rattle.scode_engine.specs.AtWork.{IsAtWork, RunsTo, running_on};
 ghost use Rattle.scode_engine.specs.Root.{rooted};
+ghost use Rattle.scode_engine.specs.Rows.{AreRows};
 
 use crate::root_call::RootCall;
 use crate::stepping::step;
@@ -15,6 +16,7 @@ use sed_engine::Trap;
 
 /// Runs a root call that is at work to its end: a cell or none, or a trap. No counter runs: each step leaves less to
 /// do.
+#[inline(always)]
 pub fn run(
     call: &RootCall,
     pool: &mut Pool,
@@ -22,6 +24,7 @@ pub fn run(
     left: &mut u32,
 ) -> Result<Option<Cell>, Trap>
     requires zeros { AreZeros call.now.image.now call.now.zeros.now }
+    requires rows { AreRows call.now.image.now.methods call.now.rows.now }
     requires work { IsAtWork (rooted call.now) (running_on cells.old pool.old left.old) }
     ensures { RunsTo (rooted call.now) (running_on cells.old pool.old left.old) result
         (running_on cells.new pool.new left.new) }

@@ -6,9 +6,12 @@ ghost use Rattle.scode_engine.specs.Loaded.{live_of, statics_of};
 
 use crate::calls::call;
 use crate::rooms::{most_cells, zeros_of};
-use crate::{add_object, get_slot, is_same_field, new_objects, remove_object, schema_of, set_slot};
+use crate::{
+    add_object, get_slot, is_same_field, new_objects, remove_object, rows_of, schema_of, set_slot,
+};
 use scode_cells::{Cell, Cells};
 use scode_mem::Pool;
+use scode_ops::Op;
 use scode_sound::verified_images_are_whole;
 use scode_verify::Verified;
 use sed_engine::{AddRefusal, CallEnd, Engine, Place, Root};
@@ -24,8 +27,11 @@ pub struct Machine {
     schema: Schema,
     // What each local of each method begins as where it is no argument.
     zeros: Vec<Items<Cell>>,
+    // The decoded code of each method.
+    rows: Vec<Items<Op>>,
     pool: Pool,
-    cells: Cells,
+    // The frames of root calls, which are taken out while one runs.
+    cells: Option<Cells>,
 }
 
 impl Model for Machine {
@@ -38,7 +44,7 @@ impl Model for Machine {
 
     ghost view = { λ m. loaded m.code m.pool };
 
-    ghost invariant = { λ m. IsKept m.code m.schema m.zeros.items m.pool m.cells };
+    ghost invariant = { λ m. IsKept m.code m.schema m.zeros.items m.rows.items m.pool m.cells };
 }
 
 impl Machine {
@@ -52,14 +58,16 @@ impl Machine {
     {
         let schema = schema_of(alloc, code.image())?;
         let zeros = zeros_of(alloc, code.image())?;
+        let rows = rows_of(alloc, code.image())?;
         let pool = new_objects(alloc, code.image(), limit)?;
         let cells = Cells::new(alloc, most_cells(code.image()))?;
         Ok(Machine {
             code,
             schema,
             zeros,
+            rows,
             pool,
-            cells,
+            cells: Some(cells),
         })
     }
 }
@@ -105,6 +113,7 @@ impl Engine for Machine {
             self.code.image(),
             &self.schema,
             &self.zeros,
+            &self.rows,
             &mut self.pool,
             &mut self.cells,
             p,

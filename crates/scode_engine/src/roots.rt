@@ -10,6 +10,7 @@ ghost use Rattle.scode_vm.specs.Doings.{IsValue};
 ghost use Rattle.scode_vm.specs.Seen.{machine_seen, val_of};
 ghost use Rattle.scode_engine.specs.AtWork.{running_on};
 ghost use Rattle.scode_engine.specs.Root.{rooted};
+ghost use Rattle.scode_engine.specs.Rows.{AreRows};
 ghost use Rattle.scode_engine.specs.RootCall.{EndsAs, MayBegin, argument_cells};
 
 use crate::looping::run;
@@ -25,6 +26,7 @@ use sed_value::Items;
 
 /// Runs a method as a root call from its beginning to its end, with an argument or with none. No frame runs before or
 /// behind it.
+#[inline(always)]
 pub fn run_root(
     call: &RootCall,
     number: u16,
@@ -34,6 +36,7 @@ pub fn run_root(
     left: &mut u32,
 ) -> Result<Option<Cell>, Trap>
     requires zeros { AreZeros call.now.image.now call.now.zeros.now }
+    requires rows { AreRows call.now.image.now.methods call.now.rows.now }
     requires begins { MayBegin (rooted call.now) number argument (running_on cells.old pool.old left.old) }
     ensures { EndsAs (rooted call.now) number argument (running_on cells.old pool.old left.old) result
         (running_on cells.new pool.new left.new) }

@@ -1,145 +1,45 @@
-use Rattle.std.proofs.Common.{◌≡◌, ℤ, sym, subst}
+use Rattle.std.proofs.Common.{◌≡◌, ℤ, Option, subst, sym, ◌∙◌}
+use Rattle.std.specs.Prelude.{IfSome, IsSomeAnd}
 use Rattle.std.specs.FinMap as finite
 use Rattle.std.specs.Int.{w64}
-use Rattle.std.proofs.lemmas.Bool.{lt-ltb}
 use Rattle.std.proofs.lemmas.Int.{to_z-of_z}
 use Rattle.sed_engine.specs.Code.{Object, called, root_of}
 use Rattle.scode_code.specs.Image.{meaning_of}
-use Rattle.scode_engine.specs.AtWork.{running_on}
+use Rattle.scode_cells.specs.Frames.{Frames}
 use Rattle.scode_engine.specs.Loaded.{live_of, statics_of}
-use Rattle.scode_engine.specs.Answered.{IsAnswered, IsReady}
-use Rattle.scode_engine.proofs.Asking.{is_ready, its_block, its_end, its_left, its_may, its_object, own, root_at, said}
+use Rattle.scode_engine.specs.Kept.{HaveRoom}
 use Rattle.scode_engine.proofs.calls.call.Goals as goal
 
-pub kind-class-requires : goal.kind-class-requires
-kind-class-requires c =
-    its_block c.args.image.now c.args.pool.now c.args.p c.args.which c.args.argument.now c.args.turns c.args.moment
-    c.requires.may
+pub call_on-end-requires-clause-cells : goal.call_on-end-requires-clause-cells
+call_on-end-requires-clause-cells c =
+    subst (λ (o : Option Frames). IsSomeAnd o (HaveRoom c.args.image.now)) (sym c.take.ensures.value ∙ c.in-Some.is)
+    c.requires.cells
 
-pub answer-requires-clause-ready : goal.answer-requires-clause-ready
-answer-requires-clause-ready c =
-    let image = c.args.image.now in
-    let h = c.args.pool.now in
-    let p = c.args.p in
-    let which = c.args.which in
-    let argument = c.args.argument.now in
-    let turns = c.args.turns in
-    let moment = c.args.moment in
-    let may = c.requires.may in
-    let o = own image h p which argument turns moment may in
-    let at = its_object image h p which argument turns moment may in
-    let class = c.kind-class.result.0 in
-    let asked =
-    c.root_calls_leave_objects.ensures.asked image h p o which argument turns moment c.requires.loaded at
-    (its_may image h p which argument turns moment may) c.requires.some_turns c.requires.most_turns
-    (lt-ltb _ _ c.ranges.moment.sfits) in
-    subst (λ (z : ℤ). IsReady (root_at image class p z) which argument (running_on c.args.cells.now h turns))
-    (sym (to_z-of_z w64 moment c.ranges.moment))
-    (is_ready image h p which argument turns moment may class c.kind-class.ensures asked c.requires.loaded
-    c.args.cells.now c.requires.cells c.requires.idle)
-
-pub returns-clause-loaded : goal.returns-clause-loaded
-returns-clause-loaded c =
-    let image = c.args.image.now in
-    let h = c.args.pool.now in
-    let p = c.args.p in
-    let which = c.args.which in
-    let argument = c.args.argument.now in
-    let turns = c.args.turns in
-    let moment = c.args.moment in
-    let may = c.requires.may in
-    let o = own image h p which argument turns moment may in
-    let at = its_object image h p which argument turns moment may in
-    let class = c.kind-class.result.0 in
-    let asked =
-    c.root_calls_leave_objects.ensures.asked image h p o which argument turns moment c.requires.loaded at
-    (its_may image h p which argument turns moment may) c.requires.some_turns c.requires.most_turns
-    (lt-ltb _ _ c.ranges.moment.sfits) in
-    let answered =
-    subst (λ (z : ℤ). IsAnswered (root_at image class p z) which argument (running_on c.args.cells.now h turns)
-    c.answer.result c.answer.new.cells c.answer.new.pool) (to_z-of_z w64 moment c.ranges.moment) c.answer.ensures in
-    let left =
-    its_left image h p which argument turns moment may class c.kind-class.ensures asked c.args.cells.now
-    c.answer.new.cells c.answer.new.pool c.answer.result answered in
-    c.root_calls_leave_objects.ensures.loaded image h c.answer.new.pool p o which argument turns moment
-    c.requires.loaded at left
+pub unreachable-requires : goal.unreachable-requires
+unreachable-requires c =
+    subst (λ (o : Option Frames). IsSomeAnd o (HaveRoom c.args.image.now)) (sym c.take.ensures.value ∙ c.in-None.is)
+    c.requires.cells
 
 pub returns-clause-end : goal.returns-clause-end
 returns-clause-end c =
-    let image = c.args.image.now in
-    let h = c.args.pool.now in
-    let p = c.args.p in
-    let which = c.args.which in
-    let argument = c.args.argument.now in
-    let turns = c.args.turns in
-    let moment = c.args.moment in
-    let may = c.requires.may in
-    let o = own image h p which argument turns moment may in
-    let at = its_object image h p which argument turns moment may in
-    let class = c.kind-class.result.0 in
-    let asked =
-    c.root_calls_leave_objects.ensures.asked image h p o which argument turns moment c.requires.loaded at
-    (its_may image h p which argument turns moment may) c.requires.some_turns c.requires.most_turns
-    (lt-ltb _ _ c.ranges.moment.sfits) in
-    let answered =
-    subst (λ (z : ℤ). IsAnswered (root_at image class p z) which argument (running_on c.args.cells.now h turns)
-    c.answer.result c.answer.new.cells c.answer.new.pool) (to_z-of_z w64 moment c.ranges.moment) c.answer.ensures in
-    said image h p which argument turns moment may
-    (λ (x : Object). c.answer.result ≡ (root_of (meaning_of image) x (statics_of image h) which argument turns moment).end)
-    (its_end image h p which argument turns moment may class c.kind-class.ensures asked c.args.cells.now
-    c.answer.new.cells c.answer.new.pool c.answer.result answered)
+    subst (λ (z : ℤ). IfSome (finite.get (live_of c.args.image.now c.args.pool.now) c.args.p.0) (λ (o : Object).
+    c.call_on-end.result ≡ (root_of (meaning_of c.args.image.now) o (statics_of c.args.image.now c.args.pool.now)
+    c.args.which c.args.argument.now c.args.turns z).end))
+    (to_z-of_z w64 c.args.moment c.ranges.moment) c.call_on-end.ensures.end
 
 pub returns-clause-left : goal.returns-clause-left
 returns-clause-left c =
-    let image = c.args.image.now in
-    let h = c.args.pool.now in
-    let p = c.args.p in
-    let which = c.args.which in
-    let argument = c.args.argument.now in
-    let turns = c.args.turns in
-    let moment = c.args.moment in
-    let may = c.requires.may in
-    let o = own image h p which argument turns moment may in
-    let at = its_object image h p which argument turns moment may in
-    let class = c.kind-class.result.0 in
-    let asked =
-    c.root_calls_leave_objects.ensures.asked image h p o which argument turns moment c.requires.loaded at
-    (its_may image h p which argument turns moment may) c.requires.some_turns c.requires.most_turns
-    (lt-ltb _ _ c.ranges.moment.sfits) in
-    let answered =
-    subst (λ (z : ℤ). IsAnswered (root_at image class p z) which argument (running_on c.args.cells.now h turns)
-    c.answer.result c.answer.new.cells c.answer.new.pool) (to_z-of_z w64 moment c.ranges.moment) c.answer.ensures in
-    let left =
-    its_left image h p which argument turns moment may class c.kind-class.ensures asked c.args.cells.now
-    c.answer.new.cells c.answer.new.pool c.answer.result answered in
-    said image h p which argument turns moment may
-    (λ (x : Object). live_of image c.answer.new.pool ≡ finite.insert (live_of image h) p.0 (called x
-    (root_of (meaning_of image) x (statics_of image h) which argument turns moment)))
-    (c.root_calls_leave_objects.ensures.left image h c.answer.new.pool p o which argument turns moment at left)
+    subst (λ (z : ℤ). IfSome (finite.get (live_of c.args.image.now c.args.pool.now) c.args.p.0) (λ (o : Object).
+    live_of c.args.image.now c.call_on-end.new.pool
+    ≡ finite.insert (live_of c.args.image.now c.args.pool.now) c.args.p.0 (called o
+    (root_of (meaning_of c.args.image.now) o (statics_of c.args.image.now c.args.pool.now) c.args.which
+    c.args.argument.now c.args.turns z))))
+    (to_z-of_z w64 c.args.moment c.ranges.moment) c.call_on-end.ensures.left
 
 pub returns-clause-statics : goal.returns-clause-statics
 returns-clause-statics c =
-    let image = c.args.image.now in
-    let h = c.args.pool.now in
-    let p = c.args.p in
-    let which = c.args.which in
-    let argument = c.args.argument.now in
-    let turns = c.args.turns in
-    let moment = c.args.moment in
-    let may = c.requires.may in
-    let o = own image h p which argument turns moment may in
-    let at = its_object image h p which argument turns moment may in
-    let class = c.kind-class.result.0 in
-    let asked =
-    c.root_calls_leave_objects.ensures.asked image h p o which argument turns moment c.requires.loaded at
-    (its_may image h p which argument turns moment may) c.requires.some_turns c.requires.most_turns
-    (lt-ltb _ _ c.ranges.moment.sfits) in
-    let answered =
-    subst (λ (z : ℤ). IsAnswered (root_at image class p z) which argument (running_on c.args.cells.now h turns)
-    c.answer.result c.answer.new.cells c.answer.new.pool) (to_z-of_z w64 moment c.ranges.moment) c.answer.ensures in
-    let left =
-    its_left image h p which argument turns moment may class c.kind-class.ensures asked c.args.cells.now
-    c.answer.new.cells c.answer.new.pool c.answer.result answered in
-    said image h p which argument turns moment may
-    (λ (x : Object). statics_of image c.answer.new.pool
-    ≡ (root_of (meaning_of image) x (statics_of image h) which argument turns moment).statics) left.statics
+    subst (λ (z : ℤ). IfSome (finite.get (live_of c.args.image.now c.args.pool.now) c.args.p.0) (λ (o : Object).
+    statics_of c.args.image.now c.call_on-end.new.pool
+    ≡ (root_of (meaning_of c.args.image.now) o (statics_of c.args.image.now c.args.pool.now) c.args.which
+    c.args.argument.now c.args.turns z).statics))
+    (to_z-of_z w64 c.args.moment c.ranges.moment) c.call_on-end.ensures.statics

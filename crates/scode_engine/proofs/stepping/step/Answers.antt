@@ -1,7 +1,4 @@
-use Rattle.std.proofs.Common.{sym, subst}
-use Rattle.scode_code.specs.Steps.{effect}
-use Rattle.scode_cells.specs.Frames.{Frames}
-use Rattle.scode_engine.specs.AtWork.{DoesHere, MayDoHere, Rooted, Running, running_on, setting_of, shared_by}
+use Rattle.scode_engine.specs.AtWork.{Rooted, Running, running_on, setting_of, shared_by}
 use Rattle.scode_engine.specs.Root.{rooted}
 use Rattle.scode_engine.proofs.Steps.{may_here, stepped}
 use Rattle.scode_engine.proofs.stepping.step.Goals as goal
@@ -13,20 +10,22 @@ fetch-op-requires-clause-stands c =
     c.fine_frames_may_go_on.ensures.stands (setting_of q) c.requires.work.given q.place r.cells (shared_by q r)
     c.requires.work.verified c.requires.work.fine
 
-pub do_instruction-requires-clause-may : goal.do_instruction-requires-clause-may
-do_instruction-requires-clause-may c =
+pub do_instruction-requires-clause-next : goal.do_instruction-requires-clause-next
+do_instruction-requires-clause-next c =
     let q : Rooted = rooted c.args.call.now in
     let r : Running = running_on c.args.cells.now c.args.pool.now c.args.left.now in
     let work = c.requires.work in
-    subst (λ (s : Frames). MayDoHere q (λ w. effect w c.fetch-op.result) (running_on s c.args.pool.now c.args.left.now))
-    (sym c.fetch-op.ensures.place)
-    (may_here q r work c.fetch-op.result c.fetch-op.ensures.op
-    (c.fine_frames_may_go_on.ensures.typed (setting_of q) work.given q.place r.cells (shared_by q r) c.fetch-op.result
-    work.verified work.own work.fine c.fetch-op.ensures.op)
-    (c.fine_frames_may_go_on.ensures.room (setting_of q) work.given q.place r.cells (shared_by q r) c.fetch-op.result
-    work.verified work.own work.fine work.cells c.fetch-op.ensures.op)
-    (c.fine_frames_may_go_on.ensures.room_for (setting_of q) work.given q.place r.cells (shared_by q r)
-    c.fetch-op.result work.verified work.own work.fine work.cells c.fetch-op.ensures.op))
+    record {
+      runs = work.runs;
+      fits = c.fetch-op.ensures.fits;
+      may = may_here q r work c.fetch-op.result.now c.fetch-op.ensures.op
+          (c.fine_frames_may_go_on.ensures.typed (setting_of q) work.given q.place r.cells (shared_by q r)
+          c.fetch-op.result.now work.verified work.own work.fine c.fetch-op.ensures.op)
+          (c.fine_frames_may_go_on.ensures.room (setting_of q) work.given q.place r.cells (shared_by q r)
+          c.fetch-op.result.now work.verified work.own work.fine work.cells c.fetch-op.ensures.op)
+          (c.fine_frames_may_go_on.ensures.room_for (setting_of q) work.given q.place r.cells (shared_by q r)
+          c.fetch-op.result.now work.verified work.own work.fine work.cells c.fetch-op.ensures.op);
+    }
 
 pub returns : goal.returns
 returns c =
@@ -34,10 +33,8 @@ returns c =
     let r : Running = running_on c.args.cells.now c.args.pool.now c.args.left.now in
     let new : Running =
     running_on c.do_instruction.new.cells c.do_instruction.new.pool c.do_instruction.new.left in
-    stepped q r c.requires.work c.fetch-op.result c.fetch-op.ensures.op c.do_instruction.result new
-    (subst (λ (s : Frames). DoesHere q (λ w. effect w c.fetch-op.result)
-    (running_on s c.args.pool.now c.args.left.now) c.do_instruction.result new) c.fetch-op.ensures.place
-    c.do_instruction.ensures)
+    stepped q r c.requires.work c.fetch-op.result.now c.fetch-op.ensures.op c.do_instruction.result new
+    c.do_instruction.ensures
     c.fine_machines_go_on.ensures.goes_on
-    (c.instructions_are_steps.ensures (setting_of q) q.place r.cells (shared_by q r) c.fetch-op.result
+    (c.instructions_are_steps.ensures (setting_of q) q.place r.cells (shared_by q r) c.fetch-op.result.now
     c.fetch-op.ensures.op)

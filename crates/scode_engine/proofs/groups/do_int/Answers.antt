@@ -1,0 +1,14 @@
+use Rattle.scode_engine.specs.Root.{rooted}
+use Rattle.scode_engine.proofs.Here.{done, may}
+use Rattle.scode_engine.proofs.groups.do_int.Goals as goal
+
+pub int_instruction-requires-clause-may : goal.int_instruction-requires-clause-may
+int_instruction-requires-clause-may c =
+    may (rooted c.args.call.now) c.args.op c.args.cells.now c.args.pool.now c.args.left.now c.requires.next
+    c.skip.new.cells c.skip.ensures
+
+pub returns : goal.returns
+returns c =
+    done (rooted c.args.call.now) c.args.op c.args.cells.now c.args.pool.now c.args.left.now c.requires.next
+    c.skip.new.cells c.skip.ensures c.going_on.result c.int_instruction.result c.int_instruction.new.cells c.going_on.ensures
+    c.int_instruction.ensures
