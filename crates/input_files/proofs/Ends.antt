@@ -8,7 +8,7 @@ use Rattle.sed_outside.specs.Steps.{Read, UnlessFree, Agree}
 use Rattle.sed_outside.specs.Reads.{HasReads, AreGiven, AreKnown, failed_names}
 use Rattle.sed_outside.proofs.One.{IsOne, told_agree}
 use Rattle.input_files.specs.declared.refusal.InputRefusal.{InputRefusal}
-use Rattle.input_files.specs.declared.refusal.InputRefusal.TheVariants.{FileFault, BadUsers, ShortSecret, BadRecord, Memory}
+use Rattle.input_files.specs.declared.refusal.InputRefusal.TheVariants.{FileFault, BadUsers, ShortSecret, BadRecord, BadImage, BrokenRule, Memory}
 use Rattle.input_files.specs.Refusals.{is_want, IsFileFault, EndsAs, failed_in}
 
 -- How a step ends: what the same reads give is one, and its refusal tells the reads that failed.
@@ -33,6 +33,8 @@ comes {T} {X} F a b step ends r has told end known is = by_end r has.holds where
   by_end (Err BadUsers) held = inl (same (Err BadUsers) refl held)
   by_end (Err ShortSecret) held = inl (same (Err ShortSecret) refl held)
   by_end (Err (BadRecord at)) held = inl (same (Err (BadRecord at)) refl held)
+  by_end (Err (BadImage at)) held = inl (same (Err (BadImage at)) refl held)
+  by_end (Err (BrokenRule method at rule)) held = inl (same (Err (BrokenRule method at rule)) refl held)
   by_end (Err Memory) held = tt
 
 pub fault_rose : {T X : Type 0} (F : Ghosts T) (a b : T) (step : List Read → Result X InputRefusal → Type 0) (ends : Ends step) (r : Result X InputRefusal)
@@ -54,4 +56,6 @@ fault_comes {T} {X} F a b step ends r has file moved = by_end r has.holds where
   by_end (Err BadUsers) held = absurd (still (Err BadUsers) refl held)
   by_end (Err ShortSecret) held = absurd (still (Err ShortSecret) refl held)
   by_end (Err (BadRecord at)) held = absurd (still (Err (BadRecord at)) refl held)
+  by_end (Err (BadImage at)) held = absurd (still (Err (BadImage at)) refl held)
+  by_end (Err (BrokenRule method at rule)) held = absurd (still (Err (BrokenRule method at rule)) refl held)
   by_end (Err Memory) held = tt

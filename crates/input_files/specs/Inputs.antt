@@ -1,13 +1,18 @@
--- Input files are read: the users file, the secret file and the record.
-use Rattle.std.specs.Prelude.{◌≡◌, ◌≤◌, ◌<◌, ℕ, List, length, take, Result, Ok, Err}
+-- Input files are read: the users file, the secret file, the record and the image.
+use Rattle.std.specs.Prelude.{◌≡◌, ◌⊎◌, ◌≤◌, ◌<◌, ℕ, List, length, take, Result, Ok, Err}
 use Rattle.sed_outside.specs.Steps.{Read, Decides, AndThen}
 use Rattle.sed_outside.specs.Reads.{TextOf}
 use Rattle.dasp_session.specs.declared.user.User.{User}
 use Rattle.dasp_session.specs.UsersFile.{IsUsersFile}
 use Rattle.replay_log.specs.Entry.{Entry}
 use Rattle.replay_log.specs.Record.{IsRecord, IsRefusedAt}
+use Rattle.scode_image.specs.declared.image.Image.{Image}
+use Rattle.scode_image.specs.Grammar.{FaultsAt, IsImage}
+use Rattle.scode_code.specs.Breaks.{BreaksNone, IsFirstBroken}
+use Rattle.scode_code.specs.Faults.{Broken}
 use Rattle.input_files.specs.declared.refusal.InputRefusal.{InputRefusal}
 use Rattle.input_files.specs.declared.refusal.InputRefusal.TheVariants.{FileFault, BadUsers, ShortSecret, BadRecord}
+use Rattle.input_files.specs.declared.refusal.InputRefusal.TheVariants.{BadImage, BrokenRule}
 
 -- The file of a name is read. Where the read fails it ends with that file's fault; else its text decides.
 abbrev pub InputRead : {X : Type 0} → (List ℕ → Result X InputRefusal → Type 0) → List ℕ
@@ -50,3 +55,28 @@ IsRecordOf text (Err refusal) = (at : ℕ) × (refusal ≡ BadRecord at) × IsRe
 -- The record of this name is read.
 unfoldable pub RecordRead : List ℕ → List Read → Result (List ℕ) InputRefusal → Type 0
 RecordRead = InputRead IsRecordOf
+
+-- ---- the image
+
+-- The image breaks no rule, and is given as it stands; or this is the first rule that it breaks.
+abbrev pub IsChecked : Image → Result Image InputRefusal → Type 0
+IsChecked image (Ok code) = (code ≡ image) × BreaksNone image
+IsChecked image (Err refusal) =
+    (broken : Broken) × IsFirstBroken image broken × (refusal ≡ BrokenRule broken.method broken.at broken.rule)
+
+-- The text is that of an image, which is checked.
+abbrev pub IsOfImage : List ℕ → Result Image InputRefusal → Type 0
+IsOfImage text end = (image : Image) × IsImage text image × IsChecked image end
+
+-- The text is no image, for a fault at a place.
+abbrev pub IsNoImage : List ℕ → InputRefusal → Type 0
+IsNoImage text refusal = (at : ℕ) × FaultsAt text at × (refusal ≡ BadImage at)
+
+-- The text is that of an image that breaks no rule; or it is that of one that breaks one, or no image.
+abbrev pub IsCodeOf : List ℕ → Result Image InputRefusal → Type 0
+IsCodeOf text (Ok code) = IsOfImage text (Ok code)
+IsCodeOf text (Err refusal) = IsNoImage text refusal ⊎ IsOfImage text (Err refusal)
+
+-- The image of this name is read.
+unfoldable pub CodeRead : List ℕ → List Read → Result Image InputRefusal → Type 0
+CodeRead = InputRead IsCodeOf

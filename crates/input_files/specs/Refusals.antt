@@ -2,7 +2,7 @@
 use Rattle.std.specs.Prelude.{◌≡◌, ◌⊎◌, ℕ, Bool, true, false, List, [], ◌∷◌, Result, Ok, Err}
 use Rattle.input_files.specs.declared.refusal.InputRefusal.{InputRefusal}
 use Rattle.input_files.specs.declared.refusal.InputRefusal.TheVariants.{FileFault, BadUsers, ShortSecret, BadRecord}
-use Rattle.input_files.specs.declared.refusal.InputRefusal.TheVariants.{Memory}
+use Rattle.input_files.specs.declared.refusal.InputRefusal.TheVariants.{BadImage, BrokenRule, Memory}
 
 -- it is want of memory
 abbrev pub is_want : InputRefusal → Bool
@@ -10,6 +10,8 @@ is_want (FileFault file) = false
 is_want BadUsers = false
 is_want ShortSecret = false
 is_want (BadRecord at) = false
+is_want (BadImage at) = false
+is_want (BrokenRule method at rule) = false
 is_want Memory = true
 
 -- the names of the reads that failed, by the refusal, and by how it ended
@@ -18,6 +20,8 @@ failed_of (FileFault file) = file ∷ []
 failed_of BadUsers = []
 failed_of ShortSecret = []
 failed_of (BadRecord at) = []
+failed_of (BadImage at) = []
+failed_of (BrokenRule method at rule) = []
 failed_of Memory = []
 
 abbrev pub failed_in : {X : Type 0} → Result X InputRefusal → List (List ℕ)
@@ -31,6 +35,8 @@ IsFileFault (Err (FileFault file)) = Unit {0}
 IsFileFault (Err BadUsers) = ⊥
 IsFileFault (Err ShortSecret) = ⊥
 IsFileFault (Err (BadRecord at)) = ⊥
+IsFileFault (Err (BadImage at)) = ⊥
+IsFileFault (Err (BrokenRule method at rule)) = ⊥
 IsFileFault (Err Memory) = ⊥
 
 -- It ends as the other does, or the file could not be read.

@@ -12,6 +12,12 @@ pub enum InputRefusal {
     ShortSecret,
     /// The bytes are no record, for a cause at this place, counted from 0.
     BadRecord { at: usize },
+    /// The bytes are no image: the field that starts at this place, counted from 0, is the first that is cut or not
+    /// allowed; or an image ends there, and bytes stand behind it.
+    BadImage { at: usize },
+    /// The image breaks this rule at this place of this method, and none before it. A rule on its tables is told by
+    /// method 65,535 and place 0.
+    BrokenRule { method: u16, at: u16, rule: u8 },
     /// Memory was wanted.
     Memory,
 }

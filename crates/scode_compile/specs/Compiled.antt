@@ -18,9 +18,10 @@ pub record IsCompiled (program : Program) (image : Image) : Type 0 where
   pub image_is : image ≡ image_of program
   pub means : made.meaning_of image ≡ source.meaning_of program
 
--- The text is that of a verified image that carries the program.
+-- The text is that of a verified image that carries the program, and means what the program means.
 pub record IsImageOf (program : Program) (text : List ℕ) : Type 0 where
   pub image : Image
   pub is_text : IsImage text image
   pub verified : IsVerified image
   pub carries : Carries (made.code_of image) (source.code_of program)
+  pub means : made.meaning_of image ≡ source.meaning_of program

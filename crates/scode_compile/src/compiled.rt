@@ -3,6 +3,7 @@ ghost use Rattle.std.specs.Prelude.{◌≡◌, ◌++◌, ℕ, List, All, Err, If
 ghost use Rattle.std.specs.FinMap as map;
 ghost use Rattle.sed_typed.specs.Typed.{Typed};
 ghost use Rattle.sed_engine.specs.Program.{meaning_of};
+ghost use Rattle.scode_code.specs.Image as made;
 ghost use Rattle.scode_gen.specs.Generated.{IsFirstTooLong, IsShort, image_of};
 ghost use Rattle.scode_compile.specs.Compiled.{IsImageOf};
 ghost use Rattle.scode_compile.specs.declared.refusal.CompileRefusal.TheVariants.{Memory as WantOfMemory};
@@ -74,6 +75,15 @@ impl Compiled {
         let Compiled { program, image } = self;
         drop(program);
         Machine::new(alloc, image, limit)
+    }
+
+    /// The verified image alone, which means what the program means.
+    pub fn into_verified(self) -> Verified
+        ensures means { made.meaning_of result ≡ meaning_of self }
+    {
+        let Compiled { program, image } = self;
+        drop(program);
+        image
     }
 
     /// Puts the text of the image behind the bytes that are there. It is the text of an image that carries the program.

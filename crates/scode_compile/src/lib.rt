@@ -4,9 +4,10 @@
 //! carries the program; and it means what the program means. Where the code of a method is too long the first such
 //! method is named, and there is no other refusal but for want of memory: that the verifier finds no fault in the image
 //! of a typed program is proved, so none is ever answered. `compile` keeps the image with its program: a `Compiled` is
-//! seen as the program, `Compiled::machine` is the engine that runs the image, and so one of the program, and
-//! `Compiled::write` puts the image's text. That programs which are the same, but for where their bodies lie in memory,
-//! are refused alike is a law here. Every command that loads kits or a source stands on this crate.
+//! seen as the program, `Compiled::machine` is the engine that runs the image, and so one of the program,
+//! `Compiled::into_verified` gives the image alone, and `Compiled::write` puts its text. Laws say that whatever image
+//! such a text is read as means what the program means, and that programs which are the same, but for where their
+//! bodies lie in memory, are refused alike. Every command that loads kits or a source stands on this crate.
 #![tactic(auto)]
 
 mod compiled;
@@ -17,5 +18,5 @@ mod right;
 
 pub use compiled::{Compiled, compile};
 pub use compiler::verified_image;
-pub use laws::programs_alike_are_refused_alike;
+pub use laws::{images_are_read_as_their_programs, programs_alike_are_refused_alike};
 pub use refusal::CompileRefusal;

@@ -2,23 +2,20 @@
 use Rattle.std.proofs.Common.{◌≡◌, ℕ, Bool, true, false, List, [], ◌∷◌, ◌++◌, Some, Result, Ok, Err, refl, sym, ap, subst, ◌∙◌, inl, inr, append_assoc}
 use Rattle.std.proofs.lemmas.List.{append-nil}
 use Rattle.std.proofs.lemmas.Grind.{flat_map-append}
-use Rattle.sed_typed.specs.declared.program.Program.{Program}
 use Rattle.sed_engine.specs.Code.{Meaning}
-use Rattle.sed_engine.specs.Program.{meaning_of}
 use Rattle.sed_engine.specs.Whole.{HasTables}
 use Rattle.comp_tree.specs.Application.{Application}
 use Rattle.app_file.specs.Reading.{CanBeTold, IsReadAs, Reading}
 use Rattle.sed_outside.specs.Steps.{Read, AndThen, Decides, stops, goes_on, Agree}
 use Rattle.sed_outside.proofs.One.{agree_back, agree_front}
 use Rattle.sed_check.specs.Loading.{Told}
-use Rattle.sed_check.specs.Refusals.{AreAlike}
 use Rattle.sedona_cli.specs.declared.refusal.Refusal.{Refusal}
 use Rattle.sedona_cli.specs.Agree.{AgreeOn, OpensAs, Pointwise}
 use Rattle.sedona_cli.specs.Outside.{Ask, Attaches, Opens, Opened, Found, NotAStore, Unread, read_of, reads_in, of_reads}
 use Rattle.sedona_cli.specs.Program.{refusal_by}
 use Rattle.sedona_cli.specs.Steps.{OfFiles, OfReads}
 use Rattle.sedona_cli.specs.Store.{AppRead, IsRead, StoreAttached, StoreOpened, application_in}
-use Rattle.sedona_cli.proofs.AlikeFiles.{programs_read_alike}
+use Rattle.sedona_cli.proofs.AlikeFiles.{MeanAlike, codes_read_alike}
 use Rattle.sedona_cli.proofs.Asking.{reads_of_reads}
 use Rattle.sedona_cli.proofs.Ends.{err_ok, ok_err, one_refusal}
 
@@ -56,10 +53,10 @@ attached_alike store a b asks rest back more is are agree =
 abbrev pub ReadsOne : Type 0
 ReadsOne = (m : Meaning) (limit : ℕ) (bytes : List ℕ) (one other : Reading) → HasTables m → CanBeTold m.schema → IsReadAs m limit bytes one → IsReadAs m limit bytes other → one ≡ other
 
-pub same_reading : ReadsOne → (p q : Program) (limit : ℕ) (payload : List ℕ) (end other : Result Application Refusal) → AreAlike p q → IsRead p limit payload end → IsRead q limit payload other → end ≡ other
-same_reading one p q limit payload end other alike is are =
+pub same_reading : ReadsOne → (m n : Meaning) (limit : ℕ) (payload : List ℕ) (end other : Result Application Refusal) → MeanAlike m n → IsRead m limit payload end → IsRead n limit payload other → end ≡ other
+same_reading one m n limit payload end other alike is are =
     is.end_is
-    ∙ ap application_in (one (meaning_of p) limit payload is.reading are.reading is.tables is.told is.is_read (programs_read_alike p q limit payload are.reading alike are.is_read))
+    ∙ ap application_in (one m limit payload is.reading are.reading is.tables is.told is.is_read (codes_read_alike m n limit payload are.reading alike are.is_read))
     ∙ sym are.end_is
 
 pub opened_alike : (a b : Opened) (asks rest back more : List Ask) → asks ≡ Opens a ∷ back → rest ≡ Opens b ∷ more → Pointwise asks rest → OpensAs a b
@@ -347,11 +344,20 @@ decides_alike H K A stop stop_go go_stop go = record {
   go = λ front back others rest x y h k agree. (go x y h.holds k.holds, nothing_before front back others rest h.none k.none agree);
 }
 
--- a payload read over programs that are alike
-pub read_ends : ReadsOne → (p q : Program) (limit : ℕ) (payload bytes : List ℕ) → AreAlike p q → payload ≡ bytes → EndsAlike (AppRead p limit payload) (AppRead q limit bytes) (λ (a b : Application). Unit {0})
-read_ends one p q limit payload bytes alike same =
-    decides_alike (IsRead p limit payload) (IsRead q limit bytes) (λ (a b : Application). Unit {0})
+same_value : {X : Type 0} (x y : X) → ◌≡◌ {A = Result X Refusal} (Ok x) (Ok y) → x ≡ y
+same_value x y same = cc
+
+-- values that are alike, and nothing more
+pub gives_alike : {X : Type 0} (A : X → X → Type 0) (i j : X) → A i j → EndsAlike (Decides (λ (end : Result X Refusal). end ≡ Ok i)) (Decides (λ (end : Result X Refusal). end ≡ Ok j)) A
+gives_alike {X} A i j alike =
+    decides_alike (λ end. end ≡ Ok i) (λ end. end ≡ Ok j) A (λ r s h k. absurd (err_ok r i h)) (λ r y h k. err_ok r i h) (λ x s h k. err_ok s j k)
+    (λ x y h k. subst (λ (l : X). A l y) (sym (same_value x i h)) (subst (λ (l : X). A i l) (sym (same_value y j k)) alike))
+
+-- a payload read over codes that are alike
+pub read_ends : ReadsOne → (m n : Meaning) (limit : ℕ) (payload bytes : List ℕ) → MeanAlike m n → payload ≡ bytes → EndsAlike (AppRead m limit payload) (AppRead n limit bytes) (λ (a b : Application). Unit {0})
+read_ends one m n limit payload bytes alike same =
+    decides_alike (IsRead m limit payload) (IsRead n limit bytes) (λ (a b : Application). Unit {0})
     (λ r s h k. one_refusal r s (ends (Err r) (Err s) h k)) (λ r y h k. err_ok r y (ends (Err r) (Ok y) h k)) (λ x s h k. ok_err x s (ends (Ok x) (Err s) h k)) (λ x y h k. tt)
   where
-    ends : (end other : Result Application Refusal) → IsRead p limit payload end → IsRead q limit bytes other → end ≡ other
-    ends end other h k = same_reading one p q limit bytes end other alike (subst (λ (t : List ℕ). IsRead p limit t end) same h) k
+    ends : (end other : Result Application Refusal) → IsRead m limit payload end → IsRead n limit bytes other → end ≡ other
+    ends end other h k = same_reading one m n limit bytes end other alike (subst (λ (t : List ℕ). IsRead m limit t end) same h) k

@@ -1,4 +1,5 @@
--- Programs that are alike in all but their methods read a file alike.
+-- Codes that differ in their root calls alone read a file alike, as those of programs that are alike in all but their
+-- methods.
 use Rattle.std.proofs.Common.{◌≡◌, ℕ, zero, suc, List, [], length, map, Option, Some, None, sym, subst, inl, inr}
 use Rattle.std.specs.Prelude.{IfSome, IsSomeAnd, position, sum_by}
 use Rattle.std.specs.FinMap as by
@@ -133,10 +134,16 @@ sizes_alike : (p q : Program) → fields p ≡ fields q → (depth : ℕ) → da
 sizes_alike p q same zero = λ i class. 0
 sizes_alike p q same (suc depth) = λ i class. sum_by (λ (f : Field). form_size (sizes_alike p q same depth i) f.form) (same i class)
 
-pub programs_read_alike : (p q : Program) (limit : ℕ) (bytes : List ℕ) (reading : Reading) → AreAlike p q → IsReadAs (meaning_of q) limit bytes reading → IsReadAs (meaning_of p) limit bytes reading
-programs_read_alike p q limit bytes reading alike is =
-    read_alike p.schema (meaning_of p).fields (meaning_of p).slot_field (meaning_of p).static_fields (meaning_of p).initial (meaning_of p).initial_statics (meaning_of p).data_size
-    (meaning_of q).root (meaning_of p).root limit bytes reading (subst (λ (m : Meaning). IsReadAs m limit bytes reading) (sym rooted) is)
+-- two codes differ in their root calls alone
+abbrev pub MeanAlike : Meaning → Meaning → Type 0
+MeanAlike m n = record m { root = n.root } ≡ n
+
+pub codes_read_alike : (m n : Meaning) (limit : ℕ) (bytes : List ℕ) (reading : Reading) → MeanAlike m n → IsReadAs n limit bytes reading → IsReadAs m limit bytes reading
+codes_read_alike m n limit bytes reading alike is =
+    read_alike m.schema m.fields m.slot_field m.static_fields m.initial m.initial_statics m.data_size n.root m.root limit bytes reading (subst (λ (k : Meaning). IsReadAs k limit bytes reading) (sym alike) is)
+
+pub programs_mean_alike : (p q : Program) → AreAlike p q → MeanAlike (meaning_of p) (meaning_of q)
+programs_mean_alike p q alike = rooted
   where
     all : fields p ≡ fields q
     all = fields_alike p q alike.schema alike.fields

@@ -11,7 +11,7 @@ use Rattle.sed_outside.proofs.Joining.{both_empty}
 use Rattle.sedona_cli.specs.Writing.{unwritten_in}
 use Rattle.sed_outside.specs.Reads.{AreGiven, AreKnown, AreTold, IsGiven, failed_name, failed_names}
 use Rattle.sedona_cli.specs.declared.refusal.Refusal.{Refusal}
-use Rattle.sedona_cli.specs.declared.refusal.Refusal.TheVariants.{FileFault, MethodTooLong, Refused, Rule, SlotTooSmall, DeviceFault, StoreExists, NoStore, NoApplication, WrongKits, OverLimit, BadUsers, ShortSecret, BadRecord, LinkFault, Memory}
+use Rattle.sedona_cli.specs.declared.refusal.Refusal.TheVariants.{FileFault, ImageBroken, ImageRefused, MethodTooLong, Refused, Rule, SlotTooSmall, DeviceFault, StoreExists, NoStore, NoApplication, WrongKits, OverLimit, BadUsers, ShortSecret, BadRecord, LinkFault, Memory}
 use Rattle.sedona_cli.specs.Agree.{AgreeOn, failed_by, failed_calls}
 use Rattle.sedona_words.specs.Command.{Command, output_of}
 use Rattle.sedona_cli.specs.Lines.{line_of, memory_line}
@@ -33,6 +33,8 @@ is_refused command asks before after fb fa (FileFault file) puts came = refused 
 is_refused command asks before after fb fa (Refused file why) puts came = refused (Refused file why) came refl puts
 is_refused command asks before after fb fa (Rule file at rule) puts came = refused (Rule file at rule) came refl puts
 is_refused command asks before after fb fa (MethodTooLong n) puts came = refused (MethodTooLong n) came refl puts
+is_refused command asks before after fb fa (ImageRefused at) puts came = refused (ImageRefused at) came refl puts
+is_refused command asks before after fb fa (ImageBroken method at rule) puts came = refused (ImageBroken method at rule) came refl puts
 is_refused command asks before after fb fa (SlotTooSmall needs has) puts came = refused (SlotTooSmall needs has) came refl puts
 is_refused command asks before after fb fa DeviceFault puts came = refused DeviceFault came refl puts
 is_refused command asks before after fb fa StoreExists puts came = refused StoreExists came refl puts
@@ -53,6 +55,8 @@ is_wanted command asks before after fb fa (FileFault file) worded puts came = wa
 is_wanted command asks before after fb fa (Refused file why) worded puts came = wanted (spares_early command asks (Refused file why) refl came) refl puts
 is_wanted command asks before after fb fa (Rule file at rule) worded puts came = wanted (spares_early command asks (Rule file at rule) refl came) refl puts
 is_wanted command asks before after fb fa (MethodTooLong n) worded puts came = wanted (spares_early command asks (MethodTooLong n) refl came) refl puts
+is_wanted command asks before after fb fa (ImageRefused at) worded puts came = wanted (spares_early command asks (ImageRefused at) refl came) refl puts
+is_wanted command asks before after fb fa (ImageBroken method at rule) worded puts came = wanted (spares_early command asks (ImageBroken method at rule) refl came) refl puts
 is_wanted command asks before after fb fa (SlotTooSmall needs has) worded puts came = wanted (spares_early command asks (SlotTooSmall needs has) refl came) refl puts
 is_wanted command asks before after fb fa (WrongKits kit in_file in_kits) worded puts came = wanted (spares_early command asks (WrongKits kit in_file in_kits) refl came) refl puts
 is_wanted command asks before after fb fa (OverLimit which) worded puts came = wanted (spares_early command asks (OverLimit which) refl came) refl puts
@@ -135,6 +139,8 @@ file_fault command made before after fb fa n old now name stays (refused (FileFa
 file_fault command made before after fb fa n old now name stays (refused (Refused file why) came is puts) moved = absurd (moved (stays.comes (Err (Refused file why)) came refl name))
 file_fault command made before after fb fa n old now name stays (refused (Rule file at rule) came is puts) moved = absurd (moved (stays.comes (Err (Rule file at rule)) came refl name))
 file_fault command made before after fb fa n old now name stays (refused (MethodTooLong number) came is puts) moved = absurd (moved (stays.comes (Err (MethodTooLong number)) came refl name))
+file_fault command made before after fb fa n old now name stays (refused (ImageRefused at) came is puts) moved = absurd (moved (stays.comes (Err (ImageRefused at)) came refl name))
+file_fault command made before after fb fa n old now name stays (refused (ImageBroken method at rule) came is puts) moved = absurd (moved (stays.comes (Err (ImageBroken method at rule)) came refl name))
 file_fault command made before after fb fa n old now name stays (refused (SlotTooSmall needs has) came is puts) moved =
     absurd (moved (stays.comes (Err (SlotTooSmall needs has)) came refl name))
 file_fault command made before after fb fa n old now name stays (refused DeviceFault came is puts) moved = absurd (moved (stays.comes (Err DeviceFault) came refl name))

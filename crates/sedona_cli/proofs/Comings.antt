@@ -23,6 +23,8 @@ use Rattle.sedona_cli.specs.Show.{ShowOf}
 use Rattle.sedona_cli.specs.Store.{StoreAttached, StoreMade}
 use Rattle.sed_cycles.specs.Cycles.{text_after}
 use Rattle.sedona_cli.proofs.Alike.{NeverRefused, ReadsOne, attached_alike, attached_ends, heads, never_stops, opened_ends, read_ends, reads_alike, stops_once, then_stops, true_false}
+use Rattle.sedona_cli.proofs.AlikeFiles.{programs_mean_alike}
+use Rattle.sedona_cli.proofs.Codes.{code_one}
 use Rattle.sedona_cli.proofs.Asking.{read_reads, reads_before, reads_spare}
 use Rattle.sedona_cli.proofs.Generated.{generates_early}
 use Rattle.sedona_cli.proofs.Imaging.{compile_early, compile_of_files, compile_one_end, compile_spares, compile_tells}
@@ -32,7 +34,7 @@ use Rattle.sedona_cli.proofs.Loadings.{HasOneEnd, InputsOne, InputsTell, LoadTel
 use Rattle.sedona_cli.proofs.LiveAsked.{Unbound, run_asked}
 use Rattle.sedona_cli.proofs.LiveEnds.{run_one_end, run_tells}
 use Rattle.sedona_cli.proofs.ReplayAsked.{replay_asked}
-use Rattle.sedona_cli.proofs.ReplayEnds.{reads_tell, replay_one_end, replay_tells, stops_start}
+use Rattle.sedona_cli.proofs.ReplayEnds.{code_tells, reads_tell, replay_one_end, replay_tells, stops_start}
 use Rattle.sedona_cli.proofs.StoreAsked.{IsOpening, StoreAsked, new_asked, of_payload, show_asked, spares_worded}
 
 -- ---- one end
@@ -153,7 +155,7 @@ one_show one store limit p q alike asks rest end other agree n m =
     stops_once (ShowOf store limit p) (ShowOf store limit q)
     (then_stops _ _ (λ (u v : Unit {0}). Unit {0}) _ _ (attached_ends store)
     (λ (u v : Unit {0}) any. then_stops _ _ (λ (x y : List ℕ). x ≡ y) _ _ opened_ends
-    (λ (x y : List ℕ) same. then_stops _ _ (λ (a b : Application). Unit {0}) _ _ (read_ends one p q limit x y alike same)
+    (λ (x y : List ℕ) same. then_stops _ _ (λ (a b : Application). Unit {0}) _ _ (read_ends one (meaning_of p) (meaning_of q) limit x y (programs_mean_alike p q alike) same)
     (λ (a b : Application) any. never_stops (Prints (application_text (meaning_of p) a)) (Prints (application_text (meaning_of q) b)) (prints_done (application_text (meaning_of p) a)) (prints_done (application_text (meaning_of q) b))))))
     asks rest end other (reads_none asks rest (show_reads store limit p asks end n).0 agree) n m
 
@@ -180,8 +182,8 @@ one_comes one (New names store slot) =
 one_comes one (Show names store limit) =
     one_loaded (KitsGenerated names) (ShowOf store limit) (one.kits names)
     (λ p q asks rest end other same agree n m. one_show one.reads store limit p q same asks rest end other agree.rest n m)
-one_comes one (Replay node file) = replay_one_end one.reads node file (one.kits node.kits) (one.inputs.users node.users) (one.inputs.secret node.secret) (one.inputs.record_text file)
-one_comes one (Run r) = run_one_end one.reads r (one.kits r.node.kits) (one.inputs.users r.node.users) (one.inputs.secret r.node.secret)
+one_comes one (Replay node file) = replay_one_end one.reads node file (code_one one.kits one.inputs.code node.code) (one.inputs.users node.users) (one.inputs.secret node.secret) (one.inputs.record_text file)
+one_comes one (Run r) = run_one_end one.reads r (code_one one.kits one.inputs.code r.node.code) (one.inputs.users r.node.users) (one.inputs.secret r.node.secret)
 one_comes one (Gen g) = gen_one_end g (one.kits g.kits) (one.inputs.users g.users) (one.inputs.secret g.secret)
 
 -- ---- the reads that failed
@@ -235,8 +237,8 @@ tells_comes kits text inputs (Check names) = tells_prints (KitsGenerated names) 
 tells_comes kits text inputs (Compile out names) = compile_tells out names (kits names)
 tells_comes kits text inputs (New names store slot) = tells_new names store slot (kits names)
 tells_comes kits text inputs (Show names store limit) = tells_show names store limit (kits names)
-tells_comes kits text inputs (Replay node file) = replay_tells node file (kits node.kits) (inputs.users node.users) (inputs.secret node.secret) (inputs.record_text file)
-tells_comes kits text inputs (Run r) = run_tells r (kits r.node.kits) (inputs.users r.node.users) (inputs.secret r.node.secret)
+tells_comes kits text inputs (Replay node file) = replay_tells node file (code_tells kits inputs.code node.code) (inputs.users node.users) (inputs.secret node.secret) (inputs.record_text file)
+tells_comes kits text inputs (Run r) = run_tells r (code_tells kits inputs.code r.node.code) (inputs.users r.node.users) (inputs.secret r.node.secret)
 tells_comes kits text inputs (Gen g) = gen_tells g (kits g.kits) (inputs.users g.users) (inputs.secret g.secret)
 
 -- ---- what is asked until a refusal

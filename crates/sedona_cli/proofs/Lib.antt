@@ -14,6 +14,7 @@ pub mod LiveEnds
 pub mod WritingLast
 pub mod Recording
 pub mod Imaging
+pub mod Codes
 pub mod Comings
 pub mod Answering
 pub mod Agreeing

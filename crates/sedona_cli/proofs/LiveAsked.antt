@@ -1,30 +1,27 @@
 -- What `run` has asked when it ends.
 use Rattle.std.proofs.Common.{◌≡◌, ◌⊎◌, ℕ, true, false, List, [], ◌∷◌, ◌++◌, Some, Ok, Err, sym, ap, subst, ◌∙◌, inl, inr}
-use Rattle.sed_typed.specs.declared.program.Program.{Program}
+use Rattle.sed_engine.specs.Code.{Meaning as Code}
 use Rattle.disk_model.specs.Disk.{Attaches as IsAttach}
 use Rattle.disk_model.specs.declared.disk.Disk.{Ghosts as DiskGhosts}
 use Rattle.dasp_session.specs.declared.user.User.{User}
 use Rattle.sed_outside.specs.Steps.{Read, stops, goes_on}
 use Rattle.input_files.specs.Inputs.{SecretRead, UsersRead}
-use Rattle.sed_check.specs.Loading.{KitsLoaded}
 use Rattle.sedona_cli.specs.declared.refusal.Refusal.{Refusal}
 use Rattle.sedona_cli.specs.declared.refusal.Refusal.TheVariants.{LinkFault}
 use Rattle.sedona_words.specs.Command.{NodeAsked, RunAsked}
 use Rattle.sedona_cli.specs.Nodes.{Opened}
 use Rattle.sedona_cli.specs.Outside.{Ask, Attaches, Binds, Opens, Runs, Ran, Found, of_reads, AreAsked}
 use Rattle.sedona_cli.specs.Refusals.{of_inputs}
-use Rattle.sedona_cli.specs.Steps.{KitsGenerated}
 use Rattle.sedona_cli.specs.Run.{RunComes, RunInputsRead}
 use Rattle.sedona_cli.proofs.Asking.{asked_behind}
 use Rattle.sedona_cli.proofs.Ends.{err_ok, ok_err, one_refusal}
-use Rattle.sedona_cli.proofs.Generated.{generates_early}
-use Rattle.sedona_cli.proofs.ReplayAsked.{FilesAlone, early_inputs, files_alone, gives_alone, of_open, opened_to, reads_alone, then_alone}
+use Rattle.sedona_cli.proofs.ReplayAsked.{FilesAlone, code_alone, early_inputs, files_alone, gives_alone, of_open, opened_to, then_alone}
 use Rattle.sedona_cli.proofs.StoreAsked.{IsOpening, Last, StoreAsked, behind, ends_before}
 
 pub run_inputs_alone : (node : NodeAsked) → FilesAlone (RunInputsRead node)
 run_inputs_alone node =
-    then_alone _ _ (reads_alone (KitsGenerated node.kits) (generates_early (KitsLoaded node.kits)))
-    (λ (p : Program). then_alone _ _ (files_alone of_inputs (UsersRead node.users) early_inputs)
+    then_alone _ _ (code_alone node.code)
+    (λ (code : Code). then_alone _ _ (files_alone of_inputs (UsersRead node.users) early_inputs)
     (λ (u : List User). then_alone _ _ (files_alone of_inputs (SecretRead node.secret) early_inputs) (λ (s : List ℕ). gives_alone _)))
 
 -- ---- it was refused
@@ -50,11 +47,11 @@ run_asked asked asks r (stops s read e) =
     inl (ends_before all.0 s all.1 (ap (λ (x : Refusal). Some x) (one_refusal {X = List ℕ} r s e)) ((run_inputs_alone asked.node).early asks s read))
 run_asked asked asks r (goes_on front back i parts read (stops s opened e)) =
     let all = (run_inputs_alone asked.node).reads front (Ok i) read in
-    inl (of_open asked.node.store asked.node.limit i.program asks front back all.0 r parts all.1
-    (subst (λ (x : Refusal). Opened asked.node.store asked.node.limit i.program back (Err x)) (sym (one_refusal {X = List ℕ} r s e)) opened))
+    inl (of_open asked.node.store asked.node.limit i.code asks front back all.0 r parts all.1
+    (subst (λ (x : Refusal). Opened asked.node.store asked.node.limit i.code back (Err x)) (sym (one_refusal {X = List ℕ} r s e)) opened))
 run_asked asked asks r (goes_on front back i parts read (goes_on g d a more opened (stops s bound e))) =
     let all = (run_inputs_alone asked.node).reads front (Ok i) read in
-    let to = opened_to asked.node.store asked.node.limit i.program g a opened in
+    let to = opened_to asked.node.store asked.node.limit i.code g a opened in
     inr (record {
       reads = all.0;
       payload = to.payload;
@@ -81,7 +78,7 @@ live_behind asked asks text (goes_on front back i parts read (stops s opened e))
 live_behind asked asks text (goes_on front back i parts read (goes_on g d a more opened (stops s bound e))) = absurd (ok_err text s e)
 live_behind asked asks text (goes_on front back i parts read (goes_on g d a more opened (goes_on h k u last bound lives))) =
     let all = (run_inputs_alone asked.node).reads front (Ok i) read in
-    let to = opened_to asked.node.store asked.node.limit i.program g a opened in
+    let to = opened_to asked.node.store asked.node.limit i.code g a opened in
     record {
       reads = all.0;
       payload = to.payload;

@@ -8,7 +8,7 @@ use Rattle.sed_outside.specs.declared.link.Link.{Ghosts as LinkGhosts}
 use Rattle.disk_model.specs.declared.disk.Disk.{Ghosts as DiskGhosts}
 use Rattle.sed_outside.specs.Steps.{Read, stops, goes_on}
 use Rattle.sed_outside.proofs.Joining.{same_reads}
-use Rattle.sedona_cli.specs.declared.inputs.NodeInputs.{NodeInputs}
+use Rattle.sedona_cli.specs.Given.{Given}
 use Rattle.sedona_words.specs.Command.{Command, Cycles, Check, Compile, Gen, New, Replay, Run, RunAsked, Show, port_of}
 use Rattle.sedona_cli.specs.Outside.{Ask, of_reads, reads_in, AreAsked, HasAsks}
 use Rattle.sedona_cli.specs.Program.{AsksLiveOf, IsAnswer, done, unput, stopped, refused, wanted}
@@ -27,25 +27,26 @@ use Rattle.sedona_cli.proofs.Storing.{five, no_link}
 
 -- ---- numbers of statuses
 
-none_before : (n : ℕ) → n ≢ 2 → n ≢ 3 → n ≢ 4 → n ≢ 5 → n ≢ 9 → n ≢ 11 → n ≢ 12 → IsOneOf before_link n → ⊥
-none_before n two three four five_not nine eleven twelve (inl e) = two e
-none_before n two three four five_not nine eleven twelve (inr (inl e)) = three e
-none_before n two three four five_not nine eleven twelve (inr (inr (inl e))) = four e
-none_before n two three four five_not nine eleven twelve (inr (inr (inr (inl e)))) = five_not e
-none_before n two three four five_not nine eleven twelve (inr (inr (inr (inr (inl e))))) = nine e
-none_before n two three four five_not nine eleven twelve (inr (inr (inr (inr (inr (inl e)))))) = eleven e
-none_before n two three four five_not nine eleven twelve (inr (inr (inr (inr (inr (inr (inl e))))))) = twelve e
-none_before n two three four five_not nine eleven twelve (inr (inr (inr (inr (inr (inr (inr never))))))) = never
+none_before : (n : ℕ) → n ≢ 2 → n ≢ 3 → n ≢ 4 → n ≢ 5 → n ≢ 6 → n ≢ 9 → n ≢ 11 → n ≢ 12 → IsOneOf before_link n → ⊥
+none_before n two three four five_not six nine eleven twelve (inl e) = two e
+none_before n two three four five_not six nine eleven twelve (inr (inl e)) = three e
+none_before n two three four five_not six nine eleven twelve (inr (inr (inl e))) = four e
+none_before n two three four five_not six nine eleven twelve (inr (inr (inr (inl e)))) = five_not e
+none_before n two three four five_not six nine eleven twelve (inr (inr (inr (inr (inl e))))) = six e
+none_before n two three four five_not six nine eleven twelve (inr (inr (inr (inr (inr (inl e)))))) = nine e
+none_before n two three four five_not six nine eleven twelve (inr (inr (inr (inr (inr (inr (inl e))))))) = eleven e
+none_before n two three four five_not six nine eleven twelve (inr (inr (inr (inr (inr (inr (inr (inl e)))))))) = twelve e
+none_before n two three four five_not six nine eleven twelve (inr (inr (inr (inr (inr (inr (inr (inr never)))))))) = never
 
-not_before : (status n : ℕ) → status ≡ n → n ≢ 2 → n ≢ 3 → n ≢ 4 → n ≢ 5 → n ≢ 9 → n ≢ 11 → n ≢ 12 → IsOneOf before_link status → ⊥
-not_before status n is two three four five_not nine eleven twelve at = none_before n two three four five_not nine eleven twelve (subst (λ (k : ℕ). IsOneOf before_link k) is at)
+not_before : (status n : ℕ) → status ≡ n → n ≢ 2 → n ≢ 3 → n ≢ 4 → n ≢ 5 → n ≢ 6 → n ≢ 9 → n ≢ 11 → n ≢ 12 → IsOneOf before_link status → ⊥
+not_before status n is two three four five_not six nine eleven twelve at = none_before n two three four five_not six nine eleven twelve (subst (λ (k : ℕ). IsOneOf before_link k) is at)
 
 -- what was done is none of them
 done_before : (status : ℕ) → IsOneOf (0 ∷ 8 ∷ []) status → IsOneOf before_link status → ⊥
 done_before status (inl is) at =
-    not_before status 0 is (λ e. omega (arith, e)) (λ e. omega (arith, e)) (λ e. omega (arith, e)) (λ e. omega (arith, e)) (λ e. omega (arith, e)) (λ e. omega (arith, e)) (λ e. omega (arith, e)) at
+    not_before status 0 is (λ e. omega (arith, e)) (λ e. omega (arith, e)) (λ e. omega (arith, e)) (λ e. omega (arith, e)) (λ e. omega (arith, e)) (λ e. omega (arith, e)) (λ e. omega (arith, e)) (λ e. omega (arith, e)) at
 done_before status (inr (inl is)) at =
-    not_before status 8 is (λ e. omega (arith, e)) (λ e. omega (arith, e)) (λ e. omega (arith, e)) (λ e. omega (arith, e)) (λ e. omega (arith, e)) (λ e. omega (arith, e)) (λ e. omega (arith, e)) at
+    not_before status 8 is (λ e. omega (arith, e)) (λ e. omega (arith, e)) (λ e. omega (arith, e)) (λ e. omega (arith, e)) (λ e. omega (arith, e)) (λ e. omega (arith, e)) (λ e. omega (arith, e)) (λ e. omega (arith, e)) at
 done_before status (inr (inr never)) at = never
 
 done_not : (status n : ℕ) → status ≡ n → n ≢ 0 → n ≢ 8 → IsOneOf (0 ∷ 8 ∷ []) status → ⊥
@@ -72,7 +73,7 @@ module _ {U V : Type 0} (L : LinkGhosts U) (C : ClockGhosts V) (port status : �
   }
   quiet Done (unbound ten bind untaken rose polls polled offered still) = record {
     never = λ before.
-        absurd (not_before status 10 ten (λ e. omega (arith, e)) (λ e. omega (arith, e)) (λ e. omega (arith, e)) (λ e. omega (arith, e)) (λ e. omega (arith, e)) (λ e. omega (arith, e)) (λ e. omega (arith, e)) before);
+        absurd (not_before status 10 ten (λ e. omega (arith, e)) (λ e. omega (arith, e)) (λ e. omega (arith, e)) (λ e. omega (arith, e)) (λ e. omega (arith, e)) (λ e. omega (arith, e)) (λ e. omega (arith, e)) (λ e. omega (arith, e)) before);
     once = λ at. bind;
     at_most_once = λ seven. absurd (omega (arith, seven, ten));
     taken = λ at. absurd (done_not status 10 ten (λ e. omega (arith, e)) (λ e. omega (arith, e)) at);
@@ -82,7 +83,7 @@ module _ {U V : Type 0} (L : LinkGhosts U) (C : ClockGhosts V) (port status : �
   }
   quiet Done (unready seven bind taken silent) = record {
     never = λ before.
-        absurd (not_before status 7 seven (λ e. omega (arith, e)) (λ e. omega (arith, e)) (λ e. omega (arith, e)) (λ e. omega (arith, e)) (λ e. omega (arith, e)) (λ e. omega (arith, e)) (λ e. omega (arith, e)) before);
+        absurd (not_before status 7 seven (λ e. omega (arith, e)) (λ e. omega (arith, e)) (λ e. omega (arith, e)) (λ e. omega (arith, e)) (λ e. omega (arith, e)) (λ e. omega (arith, e)) (λ e. omega (arith, e)) (λ e. omega (arith, e)) before);
     once = λ at. bind;
     at_most_once = λ again. inr (bind, taken);
     taken = λ at. taken;
@@ -147,7 +148,7 @@ link_fault F D L C (Gen g) asks x y link link_now clock clock_now disk disk_now 
 
 none_by : {T : Type 0} → ReadsOne → OpensOnce → (D : DiskGhosts T) (asked : RunAsked) (asks : List Ask) (reads : List Read) (before after : Option (List ℕ)) (fb fa status : ℕ) (d e : T)
     → reads_in asks ≡ reads → AreAsked D asks d e → status ≡ 5 → IsTrue (D.meaning d).tells → IsAnswer (Run asked) asks before after fb fa status
-    → (inputs : NodeInputs) × RunInputsRead asked.node (of_reads reads) (Ok inputs) × OpensNone inputs.program asked.node.limit (D.meaning d).content
+    → (inputs : Given) × RunInputsRead asked.node (of_reads reads) (Ok inputs) × OpensNone inputs.code asked.node.limit (D.meaning d).content
 none_by one once D asked asks reads before after fb fa status d e is went five_is told (done text came nought put same) = absurd (omega (arith, nought, five_is))
 none_by one once D asked asks reads before after fb fa status d e is went five_is told (unput text came at_once eight rose front) = absurd (omega (arith, eight, five_is))
 none_by one once D asked asks reads before after fb fa status d e is went five_is told (stopped put last until eight rose front) = absurd until
@@ -161,10 +162,10 @@ none_by one once D asked asks reads before after fb fa status d e is went five_i
 none_by one once D asked asks reads before after fb fa status d e is went five_is told (refused refusal (goes_on front back i parts read (stops r opened same)) number puts) =
     let all = (run_inputs_alone asked.node).reads front (Ok i) read in
     let none =
-    none_of one once D asked.node.store asked.node.limit i.program asks front back all.0 r d e parts all.1 (ap of_refusal (sym (one_refusal {X = List ℕ} refusal r same)) ∙ sym number ∙ five_is) told went opened
+    none_of one once D asked.node.store asked.node.limit i.code asks front back all.0 r d e parts all.1 (ap of_refusal (sym (one_refusal {X = List ℕ} refusal r same)) ∙ sym number ∙ five_is) told went opened
     in
     let these : all.0 ≡ reads =
-    sym (reads_before all.0 back (open_reads asked.node.store asked.node.limit i.program back (Err r) opened))
+    sym (reads_before all.0 back (open_reads asked.node.store asked.node.limit i.code back (Err r) opened))
     ∙ ap (λ (f : List Ask). reads_in (f ++ back)) (sym all.1)
     ∙ ap reads_in (sym parts)
     ∙ is

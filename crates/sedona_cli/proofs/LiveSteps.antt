@@ -30,14 +30,12 @@ use Rattle.sed_node.specs.Replaying.{end_text}
 use Rattle.printed_app.specs.Puts.{Puts as PutsText}
 use Rattle.sed_engine.specs.declared.engine.Engine.{Ghosts}
 use Rattle.sed_engine.specs.Code.{Meaning as Code}
-use Rattle.sed_engine.specs.Program.{meaning_of}
 use Rattle.sed_node.specs.Living.{AreRounds, IsLeft, Sleeps, offers}
 use Rattle.sed_node.specs.Standing.{code_of, is_fixed, setup_of}
 use Rattle.sed_node.specs.declared.node.Node.{Node as Kept}
-use Rattle.sed_typed.specs.declared.program.Program.{Program}
-use Rattle.sedona_cli.specs.declared.inputs.NodeInputs.{NodeInputs}
+use Rattle.sedona_cli.specs.Given.{Given}
 use Rattle.sedona_cli.specs.declared.refusal.Refusal.{Refusal}
-use Rattle.sedona_cli.specs.declared.refusal.Refusal.TheVariants.{FileFault, MethodTooLong, Refused, Rule, SlotTooSmall, DeviceFault, StoreExists, NoStore, NoApplication, WrongKits, OverLimit, BadUsers, ShortSecret, BadRecord, LinkFault, Memory}
+use Rattle.sedona_cli.specs.declared.refusal.Refusal.TheVariants.{FileFault, ImageBroken, ImageRefused, MethodTooLong, Refused, Rule, SlotTooSmall, DeviceFault, StoreExists, NoStore, NoApplication, WrongKits, OverLimit, BadUsers, ShortSecret, BadRecord, LinkFault, Memory}
 use Rattle.sedona_words.specs.Command.{NodeAsked, Run, RunAsked}
 use Rattle.sedona_cli.specs.Lines.{line_of, memory_line}
 use Rattle.sedona_cli.specs.Nodes.{IsReady, IsRunFrom, Opened}
@@ -46,7 +44,7 @@ use Rattle.sedona_cli.specs.Program.{ComesOrWants, IsAnswer, done, unput, refuse
 use Rattle.sedona_cli.specs.Puts.{IsOneOf, Puts}
 use Rattle.sedona_cli.specs.Refusals.{is_want, is_worded}
 use Rattle.sedona_cli.specs.Run.{AnswersLive, was_run, was_unbound, was_unready, AsksLive, unasked, unbound, unready, all_done, EndsPut, all_put, not_put, Lives, RanBy, RunComes, RunInputsRead, RunOpened, RunsKept, RunsLive, RunsOn, RunsReady, ShowsEnd, WasTaken, at_link}
-use Rattle.sedona_cli.specs.Steps.{AfterKits, AfterSecret, AfterUsers}
+use Rattle.sedona_cli.specs.Steps.{AfterCode, AfterSecret, AfterUsers}
 use Rattle.sedona_cli.proofs.Agreeing.{OpensOnce}
 use Rattle.sedona_cli.proofs.Asking.{both_asked, both_disk, only_reads, reads_asked, reads_before, reads_spare, same_disk, spares_behind}
 use Rattle.sedona_cli.proofs.Building.{match_both}
@@ -61,43 +59,43 @@ use Rattle.sedona_cli.proofs.Storing.{early_link, store_link}
 -- ---- what is read of the words of a node
 
 -- what stands behind each of its files
-abbrev OfSecret : Program → List User → List ℕ → List Ask → Result NodeInputs Refusal → Type 0
-OfSecret p u s = Decides (λ (end : Result NodeInputs Refusal). end ≡ Ok (record { program = p; users = u; secret = s }))
+abbrev OfSecret : Code → List User → List ℕ → List Ask → Result Given Refusal → Type 0
+OfSecret p u s = Decides (λ (end : Result Given Refusal). end ≡ Ok (record { code = p; users = u; secret = s }))
 
-abbrev OfUsers : NodeAsked → Program → List User → List Ask → Result NodeInputs Refusal → Type 0
+abbrev OfUsers : NodeAsked → Code → List User → List Ask → Result Given Refusal → Type 0
 OfUsers node p u = AndThen (AfterSecret node.secret) (OfSecret p u)
 
-abbrev OfKits : NodeAsked → Program → List Ask → Result NodeInputs Refusal → Type 0
-OfKits node p = AndThen (AfterUsers node.users) (OfUsers node p)
+abbrev OfCode : NodeAsked → Code → List Ask → Result Given Refusal → Type 0
+OfCode node p = AndThen (AfterUsers node.users) (OfUsers node p)
 
 abbrev Reads : {T X : Type 0} → FileGhosts T → T → T → (List Ask → Result X Refusal → Type 0) → Result X Refusal → Type 0
 Reads F a b S end = HasReads F a b (λ reads. UnlessFree is_want (S (of_reads reads)) end)
 
-module _ {T : Type 0} (F : FileGhosts T) (node : NodeAsked) (x0 x1 : T) (kits : Result Program Refusal) (read_kits : Reads F x0 x1 (AfterKits node.kits) kits) where
-  pub run_kits_refused : (r : Refusal) → kits ≡ Err r → Reads F x0 x1 (RunInputsRead node) (Err r)
-  run_kits_refused r is = reads_stop F x0 x1 (AfterKits node.kits) (OfKits node) kits r is read_kits
+module _ {T : Type 0} (F : FileGhosts T) (node : NodeAsked) (x0 x1 : T) (code : Result Code Refusal) (read_code : Reads F x0 x1 (AfterCode node.code) code) where
+  pub run_code_refused : (r : Refusal) → code ≡ Err r → Reads F x0 x1 (RunInputsRead node) (Err r)
+  run_code_refused r is = reads_stop F x0 x1 (AfterCode node.code) (OfCode node) code r is read_code
 
-  module _ (p : Program) (is_kits : kits ≡ Ok p) (x2 : T) (users : Result (List User) Refusal) (read_users : Reads F x1 x2 (AfterUsers node.users) users) where
+  module _ (p : Code) (is_code : code ≡ Ok p) (x2 : T) (users : Result (List User) Refusal) (read_users : Reads F x1 x2 (AfterUsers node.users) users) where
     pub run_users_refused : (r : Refusal) → users ≡ Err r → Reads F x0 x2 (RunInputsRead node) (Err r)
     run_users_refused r is =
-        reads_go F x0 x1 x2 (AfterKits node.kits) (OfKits node) kits p (Err r) is_kits read_kits
+        reads_go F x0 x1 x2 (AfterCode node.code) (OfCode node) code p (Err r) is_code read_code
         (reads_stop F x1 x2 (AfterUsers node.users) (OfUsers node p) users r is read_users)
 
     module _ (u : List User) (is_users : users ≡ Ok u) (x3 : T) (secret : Result (List ℕ) Refusal) (read_secret : Reads F x2 x3 (AfterSecret node.secret) secret) where
       pub run_secret_refused : (r : Refusal) → secret ≡ Err r → Reads F x0 x3 (RunInputsRead node) (Err r)
       run_secret_refused r is =
-          reads_go F x0 x1 x3 (AfterKits node.kits) (OfKits node) kits p (Err r) is_kits read_kits
+          reads_go F x0 x1 x3 (AfterCode node.code) (OfCode node) code p (Err r) is_code read_code
           (reads_go F x1 x2 x3 (AfterUsers node.users) (OfUsers node p) users u (Err r) is_users read_users
           (reads_stop F x2 x3 (AfterSecret node.secret) (OfSecret p u) secret r is read_secret))
 
-      pub run_all_read : (s : List ℕ) → secret ≡ Ok s → Reads F x0 x3 (RunInputsRead node) (Ok (record { program = p; users = u; secret = s }))
+      pub run_all_read : (s : List ℕ) → secret ≡ Ok s → Reads F x0 x3 (RunInputsRead node) (Ok (record { code = p; users = u; secret = s }))
       run_all_read s is =
-          reads_go F x0 x1 x3 (AfterKits node.kits) (OfKits node) kits p (Ok given) is_kits read_kits
+          reads_go F x0 x1 x3 (AfterCode node.code) (OfCode node) code p (Ok given) is_code read_code
           (reads_go F x1 x2 x3 (AfterUsers node.users) (OfUsers node p) users u (Ok given) is_users read_users
           (reads_go F x2 x3 x3 (AfterSecret node.secret) (OfSecret p u) secret s (Ok given) is read_secret (reads_end F x3 given)))
         where
-          given : NodeInputs
-          given = record { program = p; users = u; secret = s }
+          given : Given
+          given = record { code = p; users = u; secret = s }
 
 -- ---- a node that is ready is run
 
@@ -166,7 +164,7 @@ pub so_taken : {E : Type 0} (bound : Option Bound) (r : Result (Unit {0}) E) (wa
 so_taken bound r was_taken is told = subst (λ (b : Bool). WasTaken bound b) is told
 
 -- the port was not taken
-pub answers_unbound : {T : Type 0} (D : DiskGhosts T) (asked : RunAsked) (i : NodeInputs) (a : Application) (before after : Option (List ℕ)) (fb fa status : ℕ) (d : T)
+pub answers_unbound : {T : Type 0} (D : DiskGhosts T) (asked : RunAsked) (i : Given) (a : Application) (before after : Option (List ℕ)) (fb fa status : ℕ) (d : T)
     → (status ≡ of_refusal LinkFault) × Puts before after fb fa (line_of LinkFault) → AsksDisk D d d (λ asks. AnswersLive asked i a asks before after fb fa status)
 answers_unbound D asked i a before after fb fa status d (ten, puts) = record {
   asks = Binds asked.port false ∷ [];
@@ -182,7 +180,7 @@ as_memory before after fb fa status r is plain =
     subst (λ (x : Refusal). is_worded x ≡ false → (status ≡ of_refusal x) × Puts before after fb fa (line_of x)) is plain refl
 
 -- memory was wanted behind it
-pub answers_unready : {T : Type 0} (D : DiskGhosts T) (asked : RunAsked) (i : NodeInputs) (a : Application) (before after : Option (List ℕ)) (fb fa status : ℕ) (d : T)
+pub answers_unready : {T : Type 0} (D : DiskGhosts T) (asked : RunAsked) (i : Given) (a : Application) (before after : Option (List ℕ)) (fb fa status : ℕ) (d : T)
     → (status ≡ of_refusal Memory) × Puts before after fb fa memory_line → AsksDisk D d d (λ asks. AnswersLive asked i a asks before after fb fa status)
 answers_unready D asked i a before after fb fa status d (seven, puts) = record {
   asks = Binds asked.port true ∷ [];
@@ -195,7 +193,7 @@ module _ {T U V : Type 0} (D : DiskGhosts T) (L : LinkGhosts U) (C : ClockGhosts
     (before after : Option (List ℕ)) (fb fa status : ℕ) (link bound link_now : U) (clock begun clock_now : V) (d e : T)
     (r : RunsReady D L C moment asked.node.turns code users secret a asked.cycles before after fb fa status bound link_now begun d e) where
   -- as it is asked
-  pub answers_run : (i : NodeInputs) → code ≡ meaning_of i.program → users ≡ i.users → secret ≡ i.secret → AsksDisk D d e (λ asks. AnswersLive asked i a asks before after fb fa status)
+  pub answers_run : (i : Given) → code ≡ i.code → users ≡ i.users → secret ≡ i.secret → AsksDisk D d e (λ asks. AnswersLive asked i a asks before after fb fa status)
   answers_run i is_code are_users is_secret = record {
     asks = Binds asked.port true ∷ Runs r.ran ∷ [];
     unread = refl;
@@ -207,8 +205,8 @@ module _ {T U V : Type 0} (D : DiskGhosts T) (L : LinkGhosts U) (C : ClockGhosts
       lives = record {
         moment = moment;
         ran = r.ran;
-        is_run = subst (λ (s : List ℕ). IsRunFrom moment asked.node.turns (meaning_of i.program) i.users s a r.ran) is_secret
-            (subst (λ (u : List User). IsRunFrom moment asked.node.turns (meaning_of i.program) u secret a r.ran) are_users
+        is_run = subst (λ (s : List ℕ). IsRunFrom moment asked.node.turns i.code i.users s a r.ran) is_secret
+            (subst (λ (u : List User). IsRunFrom moment asked.node.turns i.code u secret a r.ran) are_users
             (subst (λ (m : Code). IsRunFrom moment asked.node.turns m users secret a r.ran) is_code r.is_run));
         asks_are = refl;
         end_is = refl;
@@ -258,7 +256,7 @@ module _ {T U V : Type 0} (D : DiskGhosts T) (L : LinkGhosts U) (C : ClockGhosts
 -- ---- with what is read
 
 -- what is opened, and then that
-joined : (asked : RunAsked) (i : NodeInputs) (a : Application) (reads : List Read) (before after : Option (List ℕ)) (fb fa status : ℕ) (front back : List Ask) → RunInputsRead asked.node (of_reads reads) (Ok i)
+joined : (asked : RunAsked) (i : Given) (a : Application) (reads : List Read) (before after : Option (List ℕ)) (fb fa status : ℕ) (front back : List Ask) → RunInputsRead asked.node (of_reads reads) (Ok i)
     → RunOpened asked.node i front (Ok a) → AnswersLive asked i a back before after fb fa status → IsAnswer (Run asked) (of_reads reads ++ (front ++ back)) before after fb fa status
 joined asked i a reads before after fb fa status front back read opens (was_run text lives (all_put is put steady)) =
     done text (goes_on (of_reads reads) (front ++ back) i refl read (goes_on front back a refl opens lives)) is put steady
@@ -272,10 +270,10 @@ joined asked i a reads before after fb fa status front back read opens (was_unre
     spared : Spares (Some asked.node.store) (front ++ back)
     spared =
         subst (λ (b : List Ask). Spares (Some asked.node.store) (front ++ b)) (sym asks_are)
-        (subst (λ (f : List Ask). Spares (Some asked.node.store) (f ++ Binds asked.port true ∷ [])) (sym (opened_to asked.node.store asked.node.limit i.program front a opens).asks_are)
+        (subst (λ (f : List Ask). Spares (Some asked.node.store) (f ++ Binds asked.port true ∷ [])) (sym (opened_to asked.node.store asked.node.limit i.code front a opens).asks_are)
         (record { unwritten = refl; attached = inr (refl, refl) }))
 
-pub live_answers : {T : Type 0} (D : DiskGhosts T) (d m e : T) (asked : RunAsked) (i : NodeInputs) (a : Application) (reads : List Read) (before after : Option (List ℕ)) (fb fa status : ℕ)
+pub live_answers : {T : Type 0} (D : DiskGhosts T) (d m e : T) (asked : RunAsked) (i : Given) (a : Application) (reads : List Read) (before after : Option (List ℕ)) (fb fa status : ℕ)
     → RunInputsRead asked.node (of_reads reads) (Ok i) → AsksDisk D d m (λ asks. RunOpened asked.node i asks (Ok a)) → AsksDisk D m e (λ asks. AnswersLive asked i a asks before after fb fa status)
     → AsksDisk D d e (λ asks. IsAnswer (Run asked) (of_reads reads ++ asks) before after fb fa status)
 live_answers D d m e asked i a reads before after fb fa status read first second =
@@ -283,13 +281,13 @@ live_answers D d m e asked i a reads before after fb fa status read first second
     (λ front back opens answers. joined asked i a reads before after fb fa status front back read opens answers) first second
 
 -- it was refused at the store
-refused_behind : (asked : RunAsked) (i : NodeInputs) (reads : List Read) (refusal : Refusal) (asks : List Ask) → RunInputsRead asked.node (of_reads reads) (Ok i)
+refused_behind : (asked : RunAsked) (i : Given) (reads : List Read) (refusal : Refusal) (asks : List Ask) → RunInputsRead asked.node (of_reads reads) (Ok i)
     → OrWants (Some asked.node.store) (RunOpened asked.node i) asks (Err refusal) → ComesOrWants (Run asked) (of_reads reads ++ asks) (Err refusal)
 refused_behind asked i reads refusal asks read held =
     match_both (is_want refusal) (Spares (Some asked.node.store) asks) (RunOpened asked.node i asks (Err refusal)) (Spares (Some asked.node.store) (of_reads reads ++ asks)) (RunComes asked (of_reads reads ++ asks) (Err refusal))
     (λ spared. spares_behind (Some asked.node.store) reads asks spared) (λ opens. goes_on (of_reads reads) asks i refl read (stops refusal opens refl)) held
 
-pub live_refused : {T : Type 0} (D : DiskGhosts T) (d e : T) (asked : RunAsked) (i : NodeInputs) (reads : List Read) (before after : Option (List ℕ)) (fb fa status : ℕ) (refusal : Refusal)
+pub live_refused : {T : Type 0} (D : DiskGhosts T) (d e : T) (asked : RunAsked) (i : Given) (reads : List Read) (before after : Option (List ℕ)) (fb fa status : ℕ) (refusal : Refusal)
     → RunInputsRead asked.node (of_reads reads) (Ok i) → ((asks : List Ask) → ComesOrWants (Run asked) asks (Err refusal) → IsAnswer (Run asked) asks before after fb fa status)
     → AsksDisk D d e (λ asks. OrWants (Some asked.node.store) (RunOpened asked.node i) asks (Err refusal)) → AsksDisk D d e (λ asks. IsAnswer (Run asked) (of_reads reads ++ asks) before after fb fa status)
 live_refused D d e asked i reads before after fb fa status refusal read answers has =
@@ -305,12 +303,12 @@ asks_so L C port status link link_now clock clock_now P Q so (unready seven bind
 asks_so L C port status link link_now clock clock_now P Q so (all_done at bind taken done_so) = all_done at bind taken (so at done_so)
 
 -- a run on the application that its store opens to
-pub runs_kept : {T U V : Type 0} → OpensOnce → (D : DiskGhosts T) → IsLawful D → (L : LinkGhosts U) (C : ClockGhosts V) (asked : RunAsked) (i : NodeInputs) (a : Application) (code : Code) (before after : Option (List ℕ)) (status : ℕ)
-    (link link_now : U) (clock clock_now : V) (d m e : T) → code ≡ meaning_of i.program → AsksDisk D d m (λ asks. RunOpened asked.node i asks (Ok a))
+pub runs_kept : {T U V : Type 0} → OpensOnce → (D : DiskGhosts T) → IsLawful D → (L : LinkGhosts U) (C : ClockGhosts V) (asked : RunAsked) (i : Given) (a : Application) (code : Code) (before after : Option (List ℕ)) (status : ℕ)
+    (link link_now : U) (clock clock_now : V) (d m e : T) → code ≡ i.code → AsksDisk D d m (λ asks. RunOpened asked.node i asks (Ok a))
     → RunsOn D L C asked code i.users i.secret a before after status link link_now clock clock_now m e
     → RunsKept D L C asked i before after status link link_now clock clock_now d e
 runs_kept once D law L C asked i a code before after status link link_now clock clock_now d m e is_code first r =
-    let to = opened_to asked.node.store asked.node.limit i.program first.asks a first.holds in
+    let to = opened_to asked.node.store asked.node.limit i.code first.asks a first.holds in
     record {
       application = a;
       ran = r.ran;
@@ -323,7 +321,7 @@ runs_kept once D law L C asked i a code before after status link link_now clock 
   where
     held : HeldRun D asked.node.store asked.node.limit a r.ran d e
     held =
-        let to = opened_to asked.node.store asked.node.limit i.program first.asks a first.holds in
+        let to = opened_to asked.node.store asked.node.limit i.code first.asks a first.holds in
         record {
           payload = to.payload;
           is_file = subst (λ (c : Code). IsFile c asked.node.limit to.payload a) (sym (r.live.is_run.code ∙ is_code)) to.is_file;
@@ -339,6 +337,8 @@ seven_of (FileFault file) is = absurd (cc)
 seven_of (Refused file why) is = absurd (cc)
 seven_of (Rule file at rule) is = absurd (cc)
 seven_of (MethodTooLong n) is = absurd (cc)
+seven_of (ImageRefused at) is = absurd (cc)
+seven_of (ImageBroken method at rule) is = absurd (cc)
 seven_of (SlotTooSmall needs has) is = absurd (cc)
 seven_of DeviceFault is = absurd (cc)
 seven_of StoreExists is = absurd (cc)
@@ -356,16 +356,16 @@ unlinked : (b : Bool) (r : Refusal) (S P : Type 0) → is_want r ≡ b → (P �
 unlinked true r S P is not held ten = let seven = seven_of r is in absurd (omega (arith, seven, ten))
 unlinked false r S P is not held ten = not held ten
 
-pub inputs_unlinked : {S : Type 0} (F : FileGhosts S) (x y : S) (node : NodeAsked) (end : Result NodeInputs Refusal) (r : Refusal) → end ≡ Err r
+pub inputs_unlinked : {S : Type 0} (F : FileGhosts S) (x y : S) (node : NodeAsked) (end : Result Given Refusal) (r : Refusal) → end ≡ Err r
     → HasReads F x y (λ reads. UnlessFree is_want (RunInputsRead node (of_reads reads)) end) → of_refusal r ≡ 10 → ⊥
 inputs_unlinked F x y node end r is has ten =
-    let read = subst (λ (e : Result NodeInputs Refusal). HasReads F x y (λ reads. UnlessFree is_want (RunInputsRead node (of_reads reads)) e)) is has in
+    let read = subst (λ (e : Result Given Refusal). HasReads F x y (λ reads. UnlessFree is_want (RunInputsRead node (of_reads reads)) e)) is has in
     unlinked (is_want r) r (Unit {0}) (RunInputsRead node (of_reads read.reads) (Err r)) refl (λ early is_link. early_link r ((run_inputs_alone node).early (of_reads read.reads) r early) is_link) read.holds ten
 
-pub open_unlinked : (store : List ℕ) (limit : ℕ) (program : Program) (asks : List Ask) (r : Refusal) → OrWants (Some store) (Opened store limit program) asks (Err r) → of_refusal r ≡ 10 → ⊥
-open_unlinked store limit program asks r held ten =
-    unlinked (is_want r) r (Spares (Some store) asks) (Opened store limit program asks (Err r)) refl
-    (λ opens is. store_link _ store asks r (of_open store limit program asks [] asks [] r refl refl opens) is) held ten
+pub open_unlinked : (store : List ℕ) (limit : ℕ) (code : Code) (asks : List Ask) (r : Refusal) → OrWants (Some store) (Opened store limit code) asks (Err r) → of_refusal r ≡ 10 → ⊥
+open_unlinked store limit code asks r held ten =
+    unlinked (is_want r) r (Spares (Some store) asks) (Opened store limit code asks (Err r)) refl
+    (λ opens is. store_link _ store asks r (of_open store limit code asks [] asks [] r refl refl opens) is) held ten
 
 -- its status is none at which the port was asked for
 pub not_linked : (status : ℕ) (r : Refusal) → (IsOneOf (0 ∷ 8 ∷ []) status → ⊥) → IsOneOf (of_refusal r ∷ 7 ∷ []) status → (of_refusal r ≡ 10 → ⊥) → IsOneOf at_link status → ⊥
@@ -378,7 +378,7 @@ not_linked status r undone numbered not (inr (inr (inr never))) = never
 
 -- ---- all of it
 
-pub live_goes : {S T : Type 0} (F : FileGhosts S) (D : DiskGhosts T) (x y : S) (d e : T) (node : NodeAsked) (r : Result NodeInputs Refusal) (i : NodeInputs) (P : List Ask → Type 0) → r ≡ Ok i
+pub live_goes : {S T : Type 0} (F : FileGhosts S) (D : DiskGhosts T) (x y : S) (d e : T) (node : NodeAsked) (r : Result Given Refusal) (i : Given) (P : List Ask → Type 0) → r ≡ Ok i
     → HasReads F x y (λ reads. UnlessFree is_want (RunInputsRead node (of_reads reads)) r)
     → ((reads : List Read) → RunInputsRead node (of_reads reads) (Ok i) → AsksDisk D d e (λ asks. P (of_reads reads ++ asks))) → HasAsks F D x y d e P
 live_goes F D x y d e node r i P is has rest =
@@ -389,9 +389,9 @@ live_goes F D x y d e node r i P is has rest =
       reads_before reads more.asks more.unread,
       both_asked D (of_reads reads) more.asks d d e (reads_asked D reads d) more.asked,
       more.holds,
-    )) (subst (λ (end : Result NodeInputs Refusal). HasReads F x y (λ reads. UnlessFree is_want (RunInputsRead node (of_reads reads)) end)) is has)
+    )) (subst (λ (end : Result Given Refusal). HasReads F x y (λ reads. UnlessFree is_want (RunInputsRead node (of_reads reads)) end)) is has)
 
-pub live_unread : {S T : Type 0} (F : FileGhosts S) (D : DiskGhosts T) (x y : S) (d : T) (asked : RunAsked) (r : Result NodeInputs Refusal) (refusal : Refusal) (P : List Ask → Type 0) → r ≡ Err refusal
+pub live_unread : {S T : Type 0} (F : FileGhosts S) (D : DiskGhosts T) (x y : S) (d : T) (asked : RunAsked) (r : Result Given Refusal) (refusal : Refusal) (P : List Ask → Type 0) → r ≡ Err refusal
     → HasReads F x y (λ reads. UnlessFree is_want (RunInputsRead asked.node (of_reads reads)) r) → ((asks : List Ask) → ComesOrWants (Run asked) asks (Err refusal) → P asks) → HasAsks F D x y d d P
 live_unread F D x y d asked r refusal P is has answers =
     only_reads F D x y d P
@@ -400,15 +400,15 @@ live_unread F D x y d asked r refusal P is has answers =
     answers (of_reads reads)
     (match_both (is_want refusal) (Unit {0}) (RunInputsRead asked.node (of_reads reads) (Err refusal)) (Spares (Some asked.node.store) (of_reads reads)) (RunComes asked (of_reads reads) (Err refusal))
     (λ any. reads_spare (Some asked.node.store) reads) (λ read. stops refusal read refl) held))
-    (subst (λ (end : Result NodeInputs Refusal). HasReads F x y (λ reads. UnlessFree is_want (RunInputsRead asked.node (of_reads reads)) end)) is has))
+    (subst (λ (end : Result Given Refusal). HasReads F x y (λ reads. UnlessFree is_want (RunInputsRead asked.node (of_reads reads)) end)) is has))
 
 -- with what the files gave
-pub ran_by_files : {S T U V : Type 0} (F : FileGhosts S) (D : DiskGhosts T) (L : LinkGhosts U) (C : ClockGhosts V) (asked : RunAsked) (x y : S) (r : Result NodeInputs Refusal) (i : NodeInputs) → r ≡ Ok i
+pub ran_by_files : {S T U V : Type 0} (F : FileGhosts S) (D : DiskGhosts T) (L : LinkGhosts U) (C : ClockGhosts V) (asked : RunAsked) (x y : S) (r : Result Given Refusal) (i : Given) → r ≡ Ok i
     → HasReads F x y (λ reads. UnlessFree is_want (RunInputsRead asked.node (of_reads reads)) r)
     → (link link_now : U) (clock clock_now : V) (disk disk_now : T) (before after : Option (List ℕ)) (status : ℕ) → RunsKept D L C asked i before after status link link_now clock clock_now disk disk_now
     → RanBy F D L C asked x y link link_now clock clock_now disk disk_now before after status
 ran_by_files F D L C asked x y r i is has link link_now clock clock_now disk disk_now before after status kept =
     same_reads F x y (λ reads. UnlessFree is_want (RunInputsRead asked.node (of_reads reads)) (Ok i))
-    (λ reads. (inputs : NodeInputs) × RunInputsRead asked.node (of_reads reads) (Ok inputs) × RunsKept D L C asked inputs before after status link link_now clock clock_now disk disk_now)
+    (λ reads. (inputs : Given) × RunInputsRead asked.node (of_reads reads) (Ok inputs) × RunsKept D L C asked inputs before after status link link_now clock clock_now disk disk_now)
     (λ reads held. (i, held, kept))
-    (subst (λ (end : Result NodeInputs Refusal). HasReads F x y (λ reads. UnlessFree is_want (RunInputsRead asked.node (of_reads reads)) end)) is has)
+    (subst (λ (end : Result Given Refusal). HasReads F x y (λ reads. UnlessFree is_want (RunInputsRead asked.node (of_reads reads)) end)) is has)

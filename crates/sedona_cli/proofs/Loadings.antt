@@ -2,9 +2,10 @@
 use Rattle.std.proofs.Common.{◌≡◌, ℕ, false, List, [], Result, Ok, Err, refl, ap, sym}
 use Rattle.sed_typed.specs.declared.program.Program.{Program}
 use Rattle.dasp_session.specs.declared.user.User.{User}
+use Rattle.scode_image.specs.declared.image.Image.{Image}
 use Rattle.sed_outside.specs.Steps.{Read, Agree}
 use Rattle.sed_outside.specs.Reads.{failed_names}
-use Rattle.input_files.specs.Inputs.{RecordRead, SecretRead, UsersRead}
+use Rattle.input_files.specs.Inputs.{CodeRead, RecordRead, SecretRead, UsersRead}
 use Rattle.input_files.specs.Refusals.{failed_in as inputs_failed_in, failed_of as inputs_failed}
 use Rattle.input_files.specs.declared.refusal.InputRefusal.{InputRefusal}
 use Rattle.input_files.specs.declared.refusal.InputRefusal.TheVariants as inputs
@@ -58,11 +59,13 @@ pub record InputsOne : Type 0 where
   pub users : (name : List ℕ) → InputOne {X = List User} (UsersRead name)
   pub secret : (name : List ℕ) → InputOne {X = List ℕ} (SecretRead name)
   pub record_text : (name : List ℕ) → InputOne {X = List ℕ} (RecordRead name)
+  pub code : (name : List ℕ) → InputOne {X = Image} (CodeRead name)
 
 pub record InputsTell : Type 0 where
   pub users : (name : List ℕ) → InputTells {X = List User} (UsersRead name)
   pub secret : (name : List ℕ) → InputTells {X = List ℕ} (SecretRead name)
   pub record_text : (name : List ℕ) → InputTells {X = List ℕ} (RecordRead name)
+  pub code : (name : List ℕ) → InputTells {X = Image} (CodeRead name)
 
 same_value : {X : Type 0} (x y : X) → ◌≡◌ {A = Result X InputRefusal} (Ok x) (Ok y) → x ≡ y
 same_value x y same = cc
@@ -89,4 +92,6 @@ failed_inputs (inputs.FileFault file) = refl
 failed_inputs inputs.BadUsers = refl
 failed_inputs inputs.ShortSecret = refl
 failed_inputs (inputs.BadRecord at) = refl
+failed_inputs (inputs.BadImage at) = refl
+failed_inputs (inputs.BrokenRule method at rule) = refl
 failed_inputs inputs.Memory = refl

@@ -1,8 +1,6 @@
 -- A payload is read and printed.
 use Rattle.std.proofs.Common.{◌≡◌, ℕ, List, Ok, Err, refl, ap, subst, ◌∙◌}
-use Rattle.sed_typed.specs.declared.program.Program.{Program}
 use Rattle.sed_engine.specs.Code.{Meaning}
-use Rattle.sed_engine.specs.Program.{meaning_of}
 use Rattle.sed_engine.specs.Whole.{HasTables}
 use Rattle.comp_tree.specs.Application.{Application}
 use Rattle.app_file.specs.Reading.{CanBeTold, IsFile, IsRefusedFor, file, no_file, over_limit, wrong_kits}
@@ -12,20 +10,20 @@ use Rattle.printed_app.specs.Application.{application_text}
 use Rattle.sedona_cli.specs.Refusals.{of_app}
 use Rattle.sedona_cli.specs.Show.{PrintedOrWants}
 
--- over an engine of the program, with that limit
-module _ (program : Program) (limit : ℕ) (payload : List ℕ) (tables : HasTables (meaning_of program)) (told : CanBeTold program.schema) where
-  unprinted_here : (refusal : AppRefusal) → IsRefusedFor (meaning_of program) limit payload refusal → PrintedOrWants program limit payload (Err (of_app refusal))
+-- over an engine of the code, with that limit
+module _ (code : Meaning) (limit : ℕ) (payload : List ℕ) (tables : HasTables code) (told : CanBeTold code.schema) where
+  unprinted_here : (refusal : AppRefusal) → IsRefusedFor code limit payload refusal → PrintedOrWants code limit payload (Err (of_app refusal))
   unprinted_here (app.NotAnApp at) is = record { tables = tables; told = told; reading = no_file; is_read = is; end_is = refl }
   unprinted_here (app.WrongKits place in_file in_kits) is = record { tables = tables; told = told; reading = wrong_kits place in_file in_kits; is_read = is; end_is = refl }
   unprinted_here (app.OverLimit which) is = record { tables = tables; told = told; reading = over_limit which; is_read = is; end_is = refl }
   unprinted_here app.Memory is = tt
 
-  pub unprinted : (m : Meaning) (most : ℕ) (refusal : AppRefusal) → m ≡ meaning_of program → most ≡ limit → IsRefusedFor m most payload refusal → PrintedOrWants program limit payload (Err (of_app refusal))
+  pub unprinted : (m : Meaning) (most : ℕ) (refusal : AppRefusal) → m ≡ code → most ≡ limit → IsRefusedFor m most payload refusal → PrintedOrWants code limit payload (Err (of_app refusal))
   unprinted m most refusal same is_most is =
       unprinted_here refusal (subst (λ (n : Meaning). IsRefusedFor n limit payload refusal) same (subst (λ (n : ℕ). IsRefusedFor m n payload refusal) is_most is))
 
-  pub is_printed : (m : Meaning) (most : ℕ) (n : Meaning) (a : Application) (text : List ℕ) → m ≡ meaning_of program → most ≡ limit → n ≡ m → IsFile m most payload a → text ≡ application_text n a
-      → PrintedOrWants program limit payload (Ok text)
+  pub is_printed : (m : Meaning) (most : ℕ) (n : Meaning) (a : Application) (text : List ℕ) → m ≡ code → most ≡ limit → n ≡ m → IsFile m most payload a → text ≡ application_text n a
+      → PrintedOrWants code limit payload (Ok text)
   is_printed m most n a text same is_most is_of is print = (
     a,
     record {

@@ -1,8 +1,9 @@
 -- What `replay` has asked when it ends.
 use Rattle.std.proofs.Common.{◌≡◌, ℕ, true, false, List, [], ◌∷◌, ◌++◌, Some, Result, Ok, Err, refl, sym, ap, subst, ◌∙◌, inl, inr, append_assoc}
 use Rattle.std.proofs.lemmas.List.{append-nil}
+use Rattle.sed_engine.specs.Code.{Meaning as Code}
 use Rattle.sed_typed.specs.declared.program.Program.{Program}
-use Rattle.sed_engine.specs.Program.{meaning_of}
+use Rattle.scode_image.specs.declared.image.Image.{Image}
 use Rattle.comp_tree.specs.Application.{Application}
 use Rattle.app_file.specs.Reading.{IsFile}
 use Rattle.disk_model.specs.Disk.{Attaches as IsAttach}
@@ -11,18 +12,18 @@ use Rattle.dasp_session.specs.declared.user.User.{User}
 use Rattle.replay_log.specs.Entry.{Entry}
 use Rattle.replay_log.specs.Record.{IsRecord}
 use Rattle.sed_outside.specs.Steps.{Read, AndThen, Decides, stops, goes_on}
-use Rattle.input_files.specs.Inputs.{RecordRead, SecretRead, UsersRead}
+use Rattle.input_files.specs.Inputs.{CodeRead, RecordRead, SecretRead, UsersRead}
 use Rattle.input_files.specs.declared.refusal.InputRefusal.{InputRefusal}
 use Rattle.input_files.specs.declared.refusal.InputRefusal.TheVariants as inputs
 use Rattle.sed_check.specs.Loading.{KitsLoaded}
-use Rattle.sedona_cli.specs.declared.inputs.Inputs.{Inputs}
+use Rattle.sedona_cli.specs.Given.{GivenRecord}
 use Rattle.sedona_cli.specs.declared.refusal.Refusal.{Refusal}
-use Rattle.sedona_words.specs.Command.{NodeAsked}
+use Rattle.sedona_words.specs.Command.{CodeAsked, NodeAsked, OfImage, OfKits}
 use Rattle.sedona_cli.specs.Outside.{Ask, Reads, Attaches, Opens, Runs, Ran, Found, NotAStore, Unread, of_reads, AreAsked, IsRan}
 use Rattle.sedona_cli.specs.Refusals.{is_of_store, of_inputs}
 use Rattle.sedona_cli.specs.Nodes.{Opened}
 use Rattle.sedona_cli.specs.Replay.{InputsRead, IsRunOf, ReplayComes, ReplayStops}
-use Rattle.sedona_cli.specs.Steps.{KitsGenerated, OfFiles, OfReads}
+use Rattle.sedona_cli.specs.Steps.{AfterCode, KitsGenerated, OfFiles, OfReads}
 use Rattle.sedona_cli.proofs.Generated.{generates_early}
 use Rattle.sedona_cli.proofs.Asking.{asked_behind}
 use Rattle.sedona_cli.proofs.Ends.{err_ok, ok_err, one_refusal}
@@ -69,51 +70,58 @@ early_inputs (inputs.FileFault name) = refl
 early_inputs inputs.BadUsers = refl
 early_inputs inputs.ShortSecret = refl
 early_inputs (inputs.BadRecord at) = refl
+early_inputs (inputs.BadImage at) = refl
+early_inputs (inputs.BrokenRule method at rule) = refl
 early_inputs inputs.Memory = refl
+
+-- the code of a node
+pub code_alone : (code : CodeAsked) → FilesAlone (AfterCode code)
+code_alone (OfKits names) = then_alone _ _ (reads_alone (KitsGenerated names) (generates_early (KitsLoaded names))) (λ (p : Program). gives_alone _)
+code_alone (OfImage file) = then_alone _ _ (files_alone of_inputs (CodeRead file) early_inputs) (λ (i : Image). gives_alone _)
 
 pub inputs_alone : (node : NodeAsked) (file : List ℕ) → FilesAlone (InputsRead node file)
 inputs_alone node file =
-    then_alone _ _ (reads_alone (KitsGenerated node.kits) (generates_early (KitsLoaded node.kits)))
-    (λ (p : Program). then_alone _ _ (files_alone of_inputs (UsersRead node.users) early_inputs)
+    then_alone _ _ (code_alone node.code)
+    (λ (code : Code). then_alone _ _ (files_alone of_inputs (UsersRead node.users) early_inputs)
     (λ (u : List User). then_alone _ _ (files_alone of_inputs (SecretRead node.secret) early_inputs)
     (λ (s : List ℕ). then_alone _ _ (files_alone of_inputs (RecordRead file) early_inputs) (λ (t : List ℕ). gives_alone _))))
 
 -- ---- opening
 
 -- a store that is refused, or whose payload is
-pub of_open : (store : List ℕ) (limit : ℕ) (program : Program) (asks front back : List Ask) (reads : List Read) (r : Refusal) → asks ≡ front ++ back → front ≡ of_reads reads
-    → Opened store limit program back (Err r) → StoreAsked IsOpening store asks (Some r)
+pub of_open : (store : List ℕ) (limit : ℕ) (code : Code) (asks front back : List Ask) (reads : List Read) (r : Refusal) → asks ≡ front ++ back → front ≡ of_reads reads
+    → Opened store limit code back (Err r) → StoreAsked IsOpening store asks (Some r)
 unfolding Opened
-of_open store limit program asks front back reads r parts is (stops s attached e) =
+of_open store limit code asks front back reads r parts is (stops s attached e) =
     ends_unattached reads (behind asks front back reads (Attaches store false ∷ []) parts is attached.0) (ap (λ (x : Refusal). Some x) (one_refusal {X = Application} r s e ∙ attached.1))
-of_open store limit program asks front back reads r parts is (goes_on g d v second attached (stops s (inl opened) e)) =
+of_open store limit code asks front back reads r parts is (goes_on g d v second attached (stops s (inl opened) e)) =
     ends_at reads (Opens NotAStore)
     (behind asks front back reads (Attaches store true ∷ Opens NotAStore ∷ []) parts is
     (two_stop back g d (Attaches store true) (Opens NotAStore) second attached opened.0)) tt (ap (λ (x : Refusal). Some x) (one_refusal {X = Application} r s e ∙ opened.1))
-of_open store limit program asks front back reads r parts is (goes_on g d v second attached (stops s (inr opened) e)) =
+of_open store limit code asks front back reads r parts is (goes_on g d v second attached (stops s (inr opened) e)) =
     ends_at reads (Opens Unread)
     (behind asks front back reads (Attaches store true ∷ Opens Unread ∷ []) parts is
     (two_stop back g d (Attaches store true) (Opens Unread) second attached opened.0)) tt (ap (λ (x : Refusal). Some x) (one_refusal {X = Application} r s e ∙ opened.1))
-of_open store limit program asks front back reads r parts is (goes_on g d v second attached (goes_on h k payload third opened told)) =
+of_open store limit code asks front back reads r parts is (goes_on g d v second attached (goes_on h k payload third opened told)) =
     ends_at reads (Opens (Found payload))
     (behind asks front back reads (Attaches store true ∷ Opens (Found payload) ∷ []) parts is
     (two back g d h k (Attaches store true) (Opens (Found payload)) second attached third opened told.none)) tt
     (inr (r, refl, (of_payload told.holds.reading r told.holds.end_is).five))
 
 -- one that opens to an application
-pub record OpenedTo (store : List ℕ) (limit : ℕ) (program : Program) (asks : List Ask) (a : Application) : Type 0 where
+pub record OpenedTo (store : List ℕ) (limit : ℕ) (code : Code) (asks : List Ask) (a : Application) : Type 0 where
   pub payload : List ℕ
   pub asks_are : asks ≡ Attaches store true ∷ Opens (Found payload) ∷ []
-  pub is_file : IsFile (meaning_of program) limit payload a
+  pub is_file : IsFile code limit payload a
 
-pub opened_to : (store : List ℕ) (limit : ℕ) (program : Program) (asks : List Ask) (a : Application) → Opened store limit program asks (Ok a) → OpenedTo store limit program asks a
+pub opened_to : (store : List ℕ) (limit : ℕ) (code : Code) (asks : List Ask) (a : Application) → Opened store limit code asks (Ok a) → OpenedTo store limit code asks a
 unfolding Opened
-opened_to store limit program asks a (stops s attached e) = absurd (ok_err a s e)
-opened_to store limit program asks a (goes_on g d v second attached (stops s opened e)) = absurd (ok_err a s e)
-opened_to store limit program asks a (goes_on g d v second attached (goes_on h k payload third opened told)) = record {
+opened_to store limit code asks a (stops s attached e) = absurd (ok_err a s e)
+opened_to store limit code asks a (goes_on g d v second attached (stops s opened e)) = absurd (ok_err a s e)
+opened_to store limit code asks a (goes_on g d v second attached (goes_on h k payload third opened told)) = record {
   payload = payload;
   asks_are = two asks g d h k (Attaches store true) (Opens (Found payload)) second attached third opened told.none;
-  is_file = file_of program limit payload a told.holds.reading told.holds.end_is told.holds.is_read;
+  is_file = file_of code limit payload a told.holds.reading told.holds.end_is told.holds.is_read;
 }
 
 -- ---- all of it
@@ -124,17 +132,17 @@ replay_asked node file asks r (stops s read e) =
     ends_before all.0 s all.1 (ap (λ (x : Refusal). Some x) (one_refusal {X = List ℕ} r s e)) ((inputs_alone node file).early asks s read)
 replay_asked node file asks r (goes_on front back i parts read (stops s opened e)) =
     let all = (inputs_alone node file).reads front (Ok i) read in
-    of_open node.store node.limit i.program asks front back all.0 r parts all.1 (subst (λ (x : Refusal). Opened node.store node.limit i.program back (Err x)) (sym (one_refusal {X = List ℕ} r s e)) opened)
+    of_open node.store node.limit i.code asks front back all.0 r parts all.1 (subst (λ (x : Refusal). Opened node.store node.limit i.code back (Err x)) (sym (one_refusal {X = List ℕ} r s e)) opened)
 replay_asked node file asks r (goes_on front back i parts read (goes_on g d a more opened replays)) = absurd (err_ok r _ replays.end_is)
 
 -- a run, with what was read and opened before it
 pub record RanBy (node : NodeAsked) (file : List ℕ) (asks : List Ask) : Type 0 where
-  pub inputs : Inputs
+  pub inputs : GivenRecord
   pub reads : List Read
   pub read : InputsRead node file (of_reads reads) (Ok inputs)
   pub application : Application
   pub payload : List ℕ
-  pub is_file : IsFile (meaning_of inputs.program) node.limit payload application
+  pub is_file : IsFile inputs.code node.limit payload application
   pub ran : Ran
   pub is_run : IsRunOf node inputs application ran
   pub asks_are : asks ≡ of_reads reads ++ Attaches node.store true ∷ Opens (Found payload) ∷ Runs ran ∷ []
@@ -152,7 +160,7 @@ ran_by node file asks text (stops s read e) = absurd (ok_err text s e)
 ran_by node file asks text (goes_on front back i parts read (stops s opened e)) = absurd (ok_err text s e)
 ran_by node file asks text (goes_on front back i parts read (goes_on g d a more opened replays)) =
     let all = (inputs_alone node file).reads front (Ok i) read in
-    let to = opened_to node.store node.limit i.program g a opened in
+    let to = opened_to node.store node.limit i.code g a opened in
     record {
       inputs = i;
       reads = all.0;
@@ -169,12 +177,12 @@ ran_by node file asks text (goes_on front back i parts read (goes_on g d a more 
 
 unfoldable pub ran_until : (node : NodeAsked) (file : List ℕ) (asks : List Ask) (put last : List ℕ) → ReplayStops node file asks put last → RanBy node file asks
 ran_until node file asks put last s =
-    let all = (inputs_alone node file).reads s.of_inputs (Ok s.inputs) s.reads in
-    let to = opened_to node.store node.limit s.inputs.program s.of_store s.application s.opens in
+    let all = (inputs_alone node file).reads s.of_inputs (Ok s.given) s.reads in
+    let to = opened_to node.store node.limit s.given.code s.of_store s.application s.opens in
     record {
-      inputs = s.inputs;
+      inputs = s.given;
       reads = all.0;
-      read = subst (λ (l : List Ask). InputsRead node file l (Ok s.inputs)) all.1 s.reads;
+      read = subst (λ (l : List Ask). InputsRead node file l (Ok s.given)) all.1 s.reads;
       application = s.application;
       payload = to.payload;
       is_file = to.is_file;

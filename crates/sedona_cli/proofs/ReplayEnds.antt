@@ -1,71 +1,69 @@
 -- `replay` comes to one end, and tells the reads that failed; and where it was stopped, what it comes to else.
 use Rattle.std.proofs.Common.{◌≡◌, ℕ, true, List, [], ◌∷◌, ◌++◌, Result, Ok, Err, refl, sym, ap, subst, ◌∙◌, inl, inr, append_assoc}
 use Rattle.std.proofs.lemmas.Grind.{flat_map-append}
+use Rattle.sed_engine.specs.Code.{Meaning as Code}
 use Rattle.sed_typed.specs.declared.program.Program.{Program}
+use Rattle.scode_image.specs.declared.image.Image.{Image}
 use Rattle.comp_tree.specs.Application.{Application}
 use Rattle.dasp_session.specs.declared.user.User.{User}
 use Rattle.replay_log.specs.Entry.{Entry}
 use Rattle.sed_node.specs.Replaying.{replay_text}
 use Rattle.sed_outside.specs.Steps.{Read, AndThen, Decides, stops, goes_on, Agree}
 use Rattle.sed_outside.specs.Reads.{failed_name, failed_names}
-use Rattle.input_files.specs.Inputs.{RecordRead, SecretRead, UsersRead}
-use Rattle.sed_check.specs.Refusals.{AreAlike}
+use Rattle.input_files.specs.Inputs.{CodeRead, RecordRead, SecretRead, UsersRead}
 use Rattle.input_files.specs.declared.refusal.InputRefusal.{InputRefusal}
-use Rattle.sedona_cli.specs.declared.inputs.Inputs.{Inputs}
+use Rattle.sedona_cli.specs.Given.{GivenRecord}
 use Rattle.sedona_cli.specs.declared.refusal.Refusal.{Refusal}
 use Rattle.sedona_cli.specs.Agree.{AgreeOn, Pointwise, failed_by}
-use Rattle.sedona_words.specs.Command.{NodeAsked}
+use Rattle.sedona_words.specs.Command.{CodeAsked, NodeAsked, OfImage, OfKits}
 use Rattle.sedona_cli.specs.Outside.{Ask, Attaches, Opens, Runs, Ran, Found, read_of, reads_in}
 use Rattle.sedona_cli.specs.Refusals.{failed_of, of_inputs}
 use Rattle.sedona_cli.specs.Nodes.{Opened}
 use Rattle.sedona_cli.specs.Replay.{InputsRead, ReplayComes, ReplayStops, Replays}
-use Rattle.sedona_cli.specs.Steps.{KitsGenerated, OfFiles, OfReads}
+use Rattle.sedona_cli.specs.Steps.{AfterCode, KitsGenerated, OfFiles, OfReads}
 use Rattle.sedona_cli.specs.Store.{AppRead, StoreAttached, StoreOpened}
-use Rattle.sedona_cli.proofs.Alike.{EndsAlike, NeverRefused, ReadsOne, attached_ends, decides_alike, files_alike, never_stops, opened_ends, read_ends, reads_alike, stops_once, then_alike, then_stops}
+use Rattle.sedona_cli.proofs.Alike.{EndsAlike, NeverRefused, ReadsOne, attached_ends, files_alike, gives_alike, never_stops, opened_ends, read_ends, stops_once, then_alike, then_stops}
+use Rattle.sedona_cli.proofs.AlikeFiles.{MeanAlike}
 use Rattle.sedona_cli.proofs.Asking.{reads_of_reads}
 use Rattle.sedona_cli.proofs.Ends.{err_ok}
-use Rattle.sedona_cli.proofs.Loadings.{HasOneEnd, InputOne, InputTells, LoadTells, LoadsOne, TellsFailed, failed_inputs, input_one}
+use Rattle.sedona_cli.proofs.Loadings.{HasOneEnd, InputOne, InputTells, LoadTells, TellsFailed, failed_inputs, input_one}
 use Rattle.sedona_cli.proofs.StoreAsked.{of_payload}
 
 -- ---- one end
 
--- inputs whose programs are alike
-abbrev pub InputsAlike : Inputs → Inputs → Type 0
-InputsAlike i j = AreAlike i.program j.program
+-- inputs whose codes are alike
+abbrev pub InputsAlike : GivenRecord → GivenRecord → Type 0
+InputsAlike i j = MeanAlike i.code j.code
 
-same_inputs : (i j : Inputs) → ◌≡◌ {A = Result Inputs Refusal} (Ok i) (Ok j) → i ≡ j
-same_inputs i j same = cc
+-- the code of a node has one end
+abbrev pub CodeOne : CodeAsked → Type 0
+CodeOne code = EndsAlike (AfterCode code) (AfterCode code) MeanAlike
 
-gives_alike : (i j : Inputs) → InputsAlike i j → EndsAlike (Decides (λ (end : Result Inputs Refusal). end ≡ Ok i)) (Decides (λ (end : Result Inputs Refusal). end ≡ Ok j)) InputsAlike
-gives_alike i j alike =
-    decides_alike (λ end. end ≡ Ok i) (λ end. end ≡ Ok j) InputsAlike (λ r s h k. absurd (err_ok r i h)) (λ r y h k. err_ok r i h) (λ x s h k. err_ok s j k)
-    (λ x y h k. subst (λ (l : Inputs). InputsAlike l y) (sym (same_inputs x i h)) (subst (λ (l : Inputs). InputsAlike i l) (sym (same_inputs y j k)) alike))
-
-inputs_alike : (node : NodeAsked) (file : List ℕ) → LoadsOne (KitsGenerated node.kits) → InputOne {X = List User} (UsersRead node.users) → InputOne {X = List ℕ} (SecretRead node.secret)
+inputs_alike : (node : NodeAsked) (file : List ℕ) → CodeOne node.code → InputOne {X = List User} (UsersRead node.users) → InputOne {X = List ℕ} (SecretRead node.secret)
     → InputOne {X = List ℕ} (RecordRead file) → EndsAlike (InputsRead node file) (InputsRead node file) InputsAlike
-inputs_alike node file kits users secret text =
-    then_alike _ _ AreAlike _ _ InputsAlike (reads_alike (KitsGenerated node.kits) AreAlike kits)
-    (λ (p q : Program) same_kits. then_alike _ _ (λ (u v : List User). u ≡ v) _ _ InputsAlike (files_alike of_inputs (UsersRead node.users) (λ (u v : List User). u ≡ v) (input_one (UsersRead node.users) users))
+inputs_alike node file code users secret text =
+    then_alike _ _ MeanAlike _ _ InputsAlike code
+    (λ (m n : Code) same_code. then_alike _ _ (λ (u v : List User). u ≡ v) _ _ InputsAlike (files_alike of_inputs (UsersRead node.users) (λ (u v : List User). u ≡ v) (input_one (UsersRead node.users) users))
     (λ (u v : List User) same_users. then_alike _ _ (λ (s t : List ℕ). s ≡ t) _ _ InputsAlike (files_alike of_inputs (SecretRead node.secret) (λ (s t : List ℕ). s ≡ t) (input_one (SecretRead node.secret) secret))
     (λ (s t : List ℕ) same_secret. then_alike _ _ (λ (x y : List ℕ). x ≡ y) _ _ InputsAlike (files_alike of_inputs (RecordRead file) (λ (x y : List ℕ). x ≡ y) (input_one (RecordRead file) text))
-    (λ (x y : List ℕ) same_text. gives_alike _ _ same_kits))))
+    (λ (x y : List ℕ) same_text. gives_alike InputsAlike _ _ same_code))))
 
-pub opened_ends_alike : ReadsOne → (store : List ℕ) (limit : ℕ) (p q : Program) → AreAlike p q → EndsAlike (Opened store limit p) (Opened store limit q) (λ (a b : Application). Unit {0})
+pub opened_ends_alike : ReadsOne → (store : List ℕ) (limit : ℕ) (m n : Code) → MeanAlike m n → EndsAlike (Opened store limit m) (Opened store limit n) (λ (a b : Application). Unit {0})
 unfolding Opened
-opened_ends_alike one store limit p q alike =
+opened_ends_alike one store limit m n alike =
     then_alike _ _ (λ (u v : Unit {0}). Unit {0}) _ _ (λ (a b : Application). Unit {0}) (attached_ends store)
     (λ (u v : Unit {0}) any. then_alike _ _ (λ (x y : List ℕ). x ≡ y) _ _ (λ (a b : Application). Unit {0}) opened_ends
-    (λ (x y : List ℕ) same. read_ends one p q limit x y alike same))
+    (λ (x y : List ℕ) same. read_ends one m n limit x y alike same))
 
-never_refused : (node : NodeAsked) (i : Inputs) (a : Application) → NeverRefused (Replays node i a)
+never_refused : (node : NodeAsked) (i : GivenRecord) (a : Application) → NeverRefused (Replays node i a)
 never_refused node i a asks r replays = err_ok r _ replays.end_is
 
-pub replay_one_end : ReadsOne → (node : NodeAsked) (file : List ℕ) → LoadsOne (KitsGenerated node.kits) → InputOne {X = List User} (UsersRead node.users)
+pub replay_one_end : ReadsOne → (node : NodeAsked) (file : List ℕ) → CodeOne node.code → InputOne {X = List User} (UsersRead node.users)
     → InputOne {X = List ℕ} (SecretRead node.secret) → InputOne {X = List ℕ} (RecordRead file) → HasOneEnd (ReplayComes node file)
-replay_one_end one node file kits users secret text asks others end other agree h k =
+replay_one_end one node file code users secret text asks others end other agree h k =
     stops_once (ReplayComes node file) (ReplayComes node file)
-    (then_stops _ _ InputsAlike _ _ (inputs_alike node file kits users secret text)
-    (λ (i j : Inputs) same. then_stops _ _ (λ (a b : Application). Unit {0}) _ _ (opened_ends_alike one node.store node.limit i.program j.program same)
+    (then_stops _ _ InputsAlike _ _ (inputs_alike node file code users secret text)
+    (λ (i j : GivenRecord) same. then_stops _ _ (λ (a b : Application). Unit {0}) _ _ (opened_ends_alike one node.store node.limit i.code j.code same)
     (λ (a b : Application) any. never_stops (Replays node i a) (Replays node j b) (never_refused node i a) (never_refused node j b))))
     asks others end other agree h k
 
@@ -116,32 +114,37 @@ opened_tells asks (Ok payload) h = ap (λ (l : List Ask). failed_names (reads_in
 opened_tells asks (Err r) (inl h) = ap (λ (l : List Ask). failed_names (reads_in l)) h.0 ∙ sym (ap failed_of h.1)
 opened_tells asks (Err r) (inr h) = ap (λ (l : List Ask). failed_names (reads_in l)) h.0 ∙ sym (ap failed_of h.1)
 
-payload_tells : (program : Program) (limit : ℕ) (payload : List ℕ) → Tells (AppRead program limit payload)
-payload_tells program limit payload asks (Ok a) h = ap (λ (l : List Ask). failed_names (reads_in l)) h.none
-payload_tells program limit payload asks (Err r) h = ap (λ (l : List Ask). failed_names (reads_in l)) h.none ∙ sym (of_payload h.holds.reading r h.holds.end_is).failed
+payload_tells : (code : Code) (limit : ℕ) (payload : List ℕ) → Tells (AppRead code limit payload)
+payload_tells code limit payload asks (Ok a) h = ap (λ (l : List Ask). failed_names (reads_in l)) h.none
+payload_tells code limit payload asks (Err r) h = ap (λ (l : List Ask). failed_names (reads_in l)) h.none ∙ sym (of_payload h.holds.reading r h.holds.end_is).failed
 
-pub open_tells : (store : List ℕ) (limit : ℕ) (program : Program) → Tells (Opened store limit program)
+pub open_tells : (store : List ℕ) (limit : ℕ) (code : Code) → Tells (Opened store limit code)
 unfolding Opened
-open_tells store limit program = then_tells _ _ (attached_tells store) (λ (u : Unit {0}). then_tells _ _ opened_tells (λ (payload : List ℕ). payload_tells program limit payload))
+open_tells store limit code = then_tells _ _ (attached_tells store) (λ (u : Unit {0}). then_tells _ _ opened_tells (λ (payload : List ℕ). payload_tells code limit payload))
 
 -- an opening asks for no file
-pub open_reads : (store : List ℕ) (limit : ℕ) (program : Program) (asks : List Ask) (end : Result Application Refusal) → Opened store limit program asks end → reads_in asks ≡ []
+pub open_reads : (store : List ℕ) (limit : ℕ) (code : Code) (asks : List Ask) (end : Result Application Refusal) → Opened store limit code asks end → reads_in asks ≡ []
 unfolding Opened
-open_reads store limit program asks end (stops r h e) = ap reads_in h.0
-open_reads store limit program asks end (goes_on g d v more h (stops r (inl k) e)) = ap reads_in (more ∙ ap (λ (l : List Ask). l ++ d) h ∙ ap (λ (l : List Ask). Attaches store true ∷ l) k.0)
-open_reads store limit program asks end (goes_on g d v more h (stops r (inr k) e)) = ap reads_in (more ∙ ap (λ (l : List Ask). l ++ d) h ∙ ap (λ (l : List Ask). Attaches store true ∷ l) k.0)
-open_reads store limit program asks end (goes_on g d v more h (goes_on i j payload next k n)) =
+open_reads store limit code asks end (stops r h e) = ap reads_in h.0
+open_reads store limit code asks end (goes_on g d v more h (stops r (inl k) e)) = ap reads_in (more ∙ ap (λ (l : List Ask). l ++ d) h ∙ ap (λ (l : List Ask). Attaches store true ∷ l) k.0)
+open_reads store limit code asks end (goes_on g d v more h (stops r (inr k) e)) = ap reads_in (more ∙ ap (λ (l : List Ask). l ++ d) h ∙ ap (λ (l : List Ask). Attaches store true ∷ l) k.0)
+open_reads store limit code asks end (goes_on g d v more h (goes_on i j payload next k n)) =
     ap reads_in (more ∙ ap (λ (l : List Ask). l ++ d) h
     ∙ ap (λ (l : List Ask). Attaches store true ∷ l) (next ∙ ap (λ (l : List Ask). l ++ j) k ∙ ap (λ (l : List Ask). Opens (Found payload) ∷ l) n.none))
 
-run_tells : (node : NodeAsked) (i : Inputs) (a : Application) → Tells (Replays node i a)
+run_tells : (node : NodeAsked) (i : GivenRecord) (a : Application) → Tells (Replays node i a)
 run_tells node i a asks end replays = ap (λ (l : List Ask). failed_names (reads_in l)) replays.asks_are ∙ sym (ap failed_end replays.end_is)
 
-inputs_tell : (node : NodeAsked) (file : List ℕ) → LoadTells (KitsGenerated node.kits) → InputTells {X = List User} (UsersRead node.users) → InputTells {X = List ℕ} (SecretRead node.secret)
+-- the code of a node tells the reads that failed
+pub code_tells : ((names : List (List ℕ)) → LoadTells (KitsGenerated names)) → ((file : List ℕ) → InputTells {X = Image} (CodeRead file)) → (code : CodeAsked) → Tells (AfterCode code)
+code_tells kits image (OfKits names) = then_tells _ _ (reads_tell (KitsGenerated names) (kits names)) (λ (p : Program). gives_tells _)
+code_tells kits image (OfImage file) = then_tells _ _ (files_tell of_inputs (CodeRead file) (input_tells (CodeRead file) (image file))) (λ (i : Image). gives_tells _)
+
+inputs_tell : (node : NodeAsked) (file : List ℕ) → Tells (AfterCode node.code) → InputTells {X = List User} (UsersRead node.users) → InputTells {X = List ℕ} (SecretRead node.secret)
     → InputTells {X = List ℕ} (RecordRead file) → Tells (InputsRead node file)
-inputs_tell node file kits users secret text =
-    then_tells _ _ (reads_tell (KitsGenerated node.kits) kits)
-    (λ (p : Program). then_tells _ _ (files_tell of_inputs (UsersRead node.users) (input_tells (UsersRead node.users) users))
+inputs_tell node file code users secret text =
+    then_tells _ _ code
+    (λ (m : Code). then_tells _ _ (files_tell of_inputs (UsersRead node.users) (input_tells (UsersRead node.users) users))
     (λ (u : List User). then_tells _ _ (files_tell of_inputs (SecretRead node.secret) (input_tells (SecretRead node.secret) secret))
     (λ (s : List ℕ). then_tells _ _ (files_tell of_inputs (RecordRead file) (input_tells (RecordRead file) text)) (λ (t : List ℕ). gives_tells _))))
 
@@ -149,11 +152,11 @@ pub as_told : (end : Result (List ℕ) Refusal) → failed_end end ≡ failed_by
 as_told (Ok text) = refl
 as_told (Err r) = refl
 
-pub replay_tells : (node : NodeAsked) (file : List ℕ) → LoadTells (KitsGenerated node.kits) → InputTells {X = List User} (UsersRead node.users) → InputTells {X = List ℕ} (SecretRead node.secret)
+pub replay_tells : (node : NodeAsked) (file : List ℕ) → Tells (AfterCode node.code) → InputTells {X = List User} (UsersRead node.users) → InputTells {X = List ℕ} (SecretRead node.secret)
     → InputTells {X = List ℕ} (RecordRead file) → TellsFailed (ReplayComes node file)
-replay_tells node file kits users secret text asks end h =
-    then_tells (InputsRead node file) _ (inputs_tell node file kits users secret text)
-    (λ (i : Inputs). then_tells _ _ (open_tells node.store node.limit i.program) (λ (a : Application). run_tells node i a)) asks end h
+replay_tells node file code users secret text asks end h =
+    then_tells (InputsRead node file) _ (inputs_tell node file code users secret text)
+    (λ (i : GivenRecord). then_tells _ _ (open_tells node.store node.limit i.code) (λ (a : Application). run_tells node i a)) asks end h
     ∙ as_told end
 
 -- ---- where it was stopped
@@ -183,7 +186,7 @@ pub stops_start : (node : NodeAsked) (file : List ℕ) (asks : List Ask) (put la
 stops_start node file asks put last s = record {
   more = front ++ Runs all ∷ [];
   text = replay_text all.code all.setup all.start [] [];
-  comes = goes_on s.of_inputs (s.of_store ++ Runs all ∷ []) s.inputs (append_assoc s.of_inputs s.of_store (Runs all ∷ [])) s.reads
+  comes = goes_on s.of_inputs (s.of_store ++ Runs all ∷ []) s.given (append_assoc s.of_inputs s.of_store (Runs all ∷ [])) s.reads
       (goes_on s.of_store (Runs all ∷ []) s.application refl s.opens
       (record {
         ran = all;

@@ -11,8 +11,7 @@ use Rattle.comp_tree.specs.Application.{Application}
 use Rattle.sed_outside.specs.Steps.{Read, stops, goes_on}
 use Rattle.sed_outside.proofs.Joining.{same_reads}
 use Rattle.sed_engine.specs.Code.{Meaning as Code}
-use Rattle.sed_typed.specs.declared.program.Program.{Program}
-use Rattle.sedona_cli.specs.declared.inputs.Inputs.{Inputs}
+use Rattle.sedona_cli.specs.Given.{GivenRecord}
 use Rattle.sedona_cli.specs.declared.refusal.Refusal.{Refusal}
 use Rattle.sedona_words.specs.Command.{NodeAsked, Replay}
 use Rattle.sedona_cli.specs.Outside.{Ask, Attaches, Opens, Runs, Found, NotAStore, of_reads, reads_in, AreAsked, HasAsks}
@@ -83,7 +82,7 @@ with_reads node file asks reads by is = subst (λ (r : List Read). InputsRead no
 
 kept_by : {T : Type 0} → OpensOnce → (D : DiskGhosts T) → IsLawful D → (node : NodeAsked) (file : List ℕ) (asks : List Ask) (reads : List Read) (before after : Option (List ℕ)) (fb fa status : ℕ) (d e : T) → reads_in asks ≡ reads
     → AreAsked D asks d e → IsOneOf (0 ∷ 8 ∷ []) status → IsAnswer (Replay node file) asks before after fb fa status
-    → (inputs : Inputs) × InputsRead node file (of_reads reads) (Ok inputs) × Replayed D node inputs before after status d e
+    → (inputs : GivenRecord) × InputsRead node file (of_reads reads) (Ok inputs) × Replayed D node inputs before after status d e
 kept_by once D law node file asks reads before after fb fa status d e is asked at (done text came nought put same) =
     let by = ran_by node file asks text came in
     (by.inputs, with_reads node file asks reads by is, replayed once D law node file asks by d e asked before after status (shows_all node file asks text before after status nought put came))
@@ -104,28 +103,28 @@ replayed_by F D once law x y d e node file before after fb fa status at has =
 
 -- ---- with status 5
 
-pub none_of : {T : Type 0} → ReadsOne → OpensOnce → (D : DiskGhosts T) (store : List ℕ) (limit : ℕ) (program : Program) (asks front back : List Ask) (reads : List Read) (refusal : Refusal) (d e : T)
-    → asks ≡ front ++ back → front ≡ of_reads reads → of_refusal refusal ≡ 5 → IsTrue (D.meaning d).tells → AreAsked D asks d e → Opened store limit program back (Err refusal)
-    → OpensNone program limit (D.meaning d).content
+pub none_of : {T : Type 0} → ReadsOne → OpensOnce → (D : DiskGhosts T) (store : List ℕ) (limit : ℕ) (code : Code) (asks front back : List Ask) (reads : List Read) (refusal : Refusal) (d e : T)
+    → asks ≡ front ++ back → front ≡ of_reads reads → of_refusal refusal ≡ 5 → IsTrue (D.meaning d).tells → AreAsked D asks d e → Opened store limit code back (Err refusal)
+    → OpensNone code limit (D.meaning d).content
 unfolding Opened
-none_of one once D store limit program asks front back reads refusal d e parts is number told asked (stops r h same) =
+none_of one once D store limit code asks front back reads refusal d e parts is number told asked (stops r h same) =
     absurd (let four_is_five = ap of_refusal (sym (one_refusal {X = Application} refusal r same ∙ h.1)) ∙ number in omega (arith, four_is_five))
-none_of one once D store limit program asks front back reads refusal d e parts is number told asked (goes_on g k v second attached (stops r (inr h) same)) =
+none_of one once D store limit code asks front back reads refusal d e parts is number told asked (goes_on g k v second attached (stops r (inr h) same)) =
     absurd (let four_is_five = ap of_refusal (sym (one_refusal {X = Application} refusal r same ∙ h.1)) ∙ number in omega (arith, four_is_five))
-none_of one once D store limit program asks front back reads refusal d e parts is number told asked (goes_on g k v second attached (stops r (inl h) same)) = λ a opens.
+none_of one once D store limit code asks front back reads refusal d e parts is number told asked (goes_on g k v second attached (stops r (inl h) same)) = λ a opens.
     let last = last_behind D store (Opens NotAStore) asks reads d e
     (behind asks front back reads (Attaches store true ∷ Opens NotAStore ∷ []) parts is (two_stop back g k (Attaches store true) (Opens NotAStore) second attached h.0)) asked in
     last.asked.no_store refl (last.attached.time.told ∙ told) opens.size
     (subst (λ (i : Image). IsStore opens.size i) (sym (last.attached.keeps told).content) opens.store.store)
-none_of one once D store limit program asks front back reads refusal d e parts is number told asked (goes_on g k v second attached (goes_on h j payload third opened read)) =
+none_of one once D store limit code asks front back reads refusal d e parts is number told asked (goes_on g k v second attached (goes_on h j payload third opened read)) =
     let last = last_behind D store (Opens (Found payload)) asks reads d e
     (behind asks front back reads (Attaches store true ∷ Opens (Found payload) ∷ []) parts is (two back g k h j (Attaches store true) (Opens (Found payload)) second attached third opened read.none)) asked in
     let held = last.asked.found payload refl (last.attached.time.told ∙ told) in
-    none_in one once program limit held.0 payload (D.meaning d).content refusal (subst (λ (i : Image). IsOpen held.0 i payload) (last.attached.keeps told).content held.1) read.holds
+    none_in one once code limit held.0 payload (D.meaning d).content refusal (subst (λ (i : Image). IsOpen held.0 i payload) (last.attached.keeps told).content held.1) read.holds
 
 none_by : {T : Type 0} → ReadsOne → OpensOnce → (D : DiskGhosts T) (node : NodeAsked) (file : List ℕ) (asks : List Ask) (reads : List Read) (before after : Option (List ℕ)) (fb fa status : ℕ) (d e : T)
     → reads_in asks ≡ reads → AreAsked D asks d e → status ≡ 5 → IsTrue (D.meaning d).tells → IsAnswer (Replay node file) asks before after fb fa status
-    → (inputs : Inputs) × InputsRead node file (of_reads reads) (Ok inputs) × OpensNone inputs.program node.limit (D.meaning d).content
+    → (inputs : GivenRecord) × InputsRead node file (of_reads reads) (Ok inputs) × OpensNone inputs.code node.limit (D.meaning d).content
 none_by one once D node file asks reads before after fb fa status d e is asked five_is told (done text came nought put same) = absurd (omega (arith, nought, five_is))
 none_by one once D node file asks reads before after fb fa status d e is asked five_is told (unput text came at_once eight rose front) = absurd (omega (arith, eight, five_is))
 none_by one once D node file asks reads before after fb fa status d e is asked five_is told (stopped put last until eight rose front) = absurd (omega (arith, eight, five_is))
@@ -136,9 +135,9 @@ none_by one once D node file asks reads before after fb fa status d e is asked f
     absurd (err_ok refusal _ replays.end_is)
 none_by one once D node file asks reads before after fb fa status d e is asked five_is told (refused refusal (goes_on front back i parts read (stops r opened same)) number puts) =
     let all = (inputs_alone node file).reads front (Ok i) read in
-    let none = none_of one once D node.store node.limit i.program asks front back all.0 r d e parts all.1 (ap of_refusal (sym (one_refusal {X = List ℕ} refusal r same)) ∙ sym number ∙ five_is) told asked opened in
+    let none = none_of one once D node.store node.limit i.code asks front back all.0 r d e parts all.1 (ap of_refusal (sym (one_refusal {X = List ℕ} refusal r same)) ∙ sym number ∙ five_is) told asked opened in
     let these : all.0 ≡ reads =
-    sym (reads_before all.0 back (open_reads node.store node.limit i.program back (Err r) opened))
+    sym (reads_before all.0 back (open_reads node.store node.limit i.code back (Err r) opened))
     ∙ ap (λ (f : List Ask). reads_in (f ++ back)) (sym all.1)
     ∙ ap reads_in (sym parts)
     ∙ is

@@ -19,13 +19,11 @@ use Rattle.input_files.specs.declared.refusal.InputRefusal.TheVariants as inputs
 use Rattle.node_events.specs.Node.{Setup, opened}
 use Rattle.sed_engine.specs.declared.engine.Engine.{Ghosts}
 use Rattle.sed_engine.specs.Code.{Meaning as Code}
-use Rattle.sed_engine.specs.Program.{meaning_of}
 use Rattle.sed_engine.specs.Whole.{HasTables}
 use Rattle.sed_check.specs.Loading.{Told}
 use Rattle.sed_node.specs.Standing.{StandsFor, code_of, is_fixed, setup_of}
 use Rattle.sed_node.specs.declared.node.Node.{Node as Kept}
-use Rattle.sed_typed.specs.declared.program.Program.{Program}
-use Rattle.sedona_cli.specs.declared.inputs.Inputs.{Inputs}
+use Rattle.sedona_cli.specs.Given.{GivenRecord, ended_as}
 use Rattle.sedona_cli.specs.declared.refusal.Refusal.{Refusal}
 use Rattle.sedona_cli.specs.declared.refusal.Refusal.TheVariants.{Memory}
 use Rattle.sedona_words.specs.Command.{NodeAsked, Replay}
@@ -34,7 +32,7 @@ use Rattle.sedona_cli.specs.Program.{ComesOrWants, IsAnswer, done, stopped, OrWa
 use Rattle.sedona_cli.specs.Refusals.{is_want, of_inputs}
 use Rattle.sedona_cli.specs.Nodes.{IsReady, Opened}
 use Rattle.sedona_cli.specs.Replay.{InputsRead, OpenedBy, Plays, all_put, not_put, ReplayComes}
-use Rattle.sedona_cli.specs.Steps.{AfterKits, AfterRecord, AfterSecret, AfterUsers, OfFiles, OfReads}
+use Rattle.sedona_cli.specs.Steps.{AfterCode, AfterRecord, AfterSecret, AfterUsers, Meant, OfFiles, OfReads}
 use Rattle.sedona_cli.specs.Store.{AppRead, IsRead, OpenedOrWants, StoreAttached, StoreOpened}
 use Rattle.sedona_cli.proofs.Asking.{both_asked, both_disk, only_reads, reads_asked, reads_before, reads_spare, same_disk, spares_behind}
 use Rattle.sedona_cli.proofs.Building.{either_way, match_both}
@@ -70,6 +68,8 @@ input_end step reads (inputs.FileFault file) held = (reads, refl, (inputs.FileFa
 input_end step reads inputs.BadUsers held = (reads, refl, (inputs.BadUsers, held, refl))
 input_end step reads inputs.ShortSecret held = (reads, refl, (inputs.ShortSecret, held, refl))
 input_end step reads (inputs.BadRecord at) held = (reads, refl, (inputs.BadRecord at, held, refl))
+input_end step reads (inputs.BadImage at) held = (reads, refl, (inputs.BadImage at, held, refl))
+input_end step reads (inputs.BrokenRule method at rule) held = (reads, refl, (inputs.BrokenRule method at rule, held, refl))
 input_end step reads inputs.Memory held = tt
 
 pub input_refused : {T X : Type 0} (F : FileGhosts T) (a b : T) (step : List Read → Result X InputRefusal → Type 0) (r : Result X InputRefusal) (inner : InputRefusal) (refusal : Refusal) → r ≡ Err inner → refusal ≡ of_inputs inner
@@ -103,15 +103,33 @@ reads_go {X = X} F a b c S N r x end is first second =
 pub reads_end : {T X : Type 0} (F : FileGhosts T) (a : T) (x : X) → HasReads F a a (λ reads. UnlessFree is_want (Decides (λ (end : Result X Refusal). end ≡ Ok x) (of_reads reads)) (Ok x))
 reads_end {X = X} F a x = no_reads F a (λ reads. UnlessFree is_want (Decides (λ (end : Result X Refusal). end ≡ Ok x) (of_reads reads)) (Ok x)) (record { none = refl; holds = refl })
 
+-- ---- the code of a node
+
+-- what a step ends with, told by its meaning
+pub code_meant : {T X : Type 0} (F : FileGhosts T) (a b : T) (S : List Ask → Result X Refusal → Type 0) (meaning : X → Code) (r : Result X Refusal) (x : X) (m : Code) → r ≡ Ok x → m ≡ meaning x
+    → HasReads F a b (λ reads. UnlessFree is_want (S (of_reads reads)) r) → HasReads F a b (λ reads. UnlessFree is_want (Meant meaning S (of_reads reads)) (Ok m))
+code_meant {X = X} F a b S meaning r x m is means has =
+    subst (λ (n : Code). HasReads F a b (λ reads. UnlessFree is_want (Meant meaning S (of_reads reads)) (Ok n))) (sym means)
+    (reads_go F a b b S (λ (y : X). Decides (λ end. end ≡ Ok (meaning y))) r x (Ok (meaning x)) is has (reads_end F b (meaning x)))
+
+pub code_unmeant : {T X : Type 0} (F : FileGhosts T) (a b : T) (S : List Ask → Result X Refusal → Type 0) (meaning : X → Code) (r : Result X Refusal) (refusal : Refusal) → r ≡ Err refusal
+    → HasReads F a b (λ reads. UnlessFree is_want (S (of_reads reads)) r) → HasReads F a b (λ reads. UnlessFree is_want (Meant meaning S (of_reads reads)) (Err refusal))
+code_unmeant {X = X} F a b S meaning r refusal is has = reads_stop F a b S (λ (y : X). Decides (λ end. end ≡ Ok (meaning y))) r refusal is has
+
+pub code_ended : {T X : Type 0} (F : FileGhosts T) (a b : T) (S : List Ask → Result X Refusal → Type 0) (meaning : X → Code) (r : Result X Refusal)
+    → HasReads F a b (λ reads. UnlessFree is_want (S (of_reads reads)) r) → HasReads F a b (λ reads. UnlessFree is_want (Meant meaning S (of_reads reads)) (ended_as meaning r))
+code_ended F a b S meaning (Ok x) has = code_meant F a b S meaning (Ok x) x (meaning x) refl refl has
+code_ended F a b S meaning (Err refusal) has = code_unmeant F a b S meaning (Err refusal) refusal refl has
+
 -- ---- a payload that is read
 
 pub certainly : (b : Bool) (S P : Type 0) → MatchBool b S P → b ≡ false → P
 certainly true S P held is = absurd (cc)
 certainly false S P held is = held
 
-pub is_read_as : (program : Program) (limit : ℕ) (payload : List ℕ) → HasTables (meaning_of program) → CanBeTold program.schema → (m : Code) (most : ℕ) (a : Application) → m ≡ meaning_of program → most ≡ limit
-    → IsFile m most payload a → IsRead program limit payload (Ok a)
-is_read_as program limit payload tables told m most a same is_most is = record {
+pub is_read_as : (code : Code) (limit : ℕ) (payload : List ℕ) → HasTables code → CanBeTold code.schema → (m : Code) (most : ℕ) (a : Application) → m ≡ code → most ≡ limit
+    → IsFile m most payload a → IsRead code limit payload (Ok a)
+is_read_as code limit payload tables told m most a same is_most is = record {
   tables = tables;
   told = told;
   reading = payload_read.file a;
@@ -125,49 +143,49 @@ pub stores_open : (S : ℕ) (payload : List ℕ) (m : Meaning) → AllOpen S pay
 stores_open S payload m opens c left = (opens c left).store
 
 -- it was not attached
-pub unattached : {T : Type 0} (D : DiskGhosts T) (d e : T) (store : List ℕ) (limit : ℕ) (program : Program) (refusal : Refusal) → AsksDisk D d e (λ asks. StoreAttached store asks (Err refusal))
-    → AsksDisk D d e (λ asks. OrWants (Some store) (Opened store limit program) asks (Err refusal))
+pub unattached : {T : Type 0} (D : DiskGhosts T) (d e : T) (store : List ℕ) (limit : ℕ) (code : Code) (refusal : Refusal) → AsksDisk D d e (λ asks. StoreAttached store asks (Err refusal))
+    → AsksDisk D d e (λ asks. OrWants (Some store) (Opened store limit code) asks (Err refusal))
 unfolding Opened
-unattached D d e store limit program refusal has = not_attached D d e store (AppRead program limit) refusal has
+unattached D d e store limit code refusal has = not_attached D d e store (AppRead code limit) refusal has
 
 -- what opening asked ends it
-pub unopened : {T : Type 0} (D : DiskGhosts T) (d e h : T) (store : List ℕ) (limit : ℕ) (program : Program) (refusal : Refusal) → AsksDisk D d e (λ asks. StoreAttached store asks (Ok tt))
-    → AsksDisk D e h (λ asks. OpenedOrWants asks (Err refusal)) → AsksDisk D d h (λ asks. OrWants (Some store) (Opened store limit program) asks (Err refusal))
+pub unopened : {T : Type 0} (D : DiskGhosts T) (d e h : T) (store : List ℕ) (limit : ℕ) (code : Code) (refusal : Refusal) → AsksDisk D d e (λ asks. StoreAttached store asks (Ok tt))
+    → AsksDisk D e h (λ asks. OpenedOrWants asks (Err refusal)) → AsksDisk D d h (λ asks. OrWants (Some store) (Opened store limit code) asks (Err refusal))
 unfolding Opened
-unopened D d e h store limit program refusal first second = not_opened D d e h store (AppRead program limit) refusal first second
+unopened D d e h store limit code refusal first second = not_opened D d e h store (AppRead code limit) refusal first second
 
 -- its payload is no application, or memory was wanted behind it
-unread_ends : (store : List ℕ) (limit : ℕ) (program : Program) (payload : List ℕ) (refusal : Refusal) (front back : List Ask) → (is_want refusal ≡ false → IsRead program limit payload (Err refusal))
-    → StoreAttached store front (Ok tt) → StoreOpened back (Ok payload) → OrWants (Some store) (Opened store limit program) (front ++ back) (Err refusal)
+unread_ends : (store : List ℕ) (limit : ℕ) (code : Code) (payload : List ℕ) (refusal : Refusal) (front back : List Ask) → (is_want refusal ≡ false → IsRead code limit payload (Err refusal))
+    → StoreAttached store front (Ok tt) → StoreOpened back (Ok payload) → OrWants (Some store) (Opened store limit code) (front ++ back) (Err refusal)
 unfolding Opened
-unread_ends store limit program payload refusal front back why attached opened =
-    either_way (is_want refusal) (Spares (Some store) (front ++ back)) (Opened store limit program (front ++ back) (Err refusal)) (found_spares store payload front back attached opened)
+unread_ends store limit code payload refusal front back why attached opened =
+    either_way (is_want refusal) (Spares (Some store) (front ++ back)) (Opened store limit code (front ++ back) (Err refusal)) (found_spares store payload front back attached opened)
     (λ is. goes_on front back tt refl attached (goes_on back [] payload (sym (append-nil back)) opened (record { none = refl; holds = why is })))
 
-pub unread : {T : Type 0} (D : DiskGhosts T) (d e h : T) (store : List ℕ) (limit : ℕ) (program : Program) (payload : List ℕ) (refusal : Refusal) → AsksDisk D d e (λ asks. StoreAttached store asks (Ok tt))
-    → AsksDisk D e h (λ asks. OpenedOrWants asks (Ok payload)) → (is_want refusal ≡ false → IsRead program limit payload (Err refusal))
-    → AsksDisk D d h (λ asks. OrWants (Some store) (Opened store limit program) asks (Err refusal))
-unread D d e h store limit program payload refusal first second why =
-    both_disk D d e h (λ asks. StoreAttached store asks (Ok tt)) (λ asks. OpenedOrWants asks (Ok payload)) (λ asks. OrWants (Some store) (Opened store limit program) asks (Err refusal))
-    (λ front back attached opened. unread_ends store limit program payload refusal front back why attached opened) first second
+pub unread : {T : Type 0} (D : DiskGhosts T) (d e h : T) (store : List ℕ) (limit : ℕ) (code : Code) (payload : List ℕ) (refusal : Refusal) → AsksDisk D d e (λ asks. StoreAttached store asks (Ok tt))
+    → AsksDisk D e h (λ asks. OpenedOrWants asks (Ok payload)) → (is_want refusal ≡ false → IsRead code limit payload (Err refusal))
+    → AsksDisk D d h (λ asks. OrWants (Some store) (Opened store limit code) asks (Err refusal))
+unread D d e h store limit code payload refusal first second why =
+    both_disk D d e h (λ asks. StoreAttached store asks (Ok tt)) (λ asks. OpenedOrWants asks (Ok payload)) (λ asks. OrWants (Some store) (Opened store limit code) asks (Err refusal))
+    (λ front back attached opened. unread_ends store limit code payload refusal front back why attached opened) first second
 
 -- it is one
-opened_ends : (store : List ℕ) (limit : ℕ) (program : Program) (payload : List ℕ) (a : Application) (front back : List Ask) → IsRead program limit payload (Ok a)
-    → StoreAttached store front (Ok tt) → StoreOpened back (Ok payload) → Opened store limit program (front ++ back) (Ok a)
+opened_ends : (store : List ℕ) (limit : ℕ) (code : Code) (payload : List ℕ) (a : Application) (front back : List Ask) → IsRead code limit payload (Ok a)
+    → StoreAttached store front (Ok tt) → StoreOpened back (Ok payload) → Opened store limit code (front ++ back) (Ok a)
 unfolding Opened
-opened_ends store limit program payload a front back is attached opened =
+opened_ends store limit code payload a front back is attached opened =
     goes_on front back tt refl attached (goes_on back [] payload (sym (append-nil back)) opened (record { none = refl; holds = is }))
 
 -- ---- the answer
 
 -- a run with what was read and opened before it
-joined : (node : NodeAsked) (i : Inputs) (a : Application) (file : List ℕ) (reads : List Read) (before after : Option (List ℕ)) (fb fa status : ℕ) (front back : List Ask) → InputsRead node file (of_reads reads) (Ok i)
+joined : (node : NodeAsked) (i : GivenRecord) (a : Application) (file : List ℕ) (reads : List Read) (before after : Option (List ℕ)) (fb fa status : ℕ) (front back : List Ask) → InputsRead node file (of_reads reads) (Ok i)
     → OpenedBy node i front (Ok a) → Plays node i a back before after fb fa status → IsAnswer (Replay node file) (of_reads reads ++ (front ++ back)) before after fb fa status
 joined node i a file reads before after fb fa status front back read opened (all_put text replays is put steady) =
     done text (goes_on (of_reads reads) (front ++ back) i refl read (goes_on front back a refl opened replays)) is put steady
 joined node i a file reads before after fb fa status front back read opened (not_put put last stops_so is rose more) =
     stopped put last (record {
-      inputs = i;
+      given = i;
       application = a;
       of_inputs = of_reads reads;
       of_store = front;
@@ -178,7 +196,7 @@ joined node i a file reads before after fb fa status front back read opened (not
       stops = stops_so;
     }) is rose more
 
-pub run_answers : {T : Type 0} (D : DiskGhosts T) (d m e : T) (node : NodeAsked) (i : Inputs) (file : List ℕ) (reads : List Read) (before after : Option (List ℕ)) (fb fa status : ℕ) (P : Application → Type 0)
+pub run_answers : {T : Type 0} (D : DiskGhosts T) (d m e : T) (node : NodeAsked) (i : GivenRecord) (file : List ℕ) (reads : List Read) (before after : Option (List ℕ)) (fb fa status : ℕ) (P : Application → Type 0)
     → InputsRead node file (of_reads reads) (Ok i) → AsksDisk D d m (λ asks. (a : Application) × OpenedBy node i asks (Ok a) × P a)
     → ((a : Application) → P a → AsksDisk D m e (λ asks. Plays node i a asks before after fb fa status))
     → AsksDisk D d e (λ asks. IsAnswer (Replay node file) (of_reads reads ++ asks) before after fb fa status)
@@ -189,13 +207,13 @@ run_answers D d m e node i file reads before after fb fa status P read first nex
     (record { asks = first.asks; unread = first.unread; asked = first.asked; holds = first.holds.1 }) (next first.holds.0 first.holds.2)
 
 -- it was refused at the store
-refused_behind : (node : NodeAsked) (i : Inputs) (file : List ℕ) (reads : List Read) (refusal : Refusal) (asks : List Ask) → InputsRead node file (of_reads reads) (Ok i)
+refused_behind : (node : NodeAsked) (i : GivenRecord) (file : List ℕ) (reads : List Read) (refusal : Refusal) (asks : List Ask) → InputsRead node file (of_reads reads) (Ok i)
     → OrWants (Some node.store) (OpenedBy node i) asks (Err refusal) → ComesOrWants (Replay node file) (of_reads reads ++ asks) (Err refusal)
 refused_behind node i file reads refusal asks read held =
     match_both (is_want refusal) (Spares (Some node.store) asks) (OpenedBy node i asks (Err refusal)) (Spares (Some node.store) (of_reads reads ++ asks)) (ReplayComes node file (of_reads reads ++ asks) (Err refusal))
     (λ spared. spares_behind (Some node.store) reads asks spared) (λ opened. goes_on (of_reads reads) asks i refl read (stops refusal opened refl)) held
 
-pub refusal_answers : {T : Type 0} (D : DiskGhosts T) (d e : T) (node : NodeAsked) (i : Inputs) (file : List ℕ) (reads : List Read) (before after : Option (List ℕ)) (fb fa status : ℕ) (refusal : Refusal)
+pub refusal_answers : {T : Type 0} (D : DiskGhosts T) (d e : T) (node : NodeAsked) (i : GivenRecord) (file : List ℕ) (reads : List Read) (before after : Option (List ℕ)) (fb fa status : ℕ) (refusal : Refusal)
     → InputsRead node file (of_reads reads) (Ok i) → ((asks : List Ask) → ComesOrWants (Replay node file) asks (Err refusal) → IsAnswer (Replay node file) asks before after fb fa status)
     → AsksDisk D d e (λ asks. OrWants (Some node.store) (OpenedBy node i) asks (Err refusal)) → AsksDisk D d e (λ asks. IsAnswer (Replay node file) (of_reads reads ++ asks) before after fb fa status)
 refusal_answers D d e node i file reads before after fb fa status refusal read answers has =
@@ -203,7 +221,7 @@ refusal_answers D d e node i file reads before after fb fa status refusal read a
     (λ asks held. answers (of_reads reads ++ asks) (refused_behind node i file reads refusal asks read held)) has
 
 -- with what is read first
-pub replay_goes : {S T : Type 0} (F : FileGhosts S) (D : DiskGhosts T) (x y : S) (d e : T) (node : NodeAsked) (file : List ℕ) (r : Result Inputs Refusal) (i : Inputs) (P : List Ask → Type 0) → r ≡ Ok i
+pub replay_goes : {S T : Type 0} (F : FileGhosts S) (D : DiskGhosts T) (x y : S) (d e : T) (node : NodeAsked) (file : List ℕ) (r : Result GivenRecord Refusal) (i : GivenRecord) (P : List Ask → Type 0) → r ≡ Ok i
     → HasReads F x y (λ reads. UnlessFree is_want (InputsRead node file (of_reads reads)) r)
     → ((reads : List Read) → InputsRead node file (of_reads reads) (Ok i) → AsksDisk D d e (λ asks. P (of_reads reads ++ asks))) → HasAsks F D x y d e P
 replay_goes F D x y d e node file r i P is has rest =
@@ -214,10 +232,10 @@ replay_goes F D x y d e node file r i P is has rest =
       reads_before reads more.asks more.unread,
       both_asked D (of_reads reads) more.asks d d e (reads_asked D reads d) more.asked,
       more.holds,
-    )) (subst (λ (end : Result Inputs Refusal). HasReads F x y (λ reads. UnlessFree is_want (InputsRead node file (of_reads reads)) end)) is has)
+    )) (subst (λ (end : Result GivenRecord Refusal). HasReads F x y (λ reads. UnlessFree is_want (InputsRead node file (of_reads reads)) end)) is has)
 
 -- it was refused as it was read
-pub replay_refused : {S T : Type 0} (F : FileGhosts S) (D : DiskGhosts T) (x y : S) (d : T) (node : NodeAsked) (file : List ℕ) (r : Result Inputs Refusal) (refusal : Refusal) (P : List Ask → Type 0) → r ≡ Err refusal
+pub replay_refused : {S T : Type 0} (F : FileGhosts S) (D : DiskGhosts T) (x y : S) (d : T) (node : NodeAsked) (file : List ℕ) (r : Result GivenRecord Refusal) (refusal : Refusal) (P : List Ask → Type 0) → r ≡ Err refusal
     → HasReads F x y (λ reads. UnlessFree is_want (InputsRead node file (of_reads reads)) r) → ((asks : List Ask) → ComesOrWants (Replay node file) asks (Err refusal) → P asks) → HasAsks F D x y d d P
 replay_refused F D x y d node file r refusal P is has answers =
     only_reads F D x y d P
@@ -226,81 +244,81 @@ replay_refused F D x y d node file r refusal P is has answers =
     answers (of_reads reads)
     (match_both (is_want refusal) (Unit {0}) (InputsRead node file (of_reads reads) (Err refusal)) (Spares (Some node.store) (of_reads reads)) (ReplayComes node file (of_reads reads) (Err refusal))
     (λ any. reads_spare (Some node.store) reads) (λ read. stops refusal read refl) held))
-    (subst (λ (end : Result Inputs Refusal). HasReads F x y (λ reads. UnlessFree is_want (InputsRead node file (of_reads reads)) end)) is has))
+    (subst (λ (end : Result GivenRecord Refusal). HasReads F x y (λ reads. UnlessFree is_want (InputsRead node file (of_reads reads)) end)) is has))
 
 -- ---- what is read of the words of a node
 
 -- what stands behind each of its files
-abbrev OfText : Program → List User → List ℕ → List ℕ → List Ask → Result Inputs Refusal → Type 0
-OfText p u s t = Decides (λ (end : Result Inputs Refusal). end ≡ Ok (record { program = p; users = u; secret = s; text = t }))
+abbrev OfText : Code → List User → List ℕ → List ℕ → List Ask → Result GivenRecord Refusal → Type 0
+OfText p u s t = Decides (λ (end : Result GivenRecord Refusal). end ≡ Ok (record { code = p; users = u; secret = s; text = t }))
 
-abbrev OfSecret : List ℕ → Program → List User → List ℕ → List Ask → Result Inputs Refusal → Type 0
+abbrev OfSecret : List ℕ → Code → List User → List ℕ → List Ask → Result GivenRecord Refusal → Type 0
 OfSecret file p u s = AndThen (AfterRecord file) (OfText p u s)
 
-abbrev OfUsers : NodeAsked → List ℕ → Program → List User → List Ask → Result Inputs Refusal → Type 0
+abbrev OfUsers : NodeAsked → List ℕ → Code → List User → List Ask → Result GivenRecord Refusal → Type 0
 OfUsers node file p u = AndThen (AfterSecret node.secret) (OfSecret file p u)
 
-abbrev OfKits : NodeAsked → List ℕ → Program → List Ask → Result Inputs Refusal → Type 0
-OfKits node file p = AndThen (AfterUsers node.users) (OfUsers node file p)
+abbrev OfCode : NodeAsked → List ℕ → Code → List Ask → Result GivenRecord Refusal → Type 0
+OfCode node file p = AndThen (AfterUsers node.users) (OfUsers node file p)
 
 abbrev Reads : {T X : Type 0} → FileGhosts T → T → T → (List Ask → Result X Refusal → Type 0) → Result X Refusal → Type 0
 Reads F a b S end = HasReads F a b (λ reads. UnlessFree is_want (S (of_reads reads)) end)
 
-module _ {T : Type 0} (F : FileGhosts T) (node : NodeAsked) (file : List ℕ) (x0 x1 : T) (kits : Result Program Refusal) (read_kits : Reads F x0 x1 (AfterKits node.kits) kits) where
-  pub kits_refused : (r : Refusal) → kits ≡ Err r → Reads F x0 x1 (InputsRead node file) (Err r)
-  kits_refused r is = reads_stop F x0 x1 (AfterKits node.kits) (OfKits node file) kits r is read_kits
+module _ {T : Type 0} (F : FileGhosts T) (node : NodeAsked) (file : List ℕ) (x0 x1 : T) (code : Result Code Refusal) (read_code : Reads F x0 x1 (AfterCode node.code) code) where
+  pub code_refused : (r : Refusal) → code ≡ Err r → Reads F x0 x1 (InputsRead node file) (Err r)
+  code_refused r is = reads_stop F x0 x1 (AfterCode node.code) (OfCode node file) code r is read_code
 
-  module _ (p : Program) (is_kits : kits ≡ Ok p) (x2 : T) (users : Result (List User) Refusal) (read_users : Reads F x1 x2 (AfterUsers node.users) users) where
+  module _ (p : Code) (is_code : code ≡ Ok p) (x2 : T) (users : Result (List User) Refusal) (read_users : Reads F x1 x2 (AfterUsers node.users) users) where
     pub users_refused : (r : Refusal) → users ≡ Err r → Reads F x0 x2 (InputsRead node file) (Err r)
     users_refused r is =
-        reads_go F x0 x1 x2 (AfterKits node.kits) (OfKits node file) kits p (Err r) is_kits read_kits
+        reads_go F x0 x1 x2 (AfterCode node.code) (OfCode node file) code p (Err r) is_code read_code
         (reads_stop F x1 x2 (AfterUsers node.users) (OfUsers node file p) users r is read_users)
 
     module _ (u : List User) (is_users : users ≡ Ok u) (x3 : T) (secret : Result (List ℕ) Refusal) (read_secret : Reads F x2 x3 (AfterSecret node.secret) secret) where
       pub secret_refused : (r : Refusal) → secret ≡ Err r → Reads F x0 x3 (InputsRead node file) (Err r)
       secret_refused r is =
-          reads_go F x0 x1 x3 (AfterKits node.kits) (OfKits node file) kits p (Err r) is_kits read_kits
+          reads_go F x0 x1 x3 (AfterCode node.code) (OfCode node file) code p (Err r) is_code read_code
           (reads_go F x1 x2 x3 (AfterUsers node.users) (OfUsers node file p) users u (Err r) is_users read_users
           (reads_stop F x2 x3 (AfterSecret node.secret) (OfSecret file p u) secret r is read_secret))
 
       module _ (s : List ℕ) (is_secret : secret ≡ Ok s) (x4 : T) (text : Result (List ℕ) Refusal) (read_text : Reads F x3 x4 (AfterRecord file) text) where
         pub record_refused : (r : Refusal) → text ≡ Err r → Reads F x0 x4 (InputsRead node file) (Err r)
         record_refused r is =
-            reads_go F x0 x1 x4 (AfterKits node.kits) (OfKits node file) kits p (Err r) is_kits read_kits
+            reads_go F x0 x1 x4 (AfterCode node.code) (OfCode node file) code p (Err r) is_code read_code
             (reads_go F x1 x2 x4 (AfterUsers node.users) (OfUsers node file p) users u (Err r) is_users read_users
             (reads_go F x2 x3 x4 (AfterSecret node.secret) (OfSecret file p u) secret s (Err r) is_secret read_secret
             (reads_stop F x3 x4 (AfterRecord file) (OfText p u s) text r is read_text)))
 
-        pub all_read : (t : List ℕ) → text ≡ Ok t → Reads F x0 x4 (InputsRead node file) (Ok (record { program = p; users = u; secret = s; text = t }))
+        pub all_read : (t : List ℕ) → text ≡ Ok t → Reads F x0 x4 (InputsRead node file) (Ok (record { code = p; users = u; secret = s; text = t }))
         all_read t is =
-            reads_go F x0 x1 x4 (AfterKits node.kits) (OfKits node file) kits p (Ok given) is_kits read_kits
+            reads_go F x0 x1 x4 (AfterCode node.code) (OfCode node file) code p (Ok given) is_code read_code
             (reads_go F x1 x2 x4 (AfterUsers node.users) (OfUsers node file p) users u (Ok given) is_users read_users
             (reads_go F x2 x3 x4 (AfterSecret node.secret) (OfSecret file p u) secret s (Ok given) is_secret read_secret
             (reads_go F x3 x4 x4 (AfterRecord file) (OfText p u s) text t (Ok given) is read_text (reads_end F x4 given))))
           where
-            given : Inputs
-            given = record { program = p; users = u; secret = s; text = t }
+            given : GivenRecord
+            given = record { code = p; users = u; secret = s; text = t }
 
 -- ---- an application that is open
 
 -- the store that opened to it is spared
-pub open_spares : (store : List ℕ) (limit : ℕ) (program : Program) (asks : List Ask) (a : Application) → Opened store limit program asks (Ok a) → Spares (Some store) asks
-open_spares store limit program asks a opened =
-    subst (λ (l : List Ask). Spares (Some store) l) (sym (opened_to store limit program asks a opened).asks_are) (record { unwritten = refl; attached = inr (refl, refl) })
+pub open_spares : (store : List ℕ) (limit : ℕ) (code : Code) (asks : List Ask) (a : Application) → Opened store limit code asks (Ok a) → Spares (Some store) asks
+open_spares store limit code asks a opened =
+    subst (λ (l : List Ask). Spares (Some store) l) (sym (opened_to store limit code asks a opened).asks_are) (record { unwritten = refl; attached = inr (refl, refl) })
 
-pub app_opened : {T X : Type 0} (D : DiskGhosts T) (d e h : T) (store : List ℕ) (limit : ℕ) (program : Program) (payload : List ℕ) (app : X → Application) (r : Result X Refusal)
-    → AsksDisk D d e (λ asks. StoreAttached store asks (Ok tt)) → AsksDisk D e h (λ asks. OpenedOrWants asks (Ok payload)) → IfOk r (λ x. IsRead program limit payload (Ok (app x)))
-    → IfOk r (λ x. AsksDisk D d h (λ asks. Opened store limit program asks (Ok (app x))))
-app_opened D d e h store limit program payload app (Ok x) first second is =
-    both_disk D d e h (λ asks. StoreAttached store asks (Ok tt)) (λ asks. OpenedOrWants asks (Ok payload)) (λ asks. Opened store limit program asks (Ok (app x)))
-    (λ front back attached opened. opened_ends store limit program payload (app x) front back is attached opened) first second
-app_opened D d e h store limit program payload app (Err refusal) first second is = tt
+pub app_opened : {T X : Type 0} (D : DiskGhosts T) (d e h : T) (store : List ℕ) (limit : ℕ) (code : Code) (payload : List ℕ) (app : X → Application) (r : Result X Refusal)
+    → AsksDisk D d e (λ asks. StoreAttached store asks (Ok tt)) → AsksDisk D e h (λ asks. OpenedOrWants asks (Ok payload)) → IfOk r (λ x. IsRead code limit payload (Ok (app x)))
+    → IfOk r (λ x. AsksDisk D d h (λ asks. Opened store limit code asks (Ok (app x))))
+app_opened D d e h store limit code payload app (Ok x) first second is =
+    both_disk D d e h (λ asks. StoreAttached store asks (Ok tt)) (λ asks. OpenedOrWants asks (Ok payload)) (λ asks. Opened store limit code asks (Ok (app x)))
+    (λ front back attached opened. opened_ends store limit code payload (app x) front back is attached opened) first second
+app_opened D d e h store limit code payload app (Err refusal) first second is = tt
 
-pub app_refused : {T X : Type 0} (D : DiskGhosts T) (d e h : T) (store : List ℕ) (limit : ℕ) (program : Program) (payload : List ℕ) (r : Result X Refusal) → AsksDisk D d e (λ asks. StoreAttached store asks (Ok tt))
-    → AsksDisk D e h (λ asks. OpenedOrWants asks (Ok payload)) → IfErr r (λ refusal. is_want refusal ≡ false → IsRead program limit payload (Err refusal))
-    → IfErr r (λ refusal. AsksDisk D d h (λ asks. OrWants (Some store) (Opened store limit program) asks (Err refusal)))
-app_refused D d e h store limit program payload (Ok x) first second why = tt
-app_refused D d e h store limit program payload (Err refusal) first second why = unread D d e h store limit program payload refusal first second why
+pub app_refused : {T X : Type 0} (D : DiskGhosts T) (d e h : T) (store : List ℕ) (limit : ℕ) (code : Code) (payload : List ℕ) (r : Result X Refusal) → AsksDisk D d e (λ asks. StoreAttached store asks (Ok tt))
+    → AsksDisk D e h (λ asks. OpenedOrWants asks (Ok payload)) → IfErr r (λ refusal. is_want refusal ≡ false → IsRead code limit payload (Err refusal))
+    → IfErr r (λ refusal. AsksDisk D d h (λ asks. OrWants (Some store) (Opened store limit code) asks (Err refusal)))
+app_refused D d e h store limit code payload (Ok x) first second why = tt
+app_refused D d e h store limit code payload (Err refusal) first second why = unread D d e h store limit code payload refusal first second why
 
 -- the slots of the store are those that were opened
 pub same_slots : {X : Type 0} (r : Result (ℕ × X) Refusal) (slot : ℕ) (m : Meaning) → AllStores slot m → IfOk r (λ held. held.0 ≡ slot) → IfOk r (λ held. AllStores held.0 m)
@@ -320,22 +338,22 @@ is_ready g given moment turns slot code users secret a node same is_code setup f
       (subst (λ (s : Setup). StandsFor g node (opened code s a users secret given)) (sym setup) stands);
 }
 
-pub ready_of : {T E B : Type 0} (D : DiskGhosts T) (d e : T) (g : Ghosts E) (moment : ℤ) (store : List ℕ) (limit : ℕ) (program : Program) (turns : ℕ) (code : Code) (users : List User) (secret : List ℕ) (a : Application)
-    (r : Result (Kept E × B) Refusal) → AsksDisk D d e (λ asks. Opened store limit program asks (Ok a)) → code ≡ meaning_of program → IfOk r (λ ready. IsReady g moment turns code users secret a ready.0)
-    → IfOk r (λ ready. AsksDisk D d e (λ asks. (x : Application) × Opened store limit program asks (Ok x) × IsReady g moment turns (meaning_of program) users secret x ready.0))
-ready_of D d e g moment store limit program turns code users secret a (Ok ready) opened is_code held =
-    same_disk D d e (λ asks. Opened store limit program asks (Ok a)) (λ asks. (x : Application) × Opened store limit program asks (Ok x) × IsReady g moment turns (meaning_of program) users secret x ready.0)
+pub ready_of : {T E B : Type 0} (D : DiskGhosts T) (d e : T) (g : Ghosts E) (moment : ℤ) (store : List ℕ) (limit : ℕ) (given : Code) (turns : ℕ) (code : Code) (users : List User) (secret : List ℕ) (a : Application)
+    (r : Result (Kept E × B) Refusal) → AsksDisk D d e (λ asks. Opened store limit given asks (Ok a)) → code ≡ given → IfOk r (λ ready. IsReady g moment turns code users secret a ready.0)
+    → IfOk r (λ ready. AsksDisk D d e (λ asks. (x : Application) × Opened store limit given asks (Ok x) × IsReady g moment turns given users secret x ready.0))
+ready_of D d e g moment store limit given turns code users secret a (Ok ready) opened is_code held =
+    same_disk D d e (λ asks. Opened store limit given asks (Ok a)) (λ asks. (x : Application) × Opened store limit given asks (Ok x) × IsReady g moment turns given users secret x ready.0)
     (λ asks opens. (a, opens, subst (λ (m : Code). IsReady g moment turns m users secret a ready.0) is_code held)) opened
-ready_of D d e g moment store limit program turns code users secret a (Err refusal) opened is_code held = tt
+ready_of D d e g moment store limit given turns code users secret a (Err refusal) opened is_code held = tt
 
 pub ready_stores : {E B : Type 0} (r : Result (Kept E × B) Refusal) (slot : ℕ) (m : Meaning) → AllStores slot m → IfOk r (λ ready. (setup_of ready.0).slot ≡ slot) → IfOk r (λ ready. AllStores (setup_of ready.0).slot m)
 ready_stores (Ok ready) slot m stores same = subst (λ (n : ℕ). AllStores n m) (sym same) stores
 ready_stores (Err refusal) slot m stores same = tt
 
 -- memory was wanted for it
-pub ready_wants : {T X : Type 0} (D : DiskGhosts T) (d e : T) (store : List ℕ) (limit : ℕ) (program : Program) (a : Application) (r : Result X Refusal) → AsksDisk D d e (λ asks. Opened store limit program asks (Ok a))
-    → IfErr r (λ refusal. refusal ≡ Memory) → IfErr r (λ refusal. AsksDisk D d e (λ asks. OrWants (Some store) (Opened store limit program) asks (Err refusal)))
-ready_wants D d e store limit program a (Ok x) opened held = tt
-ready_wants D d e store limit program a (Err refusal) opened held =
-    subst (λ (r : Refusal). AsksDisk D d e (λ asks. OrWants (Some store) (Opened store limit program) asks (Err r))) (sym held)
-    (same_disk D d e (λ asks. Opened store limit program asks (Ok a)) (λ asks. OrWants (Some store) (Opened store limit program) asks (Err Memory)) (λ asks opens. open_spares store limit program asks a opens) opened)
+pub ready_wants : {T X : Type 0} (D : DiskGhosts T) (d e : T) (store : List ℕ) (limit : ℕ) (code : Code) (a : Application) (r : Result X Refusal) → AsksDisk D d e (λ asks. Opened store limit code asks (Ok a))
+    → IfErr r (λ refusal. refusal ≡ Memory) → IfErr r (λ refusal. AsksDisk D d e (λ asks. OrWants (Some store) (Opened store limit code) asks (Err refusal)))
+ready_wants D d e store limit code a (Ok x) opened held = tt
+ready_wants D d e store limit code a (Err refusal) opened held =
+    subst (λ (r : Refusal). AsksDisk D d e (λ asks. OrWants (Some store) (Opened store limit code) asks (Err r))) (sym held)
+    (same_disk D d e (λ asks. Opened store limit code asks (Ok a)) (λ asks. OrWants (Some store) (Opened store limit code) asks (Err Memory)) (λ asks opens. open_spares store limit code asks a opens) opened)

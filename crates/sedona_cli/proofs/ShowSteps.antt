@@ -13,6 +13,7 @@ use Rattle.sed_outside.specs.Steps.{Read, AndThen, stops, goes_on}
 use Rattle.sed_outside.specs.Reads.{HasReads}
 use Rattle.sed_outside.proofs.Joining.{same_reads}
 use Rattle.sed_typed.specs.declared.program.Program.{Program}
+use Rattle.sed_engine.specs.Code.{Meaning as Code}
 use Rattle.sed_engine.specs.Program.{meaning_of}
 use Rattle.comp_tree.specs.Application.{Application}
 use Rattle.app_file.specs.Opens.{Opens as OpensTo}
@@ -22,7 +23,7 @@ use Rattle.sed_check.specs.Loading.{KitsLoaded}
 use Rattle.sedona_cli.specs.Steps.{KitsGenerated}
 use Rattle.sedona_cli.proofs.Generated.{done_by, generates_early}
 use Rattle.sedona_cli.specs.declared.refusal.Refusal.{Refusal}
-use Rattle.sedona_cli.specs.declared.refusal.Refusal.TheVariants.{FileFault, MethodTooLong, Refused, Rule, SlotTooSmall, DeviceFault, StoreExists, NoStore, NoApplication, WrongKits, OverLimit, BadUsers, ShortSecret, BadRecord, LinkFault, Memory}
+use Rattle.sedona_cli.specs.declared.refusal.Refusal.TheVariants.{FileFault, ImageBroken, ImageRefused, MethodTooLong, Refused, Rule, SlotTooSmall, DeviceFault, StoreExists, NoStore, NoApplication, WrongKits, OverLimit, BadUsers, ShortSecret, BadRecord, LinkFault, Memory}
 use Rattle.sedona_words.specs.Command.{Show}
 use Rattle.sedona_cli.specs.Outside.{Ask, Attaches, Opens, Found, NotAStore, of_reads, reads_in, Spares, AreAsked, AsksDisk, HasAsks, HoldsPayload}
 use Rattle.sedona_cli.specs.Puts.{IsOneOf}
@@ -47,11 +48,11 @@ use Rattle.sedona_cli.proofs.WithPayload.{found_spares, not_attached, not_opened
 -- with the name attached
 abbrev pub Within : ℕ → Program → List Ask → Result (List ℕ) Refusal → Type 0
 Within limit program =
-    AndThen StoreOpened (λ (payload : List ℕ). AndThen (AppRead program limit payload) (λ (a : Application). Prints (application_text (meaning_of program) a)))
+    AndThen StoreOpened (λ (payload : List ℕ). AndThen (AppRead (meaning_of program) limit payload) (λ (a : Application). Prints (application_text (meaning_of program) a)))
 
 -- what is done with a payload
 abbrev Then : ℕ → Program → List ℕ → List Ask → Result (List ℕ) Refusal → Type 0
-Then limit program payload = AndThen (AppRead program limit payload) (λ (a : Application). Prints (application_text (meaning_of program) a))
+Then limit program payload = AndThen (AppRead (meaning_of program) limit payload) (λ (a : Application). Prints (application_text (meaning_of program) a))
 
 -- it was not attached
 pub unattached : {T : Type 0} (D : DiskGhosts T) (d e : T) (store : List ℕ) (limit : ℕ) (program : Program) (refusal : Refusal) → AsksDisk D d e (λ asks. StoreAttached store asks (Err refusal))
@@ -66,20 +67,20 @@ unfolding ShowOf
 unopened D d e h store limit program refusal first second = not_opened D d e h store (Then limit program) refusal first second
 
 -- the payload is read, and printed
-printed_ends : (store : List ℕ) (limit : ℕ) (program : Program) (payload : List ℕ) (end : Result (List ℕ) Refusal) (front back : List Ask) → PrintedOrWants program limit payload end
+printed_ends : (store : List ℕ) (limit : ℕ) (program : Program) (payload : List ℕ) (end : Result (List ℕ) Refusal) (front back : List Ask) → PrintedOrWants (meaning_of program) limit payload end
     → StoreAttached store front (Ok tt) → StoreOpened back (Ok payload) → OrWants (Some store) (ShowOf store limit program) (front ++ back) end
 unfolding ShowOf
 printed_ends store limit program payload (Ok text) front back (a, is, same) attached opened =
     goes_on front back tt refl attached
     (goes_on back [] payload (sym (append-nil back)) opened (goes_on [] [] a refl (record { none = refl; holds = is }) (record { none = refl; holds = ap Ok same })))
 printed_ends store limit program payload (Err refusal) front back held attached opened =
-    match_both (is_want refusal) (Unit {0}) (IsRead program limit payload (Err refusal)) (Spares (Some store) (front ++ back)) _
+    match_both (is_want refusal) (Unit {0}) (IsRead (meaning_of program) limit payload (Err refusal)) (Spares (Some store) (front ++ back)) _
     (λ any. found_spares store payload front back attached opened)
     (λ is. goes_on front back tt refl attached
     (goes_on back [] payload (sym (append-nil back)) opened (stops refusal (record { none = refl; holds = is }) refl))) held
 
 pub all_shown : {T : Type 0} (D : DiskGhosts T) (d e h : T) (store : List ℕ) (limit : ℕ) (program : Program) (payload : List ℕ) (end : Result (List ℕ) Refusal) → AsksDisk D d e (λ asks. StoreAttached store asks (Ok tt))
-    → AsksDisk D e h (λ asks. OpenedOrWants asks (Ok payload)) → PrintedOrWants program limit payload end → AsksDisk D d h (λ asks. OrWants (Some store) (ShowOf store limit program) asks end)
+    → AsksDisk D e h (λ asks. OpenedOrWants asks (Ok payload)) → PrintedOrWants (meaning_of program) limit payload end → AsksDisk D d h (λ asks. OrWants (Some store) (ShowOf store limit program) asks end)
 all_shown D d e h store limit program payload end first second printed =
     both_disk D d e h (λ asks. StoreAttached store asks (Ok tt)) (λ asks. OpenedOrWants asks (Ok payload)) (λ asks. OrWants (Some store) (ShowOf store limit program) asks end)
     (λ front back attached opened. printed_ends store limit program payload end front back printed attached opened) first second
@@ -130,7 +131,7 @@ shown_by names store limit asks text (goes_on front back program parts loaded (g
   asked = behind asks front back loaded.0 (Attaches store true ∷ Opens (Found payload) ∷ []) parts loaded.1
       (two back g d h k (Attaches store true) (Opens (Found payload)) second attached third opened (none_before k i j fourth told.none ∙ prints.none));
   application = a;
-  is_file = file_of program limit payload a told.holds.reading told.holds.end_is told.holds.is_read;
+  is_file = file_of (meaning_of program) limit payload a told.holds.reading told.holds.end_is told.holds.is_read;
   printed = ok_text text (application_text (meaning_of program) a) prints.holds;
 }
 
@@ -185,6 +186,8 @@ undone (FileFault name) = neither _ (λ e. omega (arith, e)) (λ e. omega (arith
 undone (Refused name why) = neither _ (λ e. omega (arith, e)) (λ e. omega (arith, e))
 undone (Rule name at rule) = neither _ (λ e. omega (arith, e)) (λ e. omega (arith, e))
 undone (MethodTooLong n) = neither _ (λ e. omega (arith, e)) (λ e. omega (arith, e))
+undone (ImageRefused at) = neither _ (λ e. omega (arith, e)) (λ e. omega (arith, e))
+undone (ImageBroken method at rule) = neither _ (λ e. omega (arith, e)) (λ e. omega (arith, e))
 undone (SlotTooSmall needs has) = neither _ (λ e. omega (arith, e)) (λ e. omega (arith, e))
 undone DeviceFault = neither _ (λ e. omega (arith, e)) (λ e. omega (arith, e))
 undone StoreExists = neither _ (λ e. omega (arith, e)) (λ e. omega (arith, e))
@@ -243,19 +246,19 @@ show_spares F D x y d e names store limit (Err refusal) has = tt
 
 -- ---- with status 5
 
--- no application over this program
-abbrev pub OpensNone : Program → ℕ → Image → Type 0
-OpensNone program limit image = (a : Application) → OpensTo (meaning_of program) limit image a → ⊥
+-- no application over this code
+abbrev pub OpensNone : Code → ℕ → Image → Type 0
+OpensNone code limit image = (a : Application) → OpensTo code limit image a → ⊥
 
-pub none_in : ReadsOne → OpensOnce → (program : Program) (limit S : ℕ) (payload : List ℕ) (image : Image) (r : Refusal) → IsOpen S image payload → IsRead program limit payload (Err r) → OpensNone program limit image
-none_in one once program limit S payload image r held is a opens =
+pub none_in : ReadsOne → OpensOnce → (code : Code) (limit S : ℕ) (payload : List ℕ) (image : Image) (r : Refusal) → IsOpen S image payload → IsRead code limit payload (Err r) → OpensNone code limit image
+none_in one once code limit S payload image r held is a opens =
     let same : payload ≡ opens.payload = one_payload once S opens.size image payload opens.payload held opens.store in
-    let kept : IsFile (meaning_of program) limit payload a = subst (λ (p : List ℕ). IsFile (meaning_of program) limit p a) (sym same) opens.file in
-    err_ok r a (is.end_is ∙ ap application_in (one (meaning_of program) limit payload is.reading (file a) is.tables is.told is.is_read kept))
+    let kept : IsFile code limit payload a = subst (λ (p : List ℕ). IsFile code limit p a) (sym same) opens.file in
+    err_ok r a (is.end_is ∙ ap application_in (one code limit payload is.reading (file a) is.tables is.told is.is_read kept))
 
 none_of : {T : Type 0} → ReadsOne → OpensOnce → (D : DiskGhosts T) (store : List ℕ) (limit : ℕ) (program : Program) (asks front back : List Ask) (reads : List Read) (refusal : Refusal) (d e : T)
     → asks ≡ front ++ back → front ≡ of_reads reads → of_refusal refusal ≡ 5 → IsTrue (D.meaning d).tells → AreAsked D asks d e → ShowOf store limit program back (Err refusal)
-    → OpensNone program limit (D.meaning d).content
+    → OpensNone (meaning_of program) limit (D.meaning d).content
 unfolding ShowOf
 none_of one once D store limit program asks front back reads refusal d e parts is number told asked (stops r h same) =
     absurd (let four_is_five = ap of_refusal (sym (one_refusal refusal r same ∙ h.1)) ∙ number in omega (arith, four_is_five))
@@ -270,13 +273,13 @@ none_of one once D store limit program asks front back reads refusal d e parts i
     let last = last_behind D store (Opens (Found payload)) asks reads d e
     (behind asks front back reads (Attaches store true ∷ Opens (Found payload) ∷ []) parts is (two back g k h j (Attaches store true) (Opens (Found payload)) second attached third opened read.none)) asked in
     let held = last.asked.found payload refl (last.attached.time.told ∙ told) in
-    none_in one once program limit held.0 payload (D.meaning d).content r (subst (λ (i : Image). IsOpen held.0 i payload) (last.attached.keeps told).content held.1) read.holds
+    none_in one once (meaning_of program) limit held.0 payload (D.meaning d).content r (subst (λ (i : Image). IsOpen held.0 i payload) (last.attached.keeps told).content held.1) read.holds
 none_of one once D store limit program asks front back reads refusal d e parts is number told asked (goes_on g k v second attached (goes_on h j payload third opened (goes_on i l a fourth read prints))) =
     absurd (err_ok refusal (application_text (meaning_of program) a) prints.holds)
 
 none_by : {T : Type 0} → ReadsOne → OpensOnce → (D : DiskGhosts T) (names : List (List ℕ)) (store : List ℕ) (limit : ℕ) (asks : List Ask) (reads : List Read) (before after : Option (List ℕ)) (fb fa status : ℕ) (d e : T)
     → reads_in asks ≡ reads → AreAsked D asks d e → status ≡ 5 → IsTrue (D.meaning d).tells → IsAnswer (Show names store limit) asks before after fb fa status
-    → (program : Program) × KitsLoaded names reads (Ok program) × OpensNone program limit (D.meaning d).content
+    → (program : Program) × KitsLoaded names reads (Ok program) × OpensNone (meaning_of program) limit (D.meaning d).content
 none_by one once D names store limit asks reads before after fb fa status d e is asked five_is told (done text came nought put same) = absurd (omega (arith, nought, five_is))
 none_by one once D names store limit asks reads before after fb fa status d e is asked five_is told (unput text came at_once eight rose front) = absurd (omega (arith, eight, five_is))
 none_by one once D names store limit asks reads before after fb fa status d e is asked five_is told (stopped put last never eight rose front) = absurd never

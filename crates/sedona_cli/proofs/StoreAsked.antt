@@ -6,7 +6,7 @@ use Rattle.sed_typed.specs.declared.program.Program.{Program}
 use Rattle.sed_outside.specs.Cause.{Rose}
 use Rattle.disk_model.specs.Disk.{Image, Meaning, Attaches as IsAttach, Elapses, Keeps, MarksUp}
 use Rattle.disk_model.specs.declared.disk.Disk.{Ghosts as DiskGhosts}
-use Rattle.sed_engine.specs.Program.{meaning_of}
+use Rattle.sed_engine.specs.Code.{Meaning as Code}
 use Rattle.comp_tree.specs.Application.{Application}
 use Rattle.app_file.specs.Reading.{IsFile, IsReadAs, Reading, no_file, wrong_kits, over_limit, file}
 use Rattle.sedona_cli.proofs.DiskCalls.{at_end, then_during, then_marks}
@@ -143,11 +143,11 @@ of_payload (file a) r is = absurd (err_ok r a is)
 ok_app : (a b : Application) → ◌≡◌ {A = Result Application Refusal} (Ok a) (Ok b) → a ≡ b
 ok_app a b same = cc
 
-pub file_of : (program : Program) (limit : ℕ) (payload : List ℕ) (a : Application) (reading : Reading) → Ok a ≡ application_in reading → IsReadAs (meaning_of program) limit payload reading → IsFile (meaning_of program) limit payload a
-file_of program limit payload a no_file same is = absurd (ok_err a NoApplication same)
-file_of program limit payload a (wrong_kits place in_file in_kits) same is = absurd (ok_err a (WrongKits place in_file in_kits) same)
-file_of program limit payload a (over_limit which) same is = absurd (ok_err a (OverLimit which) same)
-file_of program limit payload a (file b) same is = subst (λ (x : Application). IsFile (meaning_of program) limit payload x) (sym (ok_app a b same)) is
+pub file_of : (code : Code) (limit : ℕ) (payload : List ℕ) (a : Application) (reading : Reading) → Ok a ≡ application_in reading → IsReadAs code limit payload reading → IsFile code limit payload a
+file_of code limit payload a no_file same is = absurd (ok_err a NoApplication same)
+file_of code limit payload a (wrong_kits place in_file in_kits) same is = absurd (ok_err a (WrongKits place in_file in_kits) same)
+file_of code limit payload a (over_limit which) same is = absurd (ok_err a (OverLimit which) same)
+file_of code limit payload a (file b) same is = subst (λ (x : Application). IsFile code limit payload x) (sym (ok_app a b same)) is
 
 of_show : (store : List ℕ) (limit : ℕ) (program : Program) (asks front back : List Ask) (reads : List Read) (end : Result (List ℕ) Refusal) → asks ≡ front ++ back → front ≡ of_reads reads
     → ShowOf store limit program back end → StoreAsked IsOpening store asks (refusal_by end)

@@ -7,7 +7,7 @@ use Rattle.disk_model.specs.Disk.{Meaning, Attaches as IsAttach, Elapses, Keeps}
 use Rattle.disk_model.specs.declared.disk.Disk.{Ghosts as DiskGhosts}
 use Rattle.sedona_cli.proofs.DiskCalls.{no_time, no_marks, now_alone, then_marks, then_time}
 use Rattle.sedona_cli.specs.declared.refusal.Refusal.{Refusal}
-use Rattle.sedona_cli.specs.declared.refusal.Refusal.TheVariants.{FileFault, MethodTooLong, Refused, Rule, SlotTooSmall, DeviceFault, StoreExists, NoStore, NoApplication, WrongKits, OverLimit, BadUsers, ShortSecret, BadRecord, LinkFault, Memory}
+use Rattle.sedona_cli.specs.declared.refusal.Refusal.TheVariants.{FileFault, ImageBroken, ImageRefused, MethodTooLong, Refused, Rule, SlotTooSmall, DeviceFault, StoreExists, NoStore, NoApplication, WrongKits, OverLimit, BadUsers, ShortSecret, BadRecord, LinkFault, Memory}
 use Rattle.sedona_words.specs.Command.{Command, Cycles, Check, Compile, Gen, New, Replay, Run, Show, output_of, port_of, store_of}
 use Rattle.sedona_cli.specs.Outside.{Ask, Reads, Writes, Attaches, Makes, Opens, Binds, Runs, Whole, NotEmpty, Failed, Found, NotAStore, Unread, Unheld, Written, Unwritten, Withheld, is_of_files, names_in, of_reads, spares, Spares, AreAsked, AttachesFirst, AttachesIfAny}
 use Rattle.sedona_cli.specs.Puts.{IsOneOf}
@@ -51,6 +51,18 @@ late_at (MethodTooLong n) early (inr (inr (inl e))) = absurd (omega (arith, e))
 late_at (MethodTooLong n) early (inr (inr (inr (inl e)))) = absurd (omega (arith, e))
 late_at (MethodTooLong n) early (inr (inr (inr (inr (inl e))))) = absurd (omega (arith, e))
 late_at (MethodTooLong n) early (inr (inr (inr (inr (inr never))))) = never
+late_at (ImageRefused at) early (inl e) = absurd (omega (arith, e))
+late_at (ImageRefused at) early (inr (inl e)) = absurd (omega (arith, e))
+late_at (ImageRefused at) early (inr (inr (inl e))) = absurd (omega (arith, e))
+late_at (ImageRefused at) early (inr (inr (inr (inl e)))) = absurd (omega (arith, e))
+late_at (ImageRefused at) early (inr (inr (inr (inr (inl e))))) = absurd (omega (arith, e))
+late_at (ImageRefused at) early (inr (inr (inr (inr (inr never))))) = never
+late_at (ImageBroken method at rule) early (inl e) = absurd (omega (arith, e))
+late_at (ImageBroken method at rule) early (inr (inl e)) = absurd (omega (arith, e))
+late_at (ImageBroken method at rule) early (inr (inr (inl e))) = absurd (omega (arith, e))
+late_at (ImageBroken method at rule) early (inr (inr (inr (inl e)))) = absurd (omega (arith, e))
+late_at (ImageBroken method at rule) early (inr (inr (inr (inr (inl e))))) = absurd (omega (arith, e))
+late_at (ImageBroken method at rule) early (inr (inr (inr (inr (inr never))))) = never
 late_at (SlotTooSmall needs has) early (inl e) = absurd (omega (arith, e))
 late_at (SlotTooSmall needs has) early (inr (inl e)) = absurd (omega (arith, e))
 late_at (SlotTooSmall needs has) early (inr (inr (inl e))) = absurd (omega (arith, e))
@@ -90,13 +102,14 @@ late_at Memory early (inr (inr (inr (inr (inl e))))) = absurd (omega (arith, e))
 late_at Memory early (inr (inr (inr (inr (inr never))))) = never
 
 -- a number that is none of the five
-not_before : (n : ℕ) → n ≢ 2 → n ≢ 3 → n ≢ 9 → n ≢ 11 → n ≢ 12 → IsOneOf before_store n → ⊥
-not_before n two three nine eleven twelve (inl e) = two e
-not_before n two three nine eleven twelve (inr (inl e)) = three e
-not_before n two three nine eleven twelve (inr (inr (inl e))) = nine e
-not_before n two three nine eleven twelve (inr (inr (inr (inl e)))) = eleven e
-not_before n two three nine eleven twelve (inr (inr (inr (inr (inl e))))) = twelve e
-not_before n two three nine eleven twelve (inr (inr (inr (inr (inr never))))) = never
+not_before : (n : ℕ) → n ≢ 2 → n ≢ 3 → n ≢ 6 → n ≢ 9 → n ≢ 11 → n ≢ 12 → IsOneOf before_store n → ⊥
+not_before n two three six nine eleven twelve (inl e) = two e
+not_before n two three six nine eleven twelve (inr (inl e)) = three e
+not_before n two three six nine eleven twelve (inr (inr (inl e))) = six e
+not_before n two three six nine eleven twelve (inr (inr (inr (inl e)))) = nine e
+not_before n two three six nine eleven twelve (inr (inr (inr (inr (inl e))))) = eleven e
+not_before n two three six nine eleven twelve (inr (inr (inr (inr (inr (inl e)))))) = twelve e
+not_before n two three six nine eleven twelve (inr (inr (inr (inr (inr (inr never)))))) = never
 
 not_at : IsOneOf at_store 7 → ⊥
 not_at (inl e) = absurd (omega (arith, e))
@@ -223,8 +236,8 @@ quiet_alone D command asks before after fb fa status d e none (wanted left is pu
 come_to : {T : Type 0} (D : DiskGhosts T) (store : List ℕ) (status : ℕ) (d e : T) → (IsOneOf before_store status → ⊥) → IsAttach (D.meaning d).calls (D.meaning d).attached (D.meaning e).attached store → AttachesBy D store status d e
 come_to D store status d e not attach = record { never = λ before. absurd (not before); once = λ at. attach; at_most_once = λ is. inr attach }
 
-not_done : (status n : ℕ) → status ≡ n → n ≢ 2 → n ≢ 3 → n ≢ 9 → n ≢ 11 → n ≢ 12 → IsOneOf before_store status → ⊥
-not_done status n is two three nine eleven twelve one = not_before n two three nine eleven twelve (subst (λ (k : ℕ). IsOneOf before_store k) is one)
+not_done : (status n : ℕ) → status ≡ n → n ≢ 2 → n ≢ 3 → n ≢ 6 → n ≢ 9 → n ≢ 11 → n ≢ 12 → IsOneOf before_store status → ⊥
+not_done status n is two three six nine eleven twelve one = not_before n two three six nine eleven twelve (subst (λ (k : ℕ). IsOneOf before_store k) is one)
 
 four_or_five : (ask : Ask) (r : Refusal) → EndsBy ask (Some r) → (of_refusal r ≡ 4) ⊎ (of_refusal r ≡ 5)
 four_or_five (Reads read) r ends = absurd ends
@@ -251,14 +264,14 @@ attaches_by Kind D store status asks refusal d e is (ends_before reads r all sam
       at_most_once = λ b. inl left;
     }
 attaches_by Kind D store status asks refusal d e is (ends_unattached reads all same) asked =
-    come_to D store status d e (not_done status 4 (is ∙ ap of_refusal (some_refusal refusal DeviceFault same)) (λ e. omega (arith, e)) (λ e. omega (arith, e)) (λ e. omega (arith, e)) (λ e. omega (arith, e)) (λ e. omega (arith, e)))
+    come_to D store status d e (not_done status 4 (is ∙ ap of_refusal (some_refusal refusal DeviceFault same)) (λ e. omega (arith, e)) (λ e. omega (arith, e)) (λ e. omega (arith, e)) (λ e. omega (arith, e)) (λ e. omega (arith, e)) (λ e. omega (arith, e)))
     (attach_one D store asks reads d e all asked)
 attaches_by Kind D store status asks refusal d e is (ends_at reads ask all kind ends) asked =
     come_to D store status d e (by (four_or_five ask refusal ends)) (attach_last D store ask (Some refusal) d e ends (last_behind D store ask asks reads d e all asked))
   where
     by : (of_refusal refusal ≡ 4) ⊎ (of_refusal refusal ≡ 5) → IsOneOf before_store status → ⊥
-    by (inl four) = not_done status 4 (is ∙ four) (λ e. omega (arith, e)) (λ e. omega (arith, e)) (λ e. omega (arith, e)) (λ e. omega (arith, e)) (λ e. omega (arith, e))
-    by (inr five) = not_done status 5 (is ∙ five) (λ e. omega (arith, e)) (λ e. omega (arith, e)) (λ e. omega (arith, e)) (λ e. omega (arith, e)) (λ e. omega (arith, e))
+    by (inl four) = not_done status 4 (is ∙ four) (λ e. omega (arith, e)) (λ e. omega (arith, e)) (λ e. omega (arith, e)) (λ e. omega (arith, e)) (λ e. omega (arith, e)) (λ e. omega (arith, e))
+    by (inr five) = not_done status 5 (is ∙ five) (λ e. omega (arith, e)) (λ e. omega (arith, e)) (λ e. omega (arith, e)) (λ e. omega (arith, e)) (λ e. omega (arith, e)) (λ e. omega (arith, e))
 
 attaches_done : {T : Type 0} (Kind : Ask → Type 0) (D : DiskGhosts T) (store : List ℕ) (status : ℕ) (asks : List Ask) (d e : T) → (IsOneOf before_store status → ⊥)
     → StoreAsked Kind store asks None → AreAsked D asks d e → AttachesBy D store status d e
@@ -270,7 +283,7 @@ attaches_done Kind D store status asks d e not (ends_at reads ask all kind ends)
 -- memory was wanted
 attaches_wanted : {T : Type 0} (D : DiskGhosts T) (store : List ℕ) (status : ℕ) (asks : List Ask) (d e : T) → status ≡ 7 → Spares (Some store) asks → AreAsked D asks d e → AttachesBy D store status d e
 attaches_wanted D store status asks d e is spared asked = record {
-  never = λ b. absurd (not_done status 7 is (λ e. omega (arith, e)) (λ e. omega (arith, e)) (λ e. omega (arith, e)) (λ e. omega (arith, e)) (λ e. omega (arith, e)) b);
+  never = λ b. absurd (not_done status 7 is (λ e. omega (arith, e)) (λ e. omega (arith, e)) (λ e. omega (arith, e)) (λ e. omega (arith, e)) (λ e. omega (arith, e)) (λ e. omega (arith, e)) b);
   once = λ at. absurd (not_at (subst (λ (k : ℕ). IsOneOf at_store k) is at));
   at_most_once = λ b. by spared.attached;
 }
@@ -288,7 +301,7 @@ run_attaches_by : {T : Type 0} (D : DiskGhosts T) (store : List ℕ) (port statu
 run_attaches_by D store port status asks refusal d e is (inl by) asked = attaches_by _ D store status asks refusal d e is by asked
 run_attaches_by D store port status asks refusal d e is (inr by) asked =
     come_to D store status d e
-    (not_done status 10 (ten_of store port status asks refusal is by) (λ e. omega (arith, e)) (λ e. omega (arith, e)) (λ e. omega (arith, e)) (λ e. omega (arith, e)) (λ e. omega (arith, e)))
+    (not_done status 10 (ten_of store port status asks refusal is by) (λ e. omega (arith, e)) (λ e. omega (arith, e)) (λ e. omega (arith, e)) (λ e. omega (arith, e)) (λ e. omega (arith, e)) (λ e. omega (arith, e)))
     (unbound_attaches D store port asks refusal d e by asked)
 
 pub asks_store : {T : Type 0} (D : DiskGhosts T) (command : Command) (asks : List Ask) (before after : Option (List ℕ)) (fb fa status : ℕ) (d e : T)
@@ -298,34 +311,34 @@ asks_store D (Check names) asks before after fb fa status d e answer asked = qui
 asks_store D (Compile image names) asks before after fb fa status d e answer asked = quiet_alone D (Compile image names) asks before after fb fa status d e refl answer asked
 asks_store D (Gen g) asks before after fb fa status d e answer asked = quiet_alone D (Gen g) asks before after fb fa status d e refl answer asked
 asks_store D (New names store slot) asks before after fb fa status d e (done text came is put same) asked =
-    attaches_done _ D store status asks d e (not_done status 0 is (λ e. omega (arith, e)) (λ e. omega (arith, e)) (λ e. omega (arith, e)) (λ e. omega (arith, e)) (λ e. omega (arith, e))) (new_asked names store slot asks (Ok text) came) asked
+    attaches_done _ D store status asks d e (not_done status 0 is (λ e. omega (arith, e)) (λ e. omega (arith, e)) (λ e. omega (arith, e)) (λ e. omega (arith, e)) (λ e. omega (arith, e)) (λ e. omega (arith, e))) (new_asked names store slot asks (Ok text) came) asked
 asks_store D (New names store slot) asks before after fb fa status d e (unput text came at_once is rose front) asked =
-    attaches_done _ D store status asks d e (not_done status 8 is (λ e. omega (arith, e)) (λ e. omega (arith, e)) (λ e. omega (arith, e)) (λ e. omega (arith, e)) (λ e. omega (arith, e))) (new_asked names store slot asks (Ok text) came) asked
+    attaches_done _ D store status asks d e (not_done status 8 is (λ e. omega (arith, e)) (λ e. omega (arith, e)) (λ e. omega (arith, e)) (λ e. omega (arith, e)) (λ e. omega (arith, e)) (λ e. omega (arith, e))) (new_asked names store slot asks (Ok text) came) asked
 asks_store D (New names store slot) asks before after fb fa status d e (stopped put last never is rose front) asked = absurd never
 asks_store D (New names store slot) asks before after fb fa status d e (refused refusal came is puts) asked =
     attaches_by _ D store status asks refusal d e is (new_asked names store slot asks (Err refusal) came) asked
 asks_store D (New names store slot) asks before after fb fa status d e (wanted spared is puts) asked = attaches_wanted D store status asks d e is spared asked
 asks_store D (Show names store limit) asks before after fb fa status d e (done text came is put same) asked =
-    attaches_done _ D store status asks d e (not_done status 0 is (λ e. omega (arith, e)) (λ e. omega (arith, e)) (λ e. omega (arith, e)) (λ e. omega (arith, e)) (λ e. omega (arith, e))) (show_asked names store limit asks (Ok text) came) asked
+    attaches_done _ D store status asks d e (not_done status 0 is (λ e. omega (arith, e)) (λ e. omega (arith, e)) (λ e. omega (arith, e)) (λ e. omega (arith, e)) (λ e. omega (arith, e)) (λ e. omega (arith, e))) (show_asked names store limit asks (Ok text) came) asked
 asks_store D (Show names store limit) asks before after fb fa status d e (unput text came at_once is rose front) asked =
-    attaches_done _ D store status asks d e (not_done status 8 is (λ e. omega (arith, e)) (λ e. omega (arith, e)) (λ e. omega (arith, e)) (λ e. omega (arith, e)) (λ e. omega (arith, e))) (show_asked names store limit asks (Ok text) came) asked
+    attaches_done _ D store status asks d e (not_done status 8 is (λ e. omega (arith, e)) (λ e. omega (arith, e)) (λ e. omega (arith, e)) (λ e. omega (arith, e)) (λ e. omega (arith, e)) (λ e. omega (arith, e))) (show_asked names store limit asks (Ok text) came) asked
 asks_store D (Show names store limit) asks before after fb fa status d e (stopped put last never is rose front) asked = absurd never
 asks_store D (Show names store limit) asks before after fb fa status d e (refused refusal came is puts) asked =
     attaches_by _ D store status asks refusal d e is (show_asked names store limit asks (Err refusal) came) asked
 asks_store D (Show names store limit) asks before after fb fa status d e (wanted spared is puts) asked = attaches_wanted D store status asks d e is spared asked
 asks_store D (Replay node file) asks before after fb fa status d e (done text came is put same) asked =
-    come_to D node.store status d e (not_done status 0 is (λ e. omega (arith, e)) (λ e. omega (arith, e)) (λ e. omega (arith, e)) (λ e. omega (arith, e)) (λ e. omega (arith, e))) (run_attaches D node.store asks d e (run_behind node file asks (ran_by node file asks text came)) asked)
+    come_to D node.store status d e (not_done status 0 is (λ e. omega (arith, e)) (λ e. omega (arith, e)) (λ e. omega (arith, e)) (λ e. omega (arith, e)) (λ e. omega (arith, e)) (λ e. omega (arith, e))) (run_attaches D node.store asks d e (run_behind node file asks (ran_by node file asks text came)) asked)
 asks_store D (Replay node file) asks before after fb fa status d e (unput text came at_once is rose front) asked =
-    come_to D node.store status d e (not_done status 8 is (λ e. omega (arith, e)) (λ e. omega (arith, e)) (λ e. omega (arith, e)) (λ e. omega (arith, e)) (λ e. omega (arith, e))) (run_attaches D node.store asks d e (run_behind node file asks (ran_by node file asks text came)) asked)
+    come_to D node.store status d e (not_done status 8 is (λ e. omega (arith, e)) (λ e. omega (arith, e)) (λ e. omega (arith, e)) (λ e. omega (arith, e)) (λ e. omega (arith, e)) (λ e. omega (arith, e))) (run_attaches D node.store asks d e (run_behind node file asks (ran_by node file asks text came)) asked)
 asks_store D (Replay node file) asks before after fb fa status d e (stopped put last until is rose front) asked =
-    come_to D node.store status d e (not_done status 8 is (λ e. omega (arith, e)) (λ e. omega (arith, e)) (λ e. omega (arith, e)) (λ e. omega (arith, e)) (λ e. omega (arith, e))) (run_attaches D node.store asks d e (run_behind node file asks (ran_until node file asks put last until)) asked)
+    come_to D node.store status d e (not_done status 8 is (λ e. omega (arith, e)) (λ e. omega (arith, e)) (λ e. omega (arith, e)) (λ e. omega (arith, e)) (λ e. omega (arith, e)) (λ e. omega (arith, e))) (run_attaches D node.store asks d e (run_behind node file asks (ran_until node file asks put last until)) asked)
 asks_store D (Replay node file) asks before after fb fa status d e (refused refusal came is puts) asked =
     attaches_by _ D node.store status asks refusal d e is (replay_asked node file asks refusal came) asked
 asks_store D (Replay node file) asks before after fb fa status d e (wanted spared is puts) asked = attaches_wanted D node.store status asks d e is spared asked
 asks_store D (Run r) asks before after fb fa status d e (done text came is put same) asked =
-    come_to D r.node.store status d e (not_done status 0 is (λ e. omega (arith, e)) (λ e. omega (arith, e)) (λ e. omega (arith, e)) (λ e. omega (arith, e)) (λ e. omega (arith, e))) (live_attaches D r.node.store r.port asks d e (live_behind r asks text came) asked)
+    come_to D r.node.store status d e (not_done status 0 is (λ e. omega (arith, e)) (λ e. omega (arith, e)) (λ e. omega (arith, e)) (λ e. omega (arith, e)) (λ e. omega (arith, e)) (λ e. omega (arith, e))) (live_attaches D r.node.store r.port asks d e (live_behind r asks text came) asked)
 asks_store D (Run r) asks before after fb fa status d e (unput text came at_once is rose front) asked =
-    come_to D r.node.store status d e (not_done status 8 is (λ e. omega (arith, e)) (λ e. omega (arith, e)) (λ e. omega (arith, e)) (λ e. omega (arith, e)) (λ e. omega (arith, e))) (live_attaches D r.node.store r.port asks d e (live_behind r asks text came) asked)
+    come_to D r.node.store status d e (not_done status 8 is (λ e. omega (arith, e)) (λ e. omega (arith, e)) (λ e. omega (arith, e)) (λ e. omega (arith, e)) (λ e. omega (arith, e)) (λ e. omega (arith, e))) (live_attaches D r.node.store r.port asks d e (live_behind r asks text came) asked)
 asks_store D (Run r) asks before after fb fa status d e (stopped put last never is rose front) asked = absurd never
 asks_store D (Run r) asks before after fb fa status d e (refused refusal came is puts) asked =
     run_attaches_by D r.node.store r.port status asks refusal d e is (run_asked r asks refusal came) asked

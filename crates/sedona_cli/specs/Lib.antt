@@ -7,6 +7,7 @@ pub use Rattle.sed_outside.specs.Told
 pub use Rattle.disk_model.specs.Disk
 pub use Rattle.app_writer.specs.Alone
 pub use Rattle.record_making.specs.Spec
+pub use Rattle.scode_code.specs.Image
 pub use Rattle.scode_compile.specs.Compiled
 pub use Rattle.scode_gen.specs.Generated
 pub use Rattle.sed_check.specs.Loading
@@ -18,6 +19,7 @@ pub mod Writing
 pub mod Lines
 pub mod Steps
 pub mod Store
+pub mod Given
 pub mod New
 pub mod Show
 pub mod Nodes

@@ -1,6 +1,5 @@
 -- What commands share that run a node: the store that is opened, the run, and what it leaves.
 use Rattle.std.specs.Prelude.{◌≡◌, ◌<◌, ◌≤◌, ◌+◌, ◌-◌, ℕ, ℤ, true, IsTrue, List, Result}
-use Rattle.sed_typed.specs.declared.program.Program.{Program as TheProgram}
 use Rattle.disk_model.specs.Disk.{Image, Meaning}
 use Rattle.sed_engine.specs.declared.engine.Engine.{Ghosts}
 use Rattle.sed_engine.specs.Code.{Meaning as Code}
@@ -19,13 +18,13 @@ use Rattle.sedona_cli.specs.Store.{AppRead, StoreAttached, StoreOpened}
 
 -- ---- what is opened
 
--- The store of a name is attached and opened, and its payload read as an application over a program, with at most so
--- many bytes of data.
-unfoldable pub Opened : List ℕ → ℕ → TheProgram → List Ask → Result Application Refusal → Type 0
-Opened store limit program =
+-- The store of a name is attached and opened, and its payload read as an application over a code, with at most so many
+-- bytes of data.
+unfoldable pub Opened : List ℕ → ℕ → Code → List Ask → Result Application Refusal → Type 0
+Opened store limit code =
     AndThen (StoreAttached store) (λ (attached : Unit {0}).
     AndThen StoreOpened (λ (payload : List ℕ).
-    AppRead program limit payload))
+    AppRead code limit payload))
 
 -- ---- what is run
 

@@ -117,8 +117,8 @@ pub record SparesDisk (old new : Meaning) : Type 0 where
   pub keeps : IsTrue old.tells → Keeps old new
   pub marks : MarksUp old new 0
 
--- What a command leaves once all was done, with status 0, or 8 where only its text could not be put. What `replay` and
--- `run` leave stands with what they show.
+-- What a command leaves once all was done, with status 0, or 8 where only its text could not be put. What `replay`,
+-- `run` and `boot` leave stands with what they show.
 abbrev pub Leaves : {S T : Type 0} → FileGhosts S → DiskGhosts T → Command → S → S → T → T → Type 0
 Leaves F D (Cycles file count) files files_now disk disk_now = disk_now ≡ disk
 Leaves F D (Check names) files files_now disk disk_now = disk_now ≡ disk
@@ -132,7 +132,7 @@ Leaves F D (Gen asked) files files_now disk disk_now = LeavesRecord F asked file
 
 -- The statuses before whose refusals no step comes to the store, and those behind which it was come to.
 abbrev pub before_store : List ℕ
-before_store = 2 ∷ 3 ∷ 9 ∷ 11 ∷ 12 ∷ []
+before_store = 2 ∷ 3 ∷ 6 ∷ 9 ∷ 11 ∷ 12 ∷ []
 
 abbrev pub at_store : List ℕ
 at_store = 0 ∷ 4 ∷ 5 ∷ 8 ∷ 10 ∷ []
@@ -152,8 +152,8 @@ abbrev pub AsksStore : {T : Type 0} → DiskGhosts T → Option (List ℕ) → �
 AsksStore D None status disk disk_now = disk_now ≡ disk
 AsksStore D (Some name) status disk disk_now = AttachesBy D name status disk disk_now
 
--- What was asked of the link and the clock, by command: without a port nothing, and with one what `run` asks of them,
--- and where it was done, what it leaves.
+-- What was asked of the link and the clock, by command: without a port nothing, and with one what `run` and `boot` ask
+-- of them, and where it was done, what they leave.
 abbrev pub AsksLiveOf : {S T U V : Type 0} → FileGhosts S → DiskGhosts T
     → LinkGhosts U → ClockGhosts V → Command → S → S
     → U → U → V → V → T → T → Option (List ℕ) → Option (List ℕ) → ℕ → Type 0

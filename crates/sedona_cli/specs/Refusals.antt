@@ -12,7 +12,7 @@ use Rattle.sedona_cli.specs.declared.refusal.Refusal.{Refusal}
 use Rattle.sedona_cli.specs.declared.refusal.Refusal.TheVariants.{FileFault, Refused, Rule, SlotTooSmall, DeviceFault}
 use Rattle.sedona_cli.specs.declared.refusal.Refusal.TheVariants.{StoreExists, NoStore, NoApplication, WrongKits}
 use Rattle.sedona_cli.specs.declared.refusal.Refusal.TheVariants.{OverLimit, BadUsers, ShortSecret, BadRecord}
-use Rattle.sedona_cli.specs.declared.refusal.Refusal.TheVariants.{LinkFault, Memory, MethodTooLong}
+use Rattle.sedona_cli.specs.declared.refusal.Refusal.TheVariants.{ImageBroken, ImageRefused, LinkFault, Memory, MethodTooLong}
 use Rattle.scode_compile.specs.declared.refusal.CompileRefusal.{CompileRefusal}
 use Rattle.scode_compile.specs.declared.refusal.CompileRefusal.TheVariants as compiled
 
@@ -22,6 +22,8 @@ is_want (FileFault file) = false
 is_want (Refused file why) = false
 is_want (Rule file at rule) = false
 is_want (MethodTooLong n) = false
+is_want (ImageRefused at) = false
+is_want (ImageBroken method at rule) = false
 is_want (SlotTooSmall needs has) = false
 is_want DeviceFault = false
 is_want StoreExists = false
@@ -54,12 +56,14 @@ of_app (app.WrongKits kit in_file in_kits) = WrongKits kit in_file in_kits
 of_app (app.OverLimit which) = OverLimit which
 of_app app.Memory = Memory
 
--- why a file of users, of a secret or of a record is refused, as a refusal of a command
+-- why a file of users, of a secret, of a record or of an image is refused, as a refusal of a command
 abbrev pub of_inputs : InputRefusal → Refusal
 of_inputs (inputs.FileFault file) = FileFault file
 of_inputs inputs.BadUsers = BadUsers
 of_inputs inputs.ShortSecret = ShortSecret
 of_inputs (inputs.BadRecord at) = BadRecord at
+of_inputs (inputs.BadImage at) = ImageRefused at
+of_inputs (inputs.BrokenRule method at rule) = ImageBroken method at rule
 of_inputs inputs.Memory = Memory
 
 -- why the file of a name could not be written
@@ -73,6 +77,8 @@ failed_of (FileFault file) = file ∷ []
 failed_of (Refused file why) = []
 failed_of (Rule file at rule) = []
 failed_of (MethodTooLong n) = []
+failed_of (ImageRefused at) = []
+failed_of (ImageBroken method at rule) = []
 failed_of (SlotTooSmall needs has) = []
 failed_of DeviceFault = []
 failed_of StoreExists = []
@@ -92,6 +98,8 @@ is_of_store (FileFault file) = false
 is_of_store (Refused file why) = false
 is_of_store (Rule file at rule) = false
 is_of_store (MethodTooLong n) = false
+is_of_store (ImageRefused at) = false
+is_of_store (ImageBroken method at rule) = false
 is_of_store (SlotTooSmall needs has) = false
 is_of_store DeviceFault = true
 is_of_store StoreExists = true
@@ -111,6 +119,8 @@ is_worded (FileFault file) = true
 is_worded (Refused file why) = true
 is_worded (Rule file at rule) = true
 is_worded (MethodTooLong n) = true
+is_worded (ImageRefused at) = true
+is_worded (ImageBroken method at rule) = true
 is_worded (SlotTooSmall needs has) = true
 is_worded DeviceFault = false
 is_worded StoreExists = false

@@ -1,12 +1,11 @@
 -- What `replay` comes to, and what it leaves.
 use Rattle.std.specs.Prelude.{◌≡◌, ◌⊎◌, ℕ, true, pos, List, [], ◌∷◌, ◌++◌, Option, Result, Ok}
-use Rattle.sed_typed.specs.declared.program.Program.{Program as TheProgram}
 use Rattle.sed_outside.specs.Cause.{Rose}
 use Rattle.sed_outside.specs.Sink.{PutsFront, with_text}
 use Rattle.sed_outside.specs.declared.files.Files.{Ghosts as FileGhosts}
 use Rattle.disk_model.specs.Disk.{Meaning}
 use Rattle.disk_model.specs.declared.disk.Disk.{Ghosts as DiskGhosts}
-use Rattle.sed_engine.specs.Program.{meaning_of}
+use Rattle.sed_engine.specs.Code.{Meaning as Code}
 use Rattle.comp_tree.specs.Application.{Application}
 use Rattle.app_file.specs.Opens.{Opens as OpensTo}
 use Rattle.dasp_session.specs.declared.user.User.{User}
@@ -18,42 +17,42 @@ use Rattle.sed_node.specs.Running.{lines_of}
 use Rattle.sed_node.specs.Replaying.{end_text, replay_text}
 use Rattle.sed_outside.specs.Steps.{AndThen, Decides}
 use Rattle.sed_outside.specs.Reads.{HasReads}
-use Rattle.sedona_cli.specs.declared.inputs.Inputs.{Inputs}
+use Rattle.sedona_cli.specs.Given.{GivenRecord}
 use Rattle.sedona_cli.specs.declared.refusal.Refusal.{Refusal}
 use Rattle.sedona_words.specs.Command.{NodeAsked}
 use Rattle.sedona_cli.specs.Outside.{Ask, Attaches, Found, Opens, Ran, Runs, AreAsked, of_reads, reached}
 use Rattle.sedona_cli.specs.Nodes.{IsRunFrom, LeavesStore, Opened}
-use Rattle.sedona_cli.specs.Steps.{AfterKits, AfterRecord, AfterSecret, AfterUsers}
+use Rattle.sedona_cli.specs.Steps.{AfterCode, AfterRecord, AfterSecret, AfterUsers}
 
 -- ---- what is read
 
--- The kits are loaded, and then the users, the secret and the record are read.
-abbrev pub InputsRead : NodeAsked → List ℕ → List Ask → Result Inputs Refusal → Type 0
+-- The code is loaded, and then the users, the secret and the record are read.
+abbrev pub InputsRead : NodeAsked → List ℕ → List Ask → Result GivenRecord Refusal → Type 0
 InputsRead asked file =
-    AndThen (AfterKits asked.kits) (λ (program : TheProgram).
+    AndThen (AfterCode asked.code) (λ (code : Code).
     AndThen (AfterUsers asked.users) (λ (users : List User).
     AndThen (AfterSecret asked.secret) (λ (secret : List ℕ).
     AndThen (AfterRecord file) (λ (text : List ℕ).
-    Decides (λ end. end ≡ Ok (record { program = program; users = users; secret = secret; text = text }))))))
+    Decides (λ end. end ≡ Ok (record { code = code; users = users; secret = secret; text = text }))))))
 
--- The store that the words name is opened, over the program that was loaded.
-abbrev pub OpenedBy : NodeAsked → Inputs → List Ask → Result Application Refusal → Type 0
-OpenedBy asked inputs = Opened asked.store asked.limit inputs.program
+-- The store that the words name is opened, over the code that was loaded.
+abbrev pub OpenedBy : NodeAsked → GivenRecord → List Ask → Result Application Refusal → Type 0
+OpenedBy asked given = Opened asked.store asked.limit given.code
 
 -- ---- what is run
 
 -- A run of the node that begins with this application at moment 0.
-abbrev pub IsRunOf : NodeAsked → Inputs → Application → Ran → Type 0
-IsRunOf asked inputs = IsRunFrom (pos 0) asked.turns (meaning_of inputs.program) inputs.users inputs.secret
+abbrev pub IsRunOf : NodeAsked → GivenRecord → Application → Ran → Type 0
+IsRunOf asked given = IsRunFrom (pos 0) asked.turns given.code given.users given.secret
 
 -- It is run over all entries of the record. What is printed is each datagram that was sent, the application that was
 -- reached, and what the run came to.
-pub record Replays (asked : NodeAsked) (inputs : Inputs) (a : Application) (asks : List Ask)
+pub record Replays (asked : NodeAsked) (given : GivenRecord) (a : Application) (asks : List Ask)
     (end : Result (List ℕ) Refusal) : Type 0 where
   pub ran : Ran
-  pub is_run : IsRunOf asked inputs a ran
+  pub is_run : IsRunOf asked given a ran
   pub asks_are : asks ≡ Runs ran ∷ []
-  pub entries : IsRecord inputs.text ran.entries
+  pub entries : IsRecord given.text ran.entries
   pub sent : List Datagram
   pub sends : AreTexts (reached ran).sent sent
   pub end_is : end ≡ Ok (replay_text ran.code ran.setup ran.start ran.events sent)
@@ -84,42 +83,42 @@ abbrev pub FailsAt : Ran → List Entry → List ℕ → List ℕ → Type 0
 FailsAt ran left put last = FailsInEvent ran put last ⊎ FailsAtEnd ran left put last
 
 -- It is run until the sink fails, over the first entries or over all of them.
-pub record Stops (asked : NodeAsked) (inputs : Inputs) (a : Application) (asks : List Ask) (put last : List ℕ)
+pub record Stops (asked : NodeAsked) (given : GivenRecord) (a : Application) (asks : List Ask) (put last : List ℕ)
     : Type 0 where
   pub ran : Ran
-  pub is_run : IsRunOf asked inputs a ran
+  pub is_run : IsRunOf asked given a ran
   pub asks_are : asks ≡ Runs ran ∷ []
   pub left : List Entry
-  pub entries : IsRecord inputs.text (ran.entries ++ left)
+  pub entries : IsRecord given.text (ran.entries ++ left)
   pub fails : FailsAt ran left put last
 
 -- How a run is answered: all was put, with status 0; or the sink failed, with status 8.
-pub data Plays (asked : NodeAsked) (inputs : Inputs) (a : Application)
+pub data Plays (asked : NodeAsked) (given : GivenRecord) (a : Application)
     (asks : List Ask) (before after : Option (List ℕ))
     (faults_before faults_after : ℕ) (status : ℕ) : Type 0 where
-  all_put : (text : List ℕ) → Replays asked inputs a asks (Ok text) → status ≡ 0 → after ≡ with_text before text
-      → faults_after ≡ faults_before → Plays asked inputs a asks before after faults_before faults_after status
-  not_put : (put last : List ℕ) → Stops asked inputs a asks put last → status ≡ 8 → Rose faults_before faults_after
+  all_put : (text : List ℕ) → Replays asked given a asks (Ok text) → status ≡ 0 → after ≡ with_text before text
+      → faults_after ≡ faults_before → Plays asked given a asks before after faults_before faults_after status
+  not_put : (put last : List ℕ) → Stops asked given a asks put last → status ≡ 8 → Rose faults_before faults_after
       → PutsFront (with_text before put) after last
-      → Plays asked inputs a asks before after faults_before faults_after status
+      → Plays asked given a asks before after faults_before faults_after status
 
 -- ---- what it comes to
 
 abbrev pub ReplayComes : NodeAsked → List ℕ → List Ask → Result (List ℕ) Refusal → Type 0
 ReplayComes asked file =
-    AndThen (InputsRead asked file) (λ (inputs : Inputs).
-    AndThen (OpenedBy asked inputs) (Replays asked inputs))
+    AndThen (InputsRead asked file) (λ (given : GivenRecord).
+    AndThen (OpenedBy asked given) (Replays asked given))
 
 pub record ReplayStops (asked : NodeAsked) (file : List ℕ) (asks : List Ask) (put last : List ℕ) : Type 0 where
-  pub inputs : Inputs
+  pub given : GivenRecord
   pub application : Application
   pub of_inputs : List Ask
   pub of_store : List Ask
   pub of_run : List Ask
   pub asks_are : asks ≡ of_inputs ++ of_store ++ of_run
-  pub reads : InputsRead asked file of_inputs (Ok inputs)
-  pub opens : OpenedBy asked inputs of_store (Ok application)
-  pub stops : Stops asked inputs application of_run put last
+  pub reads : InputsRead asked file of_inputs (Ok given)
+  pub opens : OpenedBy asked given of_store (Ok application)
+  pub stops : Stops asked given application of_run put last
 
 -- ---- what it leaves
 
@@ -134,13 +133,13 @@ pub data Shows (ran : Ran) (left : List Entry) (before after : Option (List ℕ)
 
 -- What a replay shows and leaves: it ran a node over the entries of the record that are not left, of which what was put
 -- tells. Of the disk this run was asked, and nothing but the opening of its store before it.
-pub record Replayed {T : Type 0} (D : DiskGhosts T) (asked : NodeAsked) (inputs : Inputs)
+pub record Replayed {T : Type 0} (D : DiskGhosts T) (asked : NodeAsked) (given : GivenRecord)
     (before after : Option (List ℕ)) (status : ℕ) (disk disk_now : T) : Type 0 where
   pub application : Application
   pub ran : Ran
-  pub is_run : IsRunOf asked inputs application ran
+  pub is_run : IsRunOf asked given application ran
   pub left : List Entry
-  pub entries : IsRecord inputs.text (ran.entries ++ left)
+  pub entries : IsRecord given.text (ran.entries ++ left)
   pub shows : Shows ran left before after status
   pub store : LeavesStore asked.limit application ran (D.meaning disk) (D.meaning disk_now)
   pub payload : List ℕ
@@ -150,11 +149,11 @@ pub record Replayed {T : Type 0} (D : DiskGhosts T) (asked : NodeAsked) (inputs 
 abbrev pub ReplayedBy : {S T : Type 0} → FileGhosts S → DiskGhosts T → NodeAsked → List ℕ → S → S → T → T
     → Option (List ℕ) → Option (List ℕ) → ℕ → Type 0
 ReplayedBy F D asked file files files_now disk disk_now before after status =
-    HasReads F files files_now (λ reads. (inputs : Inputs) × InputsRead asked file (of_reads reads) (Ok inputs)
-    × Replayed D asked inputs before after status disk disk_now)
+    HasReads F files files_now (λ reads. (given : GivenRecord) × InputsRead asked file (of_reads reads) (Ok given)
+    × Replayed D asked given before after status disk disk_now)
 
--- The store's file opens to no application over the program of the kits.
+-- The store's file opens to no application over the code of the kits.
 abbrev pub HoldsNone : {S : Type 0} → FileGhosts S → NodeAsked → List ℕ → S → S → Meaning → Type 0
 HoldsNone F asked file files files_now disk =
-    HasReads F files files_now (λ reads. (inputs : Inputs) × InputsRead asked file (of_reads reads) (Ok inputs)
-    × ((a : Application) → OpensTo (meaning_of inputs.program) asked.limit disk.content a → ⊥))
+    HasReads F files files_now (λ reads. (given : GivenRecord) × InputsRead asked file (of_reads reads) (Ok given)
+    × ((a : Application) → OpensTo given.code asked.limit disk.content a → ⊥))

@@ -1,8 +1,7 @@
--- What `run` comes to, and what it leaves.
+-- What `run` and `boot` come to, and what they leave.
 use Rattle.std.specs.Prelude.{◌≡◌, ◌⊎◌, ℕ, ℤ, Bool, true, false, List, [], ◌∷◌, Option, Some, None, IfSome, Result}
 use Rattle.std.specs.Prelude.{Ok, Err}
 use Rattle.std.specs.Option.{option_map}
-use Rattle.sed_typed.specs.declared.program.Program.{Program as TheProgram}
 use Rattle.sed_outside.specs.Cause.{Rose}
 use Rattle.sed_outside.specs.Sink.{PutsFront, with_text}
 use Rattle.sed_outside.specs.declared.files.Files.{Ghosts as FileGhosts}
@@ -16,7 +15,6 @@ use Rattle.sed_outside.specs.declared.link.Link.{Ghosts as LinkGhosts}
 use Rattle.disk_model.specs.Disk.{Meaning}
 use Rattle.disk_model.specs.declared.disk.Disk.{Ghosts as DiskGhosts}
 use Rattle.sed_engine.specs.Code.{Meaning as Code}
-use Rattle.sed_engine.specs.Program.{meaning_of}
 use Rattle.comp_tree.specs.Application.{Application}
 use Rattle.app_file.specs.Opens.{Opens as OpensTo}
 use Rattle.dasp_session.specs.declared.user.User.{User}
@@ -25,7 +23,7 @@ use Rattle.sed_node.specs.Living.{AreRounds, AreTextsByEvent, IsLeft, Sleeps, of
 use Rattle.sed_node.specs.Replaying.{end_text}
 use Rattle.sed_outside.specs.Steps.{AndThen, Decides}
 use Rattle.sed_outside.specs.Reads.{HasReads}
-use Rattle.sedona_cli.specs.declared.inputs.NodeInputs.{NodeInputs}
+use Rattle.sedona_cli.specs.Given.{Given}
 use Rattle.sedona_cli.specs.declared.refusal.Refusal.{Refusal}
 use Rattle.sedona_cli.specs.declared.refusal.Refusal.TheVariants.{LinkFault}
 use Rattle.sedona_words.specs.Command.{NodeAsked, RunAsked}
@@ -34,21 +32,21 @@ use Rattle.sedona_cli.specs.Nodes.{IsRunFrom, LeavesStore, Opened}
 use Rattle.sedona_cli.specs.Outside.{Ask, Attaches, Binds, Found, Opens, Ran, Runs, AreAsked, IsRan, of_reads, reached}
 use Rattle.sedona_cli.specs.Outside.{sent_in}
 use Rattle.sedona_cli.specs.Puts.{IsOneOf, Puts}
-use Rattle.sedona_cli.specs.Steps.{AfterKits, AfterSecret, AfterUsers}
+use Rattle.sedona_cli.specs.Steps.{AfterCode, AfterSecret, AfterUsers}
 
 -- ---- what it asks, step by step
 
--- The kits are loaded, and then the users and the secret are read.
-abbrev pub RunInputsRead : NodeAsked → List Ask → Result NodeInputs Refusal → Type 0
+-- The kits are loaded, or the image is read, and then the users and the secret are read.
+abbrev pub RunInputsRead : NodeAsked → List Ask → Result Given Refusal → Type 0
 RunInputsRead asked =
-    AndThen (AfterKits asked.kits) (λ (program : TheProgram).
+    AndThen (AfterCode asked.code) (λ (code : Code).
     AndThen (AfterUsers asked.users) (λ (users : List User).
     AndThen (AfterSecret asked.secret) (λ (secret : List ℕ).
-    Decides (λ end. end ≡ Ok (record { program = program; users = users; secret = secret })))))
+    Decides (λ end. end ≡ Ok (record { code = code; users = users; secret = secret })))))
 
--- The store that the words name is opened, over the program that was loaded.
-abbrev pub RunOpened : NodeAsked → NodeInputs → List Ask → Result Application Refusal → Type 0
-RunOpened asked inputs = Opened asked.store asked.limit inputs.program
+-- The store that the words name is opened, over the code of the kits or of the image.
+abbrev pub RunOpened : NodeAsked → Given → List Ask → Result Application Refusal → Type 0
+RunOpened asked given = Opened asked.store asked.limit given.code
 
 -- A port is taken, or the link fails.
 abbrev pub LinkBound : ℕ → List Ask → Result (Unit {0}) Refusal → Type 0
@@ -56,28 +54,27 @@ LinkBound port asks (Ok done) = asks ≡ Binds port true ∷ []
 LinkBound port asks (Err refusal) = (asks ≡ Binds port false ∷ []) × (refusal ≡ LinkFault)
 
 -- A run of the node that begins at a moment with this application.
-abbrev pub IsLiveRunOf : NodeAsked → NodeInputs → ℤ → Application → Ran → Type 0
-IsLiveRunOf asked inputs moment =
-    IsRunFrom moment asked.turns (meaning_of inputs.program) inputs.users inputs.secret
+abbrev pub IsLiveRunOf : NodeAsked → Given → ℤ → Application → Ran → Type 0
+IsLiveRunOf asked given moment = IsRunFrom moment asked.turns given.code given.users given.secret
 
 -- The node is run, and what stands at the end of its run is printed: the application that was reached, and what the run
 -- came to.
-pub record Lives (asked : RunAsked) (inputs : NodeInputs) (a : Application) (asks : List Ask)
+pub record Lives (asked : RunAsked) (given : Given) (a : Application) (asks : List Ask)
     (end : Result (List ℕ) Refusal) : Type 0 where
   pub moment : ℤ
   pub ran : Ran
-  pub is_run : IsLiveRunOf asked.node inputs moment a ran
+  pub is_run : IsLiveRunOf asked.node given moment a ran
   pub asks_are : asks ≡ Runs ran ∷ []
   pub end_is : end ≡ Ok (end_text ran.code (reached ran))
 
 -- It is run once the port is taken.
-abbrev pub BindsAndLives : RunAsked → NodeInputs → Application → List Ask → Result (List ℕ) Refusal → Type 0
-BindsAndLives asked inputs a = AndThen (LinkBound asked.port) (λ (bound : Unit {0}). Lives asked inputs a)
+abbrev pub BindsAndLives : RunAsked → Given → Application → List Ask → Result (List ℕ) Refusal → Type 0
+BindsAndLives asked given a = AndThen (LinkBound asked.port) (λ (bound : Unit {0}). Lives asked given a)
 
 abbrev pub RunComes : RunAsked → List Ask → Result (List ℕ) Refusal → Type 0
 RunComes asked =
-    AndThen (RunInputsRead asked.node) (λ (inputs : NodeInputs).
-    AndThen (RunOpened asked.node inputs) (BindsAndLives asked inputs))
+    AndThen (RunInputsRead asked.node) (λ (given : Given).
+    AndThen (RunOpened asked.node given) (BindsAndLives asked given))
 
 -- ---- how it is answered
 
@@ -91,17 +88,17 @@ pub data EndsPut (text : List ℕ) (before after : Option (List ℕ)) (faults_be
 
 -- With its application: it was run; the link failed as its port was asked for; or memory was wanted behind that, and
 -- nothing was run.
-pub data AnswersLive (asked : RunAsked) (inputs : NodeInputs) (a : Application) (asks : List Ask)
+pub data AnswersLive (asked : RunAsked) (given : Given) (a : Application) (asks : List Ask)
     (before after : Option (List ℕ)) (faults_before faults_after status : ℕ) : Type 0 where
-  was_run : (text : List ℕ) → BindsAndLives asked inputs a asks (Ok text)
+  was_run : (text : List ℕ) → BindsAndLives asked given a asks (Ok text)
       → EndsPut text before after faults_before faults_after status
-      → AnswersLive asked inputs a asks before after faults_before faults_after status
-  was_unbound : BindsAndLives asked inputs a asks (Err LinkFault) → status ≡ 10
+      → AnswersLive asked given a asks before after faults_before faults_after status
+  was_unbound : BindsAndLives asked given a asks (Err LinkFault) → status ≡ 10
       → Puts before after faults_before faults_after (line_of LinkFault)
-      → AnswersLive asked inputs a asks before after faults_before faults_after status
+      → AnswersLive asked given a asks before after faults_before faults_after status
   was_unready : asks ≡ Binds asked.port true ∷ [] → status ≡ 7
       → Puts before after faults_before faults_after memory_line
-      → AnswersLive asked inputs a asks before after faults_before faults_after status
+      → AnswersLive asked given a asks before after faults_before faults_after status
 
 -- ---- what is asked of the link and the clock
 
@@ -126,7 +123,7 @@ pub record KeepsSilent {U V : Type 0} (L : LinkGhosts U) (C : ClockGhosts V) (li
 
 -- The statuses of the refusals before the link, and those behind which its port was asked for.
 abbrev pub before_link : List ℕ
-before_link = 2 ∷ 3 ∷ 4 ∷ 5 ∷ 9 ∷ 11 ∷ 12 ∷ []
+before_link = 2 ∷ 3 ∷ 4 ∷ 5 ∷ 6 ∷ 9 ∷ 11 ∷ 12 ∷ []
 
 abbrev pub at_link : List ℕ
 at_link = 0 ∷ 8 ∷ 10 ∷ []
@@ -228,12 +225,12 @@ pub record RunsOn {T U V : Type 0} (D : DiskGhosts T) (L : LinkGhosts U) (C : Cl
 -- So it runs on the application that its store opens to. Of the disk this run was asked, and nothing but the opening of
 -- its store before it.
 pub record RunsKept {T U V : Type 0} (D : DiskGhosts T) (L : LinkGhosts U) (C : ClockGhosts V) (asked : RunAsked)
-    (inputs : NodeInputs) (before after : Option (List ℕ)) (status : ℕ) (link link_now : U) (clock clock_now : V)
+    (given : Given) (before after : Option (List ℕ)) (status : ℕ) (link link_now : U) (clock clock_now : V)
     (disk disk_now : T) : Type 0 where
   pub application : Application
   pub ran : Ran
-  pub live : RunsLive L C asked (meaning_of inputs.program) inputs.users inputs.secret application ran before after
-      status link link_now clock clock_now
+  pub live : RunsLive L C asked given.code given.users given.secret application ran before after status link link_now
+      clock clock_now
   pub store : LeavesStore asked.node.limit application ran (D.meaning disk) (D.meaning disk_now)
   pub payload : List ℕ
   pub asks_are : AreAsked D (Attaches asked.node.store true ∷ Opens (Found payload) ∷ Runs ran ∷ []) disk disk_now
@@ -242,12 +239,12 @@ pub record RunsKept {T U V : Type 0} (D : DiskGhosts T) (L : LinkGhosts U) (C : 
 abbrev pub RanBy : {S T U V : Type 0} → FileGhosts S → DiskGhosts T → LinkGhosts U → ClockGhosts V → RunAsked → S → S
     → U → U → V → V → T → T → Option (List ℕ) → Option (List ℕ) → ℕ → Type 0
 RanBy F D L C asked files files_now link link_now clock clock_now disk disk_now before after status =
-    HasReads F files files_now (λ reads. (inputs : NodeInputs)
-    × RunInputsRead asked.node (of_reads reads) (Ok inputs)
-    × RunsKept D L C asked inputs before after status link link_now clock clock_now disk disk_now)
+    HasReads F files files_now (λ reads. (given : Given)
+    × RunInputsRead asked.node (of_reads reads) (Ok given)
+    × RunsKept D L C asked given before after status link link_now clock clock_now disk disk_now)
 
--- The store's file opens to no application over the program of the kits.
+-- The store's file opens to no application over the code of the kits or of the image.
 abbrev pub RunsNone : {S : Type 0} → FileGhosts S → NodeAsked → S → S → Meaning → Type 0
 RunsNone F asked files files_now disk =
-    HasReads F files files_now (λ reads. (inputs : NodeInputs) × RunInputsRead asked (of_reads reads) (Ok inputs)
-    × ((a : Application) → OpensTo (meaning_of inputs.program) asked.limit disk.content a → ⊥))
+    HasReads F files files_now (λ reads. (given : Given) × RunInputsRead asked (of_reads reads) (Ok given)
+    × ((a : Application) → OpensTo given.code asked.limit disk.content a → ⊥))

@@ -5,7 +5,7 @@ use Rattle.sedona_cli.specs.declared.refusal.Refusal.TheVariants as refusal
 use Rattle.sedona_cli.specs.declared.status.Status.{Status}
 use Rattle.sedona_cli.specs.declared.status.Status.TheVariants.{Done, Usage, Refused, FileFault, DeviceFault}
 use Rattle.sedona_cli.specs.declared.status.Status.TheVariants.{StoreRefused, NoMemory, SinkFault, RecordRefused}
-use Rattle.sedona_cli.specs.declared.status.Status.TheVariants.{LinkFault, InputRefused, SlotTooSmall}
+use Rattle.sedona_cli.specs.declared.status.Status.TheVariants.{ImageRefused, LinkFault, InputRefused, SlotTooSmall}
 
 abbrev pub number_of : Status → ℕ
 number_of Done = 0
@@ -14,6 +14,7 @@ number_of Refused = 2
 number_of FileFault = 3
 number_of DeviceFault = 4
 number_of StoreRefused = 5
+number_of ImageRefused = 6
 number_of NoMemory = 7
 number_of SinkFault = 8
 number_of RecordRefused = 9
@@ -27,6 +28,8 @@ status_of (refusal.FileFault file) = FileFault
 status_of (refusal.Refused file why) = Refused
 status_of (refusal.Rule file at rule) = Refused
 status_of (refusal.MethodTooLong n) = Refused
+status_of (refusal.ImageRefused at) = ImageRefused
+status_of (refusal.ImageBroken method at rule) = ImageRefused
 status_of (refusal.SlotTooSmall needs has) = SlotTooSmall
 status_of refusal.DeviceFault = DeviceFault
 status_of refusal.StoreExists = StoreRefused

@@ -1,9 +1,13 @@
--- The steps that commands share: the loading and generating of programs, and printing.
+-- The steps that commands share: the loading and generating of programs, the code of a node, and printing.
 use Rattle.std.specs.Prelude.{◌≡◌, ℕ, All, List, [], ◌∷◌, ◌++◌, Result, Ok, Err, codes}
 use Rattle.sed_typed.specs.declared.program.Program.{Program as TheProgram}
 use Rattle.sed_outside.specs.Steps.{Read, AndThen, Decides}
 use Rattle.dasp_session.specs.declared.user.User.{User}
-use Rattle.input_files.specs.Inputs.{RecordRead, SecretRead, UsersRead}
+use Rattle.input_files.specs.Inputs.{CodeRead, RecordRead, SecretRead, UsersRead}
+use Rattle.sed_engine.specs.Code.{Meaning}
+use Rattle.sed_engine.specs.Program as source
+use Rattle.scode_image.specs.declared.image.Image.{Image}
+use Rattle.scode_code.specs.Image as made
 use Rattle.scode_gen.specs.Generated.{IsFirstTooLong, IsShort}
 use Rattle.sed_check.specs.declared.refusal.KitsRefusal.{KitsRefusal}
 use Rattle.sed_check.specs.Loading.{KitsLoaded, TextLoaded, Told}
@@ -12,6 +16,7 @@ use Rattle.sedona_cli.specs.Lines.{line_end}
 use Rattle.sedona_cli.specs.declared.refusal.Refusal.TheVariants.{FileFault, MethodTooLong}
 use Rattle.sedona_cli.specs.Outside.{Ask, Writes, Written, Unwritten, of_reads}
 use Rattle.sedona_cli.specs.Refusals.{of_inputs, of_kits}
+use Rattle.sedona_words.specs.Command.{CodeAsked, OfImage, OfKits}
 
 -- A step that asks for files alone, as one of a command: its reads are what is asked.
 abbrev pub OfReads : {X : Type 0} → (List Read → Result X Refusal → Type 0) → List Ask → Result X Refusal → Type 0
@@ -61,6 +66,23 @@ AfterSecret file = OfFiles of_inputs (SecretRead file)
 -- the bytes of a file, which are a record
 abbrev pub AfterRecord : List ℕ → List Ask → Result (List ℕ) Refusal → Type 0
 AfterRecord file = OfFiles of_inputs (RecordRead file)
+
+-- the image in a file, which breaks no rule
+abbrev pub AfterImage : List ℕ → List Ask → Result Image Refusal → Type 0
+AfterImage file = OfFiles of_inputs (CodeRead file)
+
+-- ---- the code of a node
+
+-- A step, and then what its value means. Nothing more is asked.
+abbrev pub Meant : {X : Type 0} → (X → Meaning) → (List Ask → Result X Refusal → Type 0)
+    → List Ask → Result Meaning Refusal → Type 0
+Meant {X} meaning step = AndThen step (λ (x : X). Decides (λ end. end ≡ Ok (meaning x)))
+
+-- What the code of a node means: of kits, what their program does, once it is loaded and generated; of an image, what
+-- the image in its file does.
+abbrev pub AfterCode : CodeAsked → List Ask → Result Meaning Refusal → Type 0
+AfterCode (OfKits names) = Meant source.meaning_of (AfterKits names)
+AfterCode (OfImage file) = Meant made.meaning_of (AfterImage file)
 
 -- ---- what is printed and written
 

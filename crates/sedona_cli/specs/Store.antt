@@ -1,7 +1,6 @@
 -- What is done with a store, step by step.
 use Rattle.std.specs.Prelude.{◌≡◌, ◌⊎◌, ◌≤◌, ◌<◌, ℕ, true, false, List, [], ◌∷◌, length, MatchBool, Result, Ok, Err}
-use Rattle.sed_typed.specs.declared.program.Program.{Program as TheProgram}
-use Rattle.sed_engine.specs.Program.{meaning_of}
+use Rattle.sed_engine.specs.Code.{Meaning}
 use Rattle.sed_engine.specs.Whole.{HasTables}
 use Rattle.comp_tree.specs.Application.{Application}
 use Rattle.app_file.specs.Reading.{CanBeTold, IsReadAs, Reading, no_file, wrong_kits, over_limit, file}
@@ -58,15 +57,14 @@ application_in (wrong_kits place in_file in_kits) = Err (WrongKits place in_file
 application_in (over_limit which) = Err (OverLimit which)
 application_in (file application) = Ok application
 
--- A payload is read as the file of an application over a program, with at most so many bytes of data. The program is
--- one of whose classes a file can tell, as each that is loaded.
-pub record IsRead (program : TheProgram) (limit : ℕ) (payload : List ℕ)
-    (end : Result Application Refusal) : Type 0 where
-  pub tables : HasTables (meaning_of program)
-  pub told : CanBeTold program.schema
+-- A payload is read as the file of an application over a code, with at most so many bytes of data. The code is one of
+-- whose classes a file can tell, as that of each program that is loaded and of each image that breaks no rule.
+pub record IsRead (code : Meaning) (limit : ℕ) (payload : List ℕ) (end : Result Application Refusal) : Type 0 where
+  pub tables : HasTables code
+  pub told : CanBeTold code.schema
   pub reading : Reading
-  pub is_read : IsReadAs (meaning_of program) limit payload reading
+  pub is_read : IsReadAs code limit payload reading
   pub end_is : end ≡ application_in reading
 
-abbrev pub AppRead : TheProgram → ℕ → List ℕ → List Ask → Result Application Refusal → Type 0
-AppRead program limit payload = Decides (IsRead program limit payload)
+abbrev pub AppRead : Meaning → ℕ → List ℕ → List Ask → Result Application Refusal → Type 0
+AppRead code limit payload = Decides (IsRead code limit payload)

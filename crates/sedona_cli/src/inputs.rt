@@ -3,39 +3,41 @@ ghost use Rattle.std.specs.Prelude.{◌≤◌, IfOk, IsTrue, length};
 ghost use Rattle.sed_outside.specs.Reads.{HasReads};
 ghost use Rattle.sed_outside.specs.Steps.{UnlessFree};
 ghost use Rattle.input_files.specs.Inputs.{HasEntries};
-ghost use Rattle.sedona_words.specs.Asked.{asked_node, IsMeantNode};
+ghost use Rattle.scode_code.specs.Image.{meaning_of};
+ghost use Rattle.sedona_words.specs.Asked.{asked_code, asked_node, IsMeantCode, IsMeantNode};
 ghost use Rattle.sedona_words.specs.Command as words_of;
+ghost use Rattle.sedona_cli.specs.Given.{ended_as, given_of, given_record};
 ghost use Rattle.sedona_cli.specs.Outside.{of_reads};
 ghost use Rattle.sedona_cli.specs.Refusals as meaning;
 ghost use Rattle.sedona_cli.specs.Replay.{InputsRead};
 ghost use Rattle.sedona_cli.specs.Run.{RunInputsRead};
-ghost use Rattle.sedona_cli.specs.Steps.{AfterKits, AfterRecord, AfterSecret, AfterUsers};
+ghost use Rattle.sedona_cli.specs.Steps.{AfterCode, AfterImage, AfterKits, AfterRecord, AfterSecret, AfterUsers};
 
 use crate::loading::kits_program;
 use crate::refusal::{Refusal, of_inputs};
 use dasp_session::Users;
-use input_files::{read_record, read_secret, read_users};
+use input_files::{read_code, read_record, read_secret, read_users};
 use scode_compile::Compiled;
+use scode_verify::Verified;
 use sed_outside::Files;
 use sed_value::Items;
-use sedona_words::{NodeWords, names_in};
+use sedona_words::{CodeWords, NodeWords, names_in};
 use std::alloc::Global;
 
-/// What a node is run from beside its store: the program of its kits with its image, its users, its secret, and the
-/// bytes of a record.
+/// What a node is run from beside its store: the verified image of its code, its users, its secret, and the bytes of a
+/// record.
 #[derive(Drop)]
 pub struct Inputs {
-    pub program: Compiled,
+    pub code: Verified,
     pub users: Users,
     pub secret: [u8; 20],
     pub text: Items<u8>,
 }
 
-/// What a node is run from beside its store and its link: the program of its kits with its image, its users, and its
-/// secret.
+/// What a node is run from beside its store and its link: the verified image of its code, its users, and its secret.
 #[derive(Drop)]
 pub struct NodeInputs {
-    pub program: Compiled,
+    pub code: Verified,
     pub users: Users,
     pub secret: [u8; 20],
 }
@@ -51,6 +53,45 @@ pub fn node_program<F: Files>(alloc: Global, kits: &str, files: &mut F) -> Resul
         Err(_) => return Err(Refusal::Memory),
     };
     kits_program(alloc, &names, files)
+}
+
+// The image in a file, which breaks no rule.
+fn node_image<F: Files>(alloc: Global, name: &str, files: &mut F) -> Result<Verified, Refusal>
+    ensures { HasReads F.Files files.old files.new
+        (λ reads. UnlessFree meaning.is_want (AfterImage name.now (of_reads reads)) result) }
+{
+    match read_code(alloc, name, files) {
+        Ok(code) => Ok(code),
+        Err(refusal) => Err(of_inputs(refusal)),
+    }
+}
+
+// The image that is made of kits.
+fn kits_code<F: Files>(alloc: Global, kits: &str, files: &mut F) -> Result<Verified, Refusal>
+    requires { IsTrue (words_of.are_manifests (words_of.names_within kits.now)) }
+    ensures { HasReads F.Files files.old files.new (λ reads. UnlessFree meaning.is_want
+        (AfterCode (words_of.OfKits (words_of.names_within kits.now)) (of_reads reads)) (ended_as meaning_of result)) }
+{
+    match node_program(alloc, kits, files) {
+        Ok(program) => Ok(program.into_verified()),
+        Err(refusal) => Err(refusal),
+    }
+}
+
+// The code of a node: the image that is made of its kits, or the one in its file.
+fn node_code<F: Files>(
+    alloc: Global,
+    code: CodeWords<'_>,
+    files: &mut F,
+) -> Result<Verified, Refusal>
+    requires { IsMeantCode code }
+    ensures { HasReads F.Files files.old files.new (λ reads. UnlessFree meaning.is_want
+        (AfterCode (asked_code code.entry) (of_reads reads)) (ended_as meaning_of result)) }
+{
+    match code {
+        CodeWords::Kits(kits) => kits_code(alloc, kits, files),
+        CodeWords::Image(name) => node_image(alloc, name, files),
+    }
 }
 
 /// The users of a users file.
@@ -97,11 +138,11 @@ pub fn read_inputs<F: Files>(
 ) -> Result<Inputs, Refusal>
     requires { IsMeantNode words }
     ensures read { HasReads F.Files files.old files.new (λ reads. UnlessFree meaning.is_want
-        (InputsRead (asked_node words.entry) file.now (of_reads reads)) result) }
+        (InputsRead (asked_node words.entry) file.now (of_reads reads)) (ended_as given_record result)) }
     ensures entries { IfOk result (λ inputs. HasEntries inputs.text) }
 {
-    let program = match node_program(alloc, words.kits, files) {
-        Ok(program) => program,
+    let code = match node_code(alloc, words.code, files) {
+        Ok(code) => code,
         Err(refusal) => return Err(refusal),
     };
     let users = match node_users(alloc, words.users, files) {
@@ -114,7 +155,7 @@ pub fn read_inputs<F: Files>(
     };
     match record_text(alloc, file, files) {
         Ok(text) => Ok(Inputs {
-            program,
+            code,
             users,
             secret,
             text,
@@ -132,10 +173,10 @@ pub fn node_inputs<F: Files>(
 ) -> Result<NodeInputs, Refusal>
     requires { IsMeantNode words }
     ensures { HasReads F.Files files.old files.new (λ reads. UnlessFree meaning.is_want
-        (RunInputsRead (asked_node words.entry) (of_reads reads)) result) }
+        (RunInputsRead (asked_node words.entry) (of_reads reads)) (ended_as given_of result)) }
 {
-    let program = match node_program(alloc, words.kits, files) {
-        Ok(program) => program,
+    let code = match node_code(alloc, words.code, files) {
+        Ok(code) => code,
         Err(refusal) => return Err(refusal),
     };
     let users = match node_users(alloc, words.users, files) {
@@ -144,7 +185,7 @@ pub fn node_inputs<F: Files>(
     };
     match node_secret(alloc, words.secret, files) {
         Ok(secret) => Ok(NodeInputs {
-            program,
+            code,
             users,
             secret,
         }),

@@ -46,6 +46,18 @@ fn method_line(alloc: Global, method: usize) -> Result<String, AllocError>
     format!(in alloc; "method too long {method}\n")
 }
 
+fn image_line(alloc: Global, at: usize) -> Result<String, AllocError>
+    ensures { IfOk result (λ line. string_bytes line ≡ lines.line_of (Refusal.ImageRefused at)) }
+{
+    format!(in alloc; "image refused {at}\n")
+}
+
+fn broken_line(alloc: Global, method: u16, at: u16, rule: u8) -> Result<String, AllocError>
+    ensures { IfOk result (λ line. string_bytes line ≡ lines.line_of (Refusal.ImageBroken method at rule)) }
+{
+    format!(in alloc; "image refused {method} {at} {rule}\n")
+}
+
 fn slot_line(alloc: Global, needs: usize, has: u32) -> Result<String, AllocError>
     ensures { IfOk result (λ line. string_bytes line ≡ lines.line_of (Refusal.SlotTooSmall needs has)) }
 {
@@ -156,6 +168,8 @@ pub fn line_of(alloc: Global, refusal: &Refusal) -> Result<Line, AllocError>
             refused_line(alloc, file.as_str(), words.as_str())?
         }
         Refusal::MethodTooLong { method } => method_line(alloc, *method)?,
+        Refusal::ImageRefused { at } => image_line(alloc, *at)?,
+        Refusal::ImageBroken { method, at, rule } => broken_line(alloc, *method, *at, *rule)?,
         Refusal::SlotTooSmall { needs, has } => slot_line(alloc, *needs, *has)?,
         Refusal::DeviceFault => return Ok(Line::Fixed("device fault\n")),
         Refusal::StoreExists => return Ok(Line::Fixed("store refused: exists\n")),

@@ -1,4 +1,4 @@
-//! `run`: the node that a store opens to, on a link and a clock.
+//! `run` and `boot`: the node that a store opens to, on a link and a clock.
 ghost use Rattle.std.specs.Prelude.{◌≡◌, ◌++◌, ℕ, ℤ, IsTrue, List, Ok};
 ghost use Rattle.app_save.specs.Saving.{AllStores};
 ghost use Rattle.comp_tree.specs.Application.{Application};
@@ -8,12 +8,11 @@ ghost use Rattle.sed_outside.specs.Steps.{Read};
 ghost use Rattle.link_prop.specs.Linked.{application_of};
 ghost use Rattle.node_events.specs.Node.{Node as State};
 ghost use Rattle.sed_engine.specs.Code.{Meaning as Code};
-ghost use Rattle.sed_engine.specs.Program.{meaning_of};
 ghost use Rattle.sed_node.specs.Living.{IsLeft, Sleeps};
 ghost use Rattle.sed_node.specs.Standing.{StandsFor, setup_of};
-ghost use Rattle.sedona_cli.specs.declared.inputs.NodeInputs.{NodeInputs as TheInputs};
 ghost use Rattle.sedona_words.specs.Asked.{asked_node, asked_run, IsMeantNode, IsMeantRun};
 ghost use Rattle.sedona_words.specs.Command as words_of;
+ghost use Rattle.sedona_cli.specs.Given.{Given, given_of};
 ghost use Rattle.sedona_cli.specs.Nodes.{IsReady};
 ghost use Rattle.sedona_cli.specs.Outside.{AsksDisk, HasAsks, of_reads};
 ghost use Rattle.sedona_cli.specs.Program.{IsAnswer};
@@ -91,10 +90,9 @@ fn run_app<L: Link, C: Clock, D: Disk, O: Sink>(
     requires whole { Whole (⟦<Machine as Engine>⟧.meaning held.1.tree.engine)
         (application_of ⟦<Machine as Engine>⟧ held.1) }
     requires stores { IsTrue (D.meaning disk.old).tells → AllStores held.0 (D.meaning disk.old) }
-    ensures answered { (inputs : TheInputs)
-        → ⟦<Machine as Engine>⟧.meaning held.1.tree.engine ≡ meaning_of inputs.program
-        → users ≡ inputs.users → secret ≡ inputs.secret
-        → AsksDisk D.Disk disk.old disk.new (λ asks. AnswersLive (asked_run words.entry) inputs
+    ensures answered { (given : Given) → ⟦<Machine as Engine>⟧.meaning held.1.tree.engine ≡ given.code
+        → users ≡ given.users → secret ≡ given.secret
+        → AsksDisk D.Disk disk.old disk.new (λ asks. AnswersLive (asked_run words.entry) given
         (application_of ⟦<Machine as Engine>⟧ held.1) asks (O.text out.old) (O.text out.new) (O.faults out.old)
         (O.faults out.new) (number_of result)) }
     ensures live { AsksLive L.Link C.Clock words.entry.port (number_of result) link.old link.new clock.old clock.new
@@ -126,28 +124,28 @@ fn run_from<L: Link, C: Clock, D: Disk, O: Sink>(
 ) -> Status
     requires { IsMeantNode words.node }
     ensures answered { (reads : List Read)
-        → RunInputsRead (asked_node words.entry.node) (of_reads reads) (Ok inputs)
+        → RunInputsRead (asked_node words.entry.node) (of_reads reads) (Ok (given_of inputs))
         → AsksDisk D.Disk disk.old disk.new (λ asks. IsAnswer (words_of.Run (asked_run words.entry))
         (of_reads reads ++ asks) (O.text out.old) (O.text out.new) (O.faults out.old) (O.faults out.new)
         (number_of result)) }
     ensures live { AsksLive L.Link C.Clock words.entry.port (number_of result) link.old link.new clock.old clock.new
-        (RunsKept D.Disk L.Link C.Clock (asked_run words.entry) inputs (O.text out.old) (O.text out.new)
-        (number_of result) link.old link.new clock.old clock.new disk.old disk.new) }
+        (RunsKept D.Disk L.Link C.Clock (asked_run words.entry) (given_of inputs) (O.text out.old)
+        (O.text out.new) (number_of result) link.old link.new clock.old clock.new disk.old disk.new) }
 {
     stores_open_to_one();
     let NodeInputs {
-        program,
+        code,
         users,
         secret,
     } = inputs;
-    match open_app(alloc, words.node, program, disk) {
+    match open_app(alloc, words.node, code, disk) {
         Ok(held) => run_app(alloc, words, held, users, secret, link, clock, disk, out),
         Err(refusal) => refuse(alloc, &refusal, out),
     }
 }
 
-/// Runs the node that a store opens to over a link and a clock, by the words of `run`, and puts the application that is
-/// reached and a summary. The port is asked for once all is read and the store is open; the node begins at the moment
+/// Runs the node that a store opens to over a link and a clock, by the words of `run` or of `boot`, and puts the
+/// application that is reached and a summary. The port is asked for once all is read and the store is open; the node begins at the moment
 /// that it is then.
 pub fn lived<F: Files, L: Link, C: Clock, D: Disk, O: Sink>(
     alloc: Global,

@@ -3,7 +3,7 @@ ghost use Rattle.std.specs.Prelude.{◌≡◌, ◌≤◌, false, Err, IfErr, IfO
 ghost use Rattle.app_save.specs.Saving.{AllStores};
 ghost use Rattle.comp_tree.specs.Whole.{Whole};
 ghost use Rattle.link_prop.specs.Linked.{application_of};
-ghost use Rattle.sed_engine.specs.Program.{meaning_of};
+ghost use Rattle.scode_code.specs.Image.{meaning_of};
 ghost use Rattle.sed_node.specs.Standing.{setup_of};
 ghost use Rattle.sedona_words.specs.Asked.{IsMeantNode};
 ghost use Rattle.sedona_cli.specs.Nodes.{IsReady, Opened};
@@ -19,35 +19,34 @@ use app_save::Store;
 use dasp_session::{Outbox, Users};
 use disk_model::Disk;
 use link_prop::App;
-use scode_compile::Compiled;
 use scode_engine::Machine;
-use sed_engine::{Engine, typed_programs_are_whole};
+use scode_verify::Verified;
+use sed_engine::Engine;
 use sed_node::Node;
 use sed_value::{Items, Memory};
 use sedona_words::NodeWords;
 use std::alloc::Global;
 
-// The application in a payload, over the image of its program.
+// The application in a payload, over the image of a code.
 fn app_of(
     alloc: Global,
-    program: Compiled,
+    code: Verified,
     limit: u32,
     payload: &[u8],
 ) -> Result<App<Machine>, Refusal>
     requires some { 1 ≤ limit }
     requires most { limit ≤ 4194304 }
     ensures read { IfOk result
-        (λ app. IsRead program limit payload.now (Ok (application_of ⟦<Machine as Engine>⟧ app))) }
-    ensures meaning { IfOk result (λ app. ⟦<Machine as Engine>⟧.meaning app.tree.engine ≡ meaning_of program) }
+        (λ app. IsRead (meaning_of code) limit payload.now (Ok (application_of ⟦<Machine as Engine>⟧ app))) }
+    ensures meaning { IfOk result (λ app. ⟦<Machine as Engine>⟧.meaning app.tree.engine ≡ meaning_of code) }
     ensures refused { IfErr result (λ refusal. is_want refusal ≡ false
-        → IsRead program limit payload.now (Err refusal)) }
+        → IsRead (meaning_of code) limit payload.now (Err refusal)) }
 {
-    typed_programs_are_whole();
-    schema_can_be_told(&program.program().schema);
-    let engine = match program.machine(alloc, limit) {
+    let engine = match Machine::new(alloc, code, limit) {
         Ok(engine) => engine,
         Err(Memory) => return Err(Refusal::Memory),
     };
+    schema_can_be_told(engine.schema());
     match read_app(alloc, payload, engine) {
         Ok(app) => Ok(app),
         Err(refusal) => Err(of_app(refusal)),
@@ -57,55 +56,56 @@ fn app_of(
 // The application in the payload of a store that is open, with that store.
 fn app_in(
     alloc: Global,
-    program: Compiled,
+    code: Verified,
     limit: u32,
     found: (Store, Items<u8>),
 ) -> Result<(Store, App<Machine>), Refusal>
     requires some { 1 ≤ limit }
     requires most { limit ≤ 4194304 }
     ensures read { IfOk result
-        (λ held. IsRead program limit found.1 (Ok (application_of ⟦<Machine as Engine>⟧ held.1))) }
+        (λ held. IsRead (meaning_of code) limit found.1 (Ok (application_of ⟦<Machine as Engine>⟧ held.1))) }
     ensures meaning { IfOk result
-        (λ held. ⟦<Machine as Engine>⟧.meaning held.1.tree.engine ≡ meaning_of program) }
+        (λ held. ⟦<Machine as Engine>⟧.meaning held.1.tree.engine ≡ meaning_of code) }
     ensures whole { IfOk result (λ held. Whole (⟦<Machine as Engine>⟧.meaning held.1.tree.engine)
         (application_of ⟦<Machine as Engine>⟧ held.1)) }
     ensures slot { IfOk result (λ held. held.0 ≡ found.0) }
     ensures refused { IfErr result (λ refusal. is_want refusal ≡ false
-        → IsRead program limit found.1 (Err refusal)) }
+        → IsRead (meaning_of code) limit found.1 (Err refusal)) }
 {
     let (store, payload) = found;
-    match app_of(alloc, program, limit, payload.as_slice()) {
+    match app_of(alloc, code, limit, payload.as_slice()) {
         Ok(app) => Ok((store, app)),
         Err(refusal) => Err(refusal),
     }
 }
 
-/// Attaches the store of a node, opens it, and reads its application over a program.
+/// Attaches the store of a node, opens it, and reads its application over the image of its code.
 pub fn open_app<D: Disk>(
     alloc: Global,
     words: NodeWords<'_>,
-    program: Compiled,
+    code: Verified,
     disk: &mut D,
 ) -> Result<(Store, App<Machine>), Refusal>
     requires { IsMeantNode words }
     ensures opened { IfOk result (λ held. AsksDisk D.Disk disk.old disk.new (λ asks.
-        Opened words.entry.store.now words.entry.limit program asks
+        Opened words.entry.store.now words.entry.limit (meaning_of code) asks
         (Ok (application_of ⟦<Machine as Engine>⟧ held.1)))) }
     ensures meaning { IfOk result
-        (λ held. ⟦<Machine as Engine>⟧.meaning held.1.tree.engine ≡ meaning_of program) }
+        (λ held. ⟦<Machine as Engine>⟧.meaning held.1.tree.engine ≡ meaning_of code) }
     ensures whole { IfOk result (λ held. Whole (⟦<Machine as Engine>⟧.meaning held.1.tree.engine)
         (application_of ⟦<Machine as Engine>⟧ held.1)) }
     ensures stores { IsTrue (D.meaning disk.new).tells
         → IfOk result (λ held. AllStores held.0 (D.meaning disk.new)) }
     ensures refused { IfErr result (λ refusal. AsksDisk D.Disk disk.old disk.new (λ asks. OrWants
-        (Some words.entry.store.now) (Opened words.entry.store.now words.entry.limit program) asks (Err refusal))) }
+        (Some words.entry.store.now) (Opened words.entry.store.now words.entry.limit (meaning_of code)) asks
+        (Err refusal))) }
 {
     match attach_store(disk, words.store) {
         Ok(()) => {}
         Err(refusal) => return Err(refusal),
     }
     match open_with_slot(alloc, disk) {
-        Ok(found) => app_in(alloc, program, words.limit, found),
+        Ok(found) => app_in(alloc, code, words.limit, found),
         Err(refusal) => Err(refusal),
     }
 }

@@ -104,10 +104,11 @@ fn command<F: Files, L: Link, C: Clock, D: Disk, O: Sink>(
 /// | 3 | only where a read of a file, or the write of the output file, failed in this call, and there always |
 /// | 4 | only where the disk failed while the store was attached, made or opened |
 /// | 5 | exactly where the store's file is refused: not empty, for `new`; without an application, for the others |
+/// | 6 | exactly where the bytes of an image's file are no image, or a rule of the verifier is broken |
 /// | 7 | where memory was wanted, whatever else holds |
 /// | 8 | only where the sink failed as the text of status 0 was put, and there always; `replay` stops then |
 /// | 9 | exactly where the bytes of a record's file are no record |
-/// | 10 | only where the link failed as `run` asked for its port |
+/// | 10 | only where the link failed as `run` or `boot` asked for its port |
 /// | 11 | exactly where a users file is outside its grammar or lacks `gen`'s user, or a secret has under 20 bytes |
 /// | 12 | exactly where the slot of a new store is smaller than the application |
 ///
@@ -116,8 +117,9 @@ fn command<F: Files, L: Link, C: Clock, D: Disk, O: Sink>(
 /// stays where its line could not be put. No file changes but the output file of `compile` and `gen`, which is written
 /// last and may hold any bytes where that failed; and the store, which a command attaches exactly where its steps come
 /// to it, once, by the name given and before anything else is asked of the disk. A command without a store leaves the
-/// disk. `run` asks for its port exactly where its steps come to the link, once, and runs only where it is taken; no
-/// other command asks anything of the link or the clock.
+/// disk. `run` and `boot` ask for their port exactly where their steps come to the link, once, and run only where it is
+/// taken; no other command asks anything of the link or the clock. `boot` does what `run` does with the code of an
+/// image's file, and reads no kits.
 pub fn sedona<F: Files, L: Link, C: Clock, D: Disk, O: Sink>(
     alloc: Global,
     words: &[String],
@@ -127,7 +129,7 @@ pub fn sedona<F: Files, L: Link, C: Clock, D: Disk, O: Sink>(
     disk: &mut D,
     out: &mut O,
 ) -> u8
-    ensures statuses { IsOneOf (0 ∷ 1 ∷ 2 ∷ 3 ∷ 4 ∷ 5 ∷ 7 ∷ 8 ∷ 9 ∷ 10 ∷ 11 ∷ 12 ∷ []) result }
+    ensures statuses { IsOneOf (0 ∷ 1 ∷ 2 ∷ 3 ∷ 4 ∷ 5 ∷ 6 ∷ 7 ∷ 8 ∷ 9 ∷ 10 ∷ 11 ∷ 12 ∷ []) result }
 
     // 1: exactly where the words are outside the table of words, unless memory was wanted for those behind `run`, which
     // is told as 7. Nothing is asked of the outside then, with 1 as with 7.
@@ -198,7 +200,8 @@ pub fn sedona<F: Files, L: Link, C: Clock, D: Disk, O: Sink>(
     // What `run` puts is what stands at the end of a run from the application that its store opens to, from the clock's
     // next moment on, over the polls of the link and the moments behind that one; with 8 a front of it. What an event
     // sent was offered before the next poll, and behind each cycle it slept by its period, before the next moment was
-    // asked. Of the store the same holds as of `replay`.
+    // asked. Of the store the same holds as of `replay`. All this holds of `boot` too, which asks for a run with the
+    // code of an image.
     ensures ran { OnCommand (texts words.now) (λ command. (asked : RunAsked) →
         command ≡ Run asked → IsOneOf (0 ∷ 8 ∷ []) result →
         RanBy F.Files D.Disk L.Link C.Clock asked files.old files.new link.old link.new clock.old clock.new

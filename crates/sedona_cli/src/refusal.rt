@@ -33,6 +33,18 @@ pub enum Refusal {
     MethodTooLong {
         method: usize,
     },
+    /// The bytes of an image's file are no image: the field at this place, counted from 0, is cut or not allowed, or
+    /// an image ends there.
+    ImageRefused {
+        at: usize,
+    },
+    /// The image breaks this rule at this place of this method, and none before it; of its tables this is told by
+    /// method 65,535.
+    ImageBroken {
+        method: u16,
+        at: u16,
+        rule: u8,
+    },
     /// The text of an application needs so many bytes, and a slot has fewer.
     SlotTooSmall {
         needs: usize,
@@ -115,7 +127,7 @@ pub fn of_app(refusal: AppRefusal) -> Refusal
     }
 }
 
-/// The refusal of a file of users, of a secret or of a record. Takes no memory.
+/// The refusal of a file of users, of a secret, of a record or of an image. Takes no memory.
 pub fn of_inputs(refusal: InputRefusal) -> Refusal
     ensures { result ≡ meaning.of_inputs refusal }
 {
@@ -124,6 +136,8 @@ pub fn of_inputs(refusal: InputRefusal) -> Refusal
         InputRefusal::BadUsers => Refusal::BadUsers,
         InputRefusal::ShortSecret => Refusal::ShortSecret,
         InputRefusal::BadRecord { at } => Refusal::BadRecord { at },
+        InputRefusal::BadImage { at } => Refusal::ImageRefused { at },
+        InputRefusal::BrokenRule { method, at, rule } => Refusal::ImageBroken { method, at, rule },
         InputRefusal::Memory => Refusal::Memory,
     }
 }

@@ -4,12 +4,12 @@ ghost use Rattle.app_save.specs.Saving.{AllStores};
 ghost use Rattle.comp_tree.specs.Application.{Application};
 ghost use Rattle.sed_outside.specs.Steps.{Read};
 ghost use Rattle.input_files.specs.Inputs.{HasEntries};
-ghost use Rattle.sed_engine.specs.Program.{meaning_of};
+ghost use Rattle.scode_code.specs.Image.{meaning_of};
 ghost use Rattle.node_events.specs.Node.{Node as State};
 ghost use Rattle.sed_node.specs.Standing.{StandsFor, setup_of};
-ghost use Rattle.sedona_cli.specs.declared.inputs.Inputs.{Inputs as TheInputs};
 ghost use Rattle.sedona_words.specs.Asked.{asked_node, IsMeantNode};
 ghost use Rattle.sedona_words.specs.Command as words_of;
+ghost use Rattle.sedona_cli.specs.Given.{GivenRecord, given_record};
 ghost use Rattle.sedona_cli.specs.Nodes.{IsReady, Opened};
 ghost use Rattle.sedona_cli.specs.Outside.{AsksDisk, HasAsks, of_reads};
 ghost use Rattle.sedona_cli.specs.Program.{IsAnswer, OrWants};
@@ -24,8 +24,8 @@ use crate::status::Status;
 use dasp_session::{Outbox, Users};
 use disk_model::Disk;
 use replay_log::Records;
-use scode_compile::Compiled;
 use scode_engine::Machine;
+use scode_verify::Verified;
 use sed_engine::Engine;
 use sed_node::{Node, replay};
 use sed_outside::{Files, Sink};
@@ -36,21 +36,22 @@ use std::alloc::Global;
 fn ready<D: Disk>(
     alloc: Global,
     words: NodeWords<'_>,
-    program: Compiled,
+    code: Verified,
     users: Users,
     secret: [u8; 20],
     disk: &mut D,
 ) -> Result<(Node<Machine>, Outbox), Refusal>
     requires { IsMeantNode words }
     ensures opened { IfOk result (λ ready. AsksDisk D.Disk disk.old disk.new (λ asks. (a : Application)
-        × Opened words.entry.store.now words.entry.limit program asks (Ok a)
-        × IsReady ⟦<Machine as Engine>⟧ (pos 0) words.entry.turns (meaning_of program) users secret a ready.0)) }
+        × Opened words.entry.store.now words.entry.limit (meaning_of code) asks (Ok a)
+        × IsReady ⟦<Machine as Engine>⟧ (pos 0) words.entry.turns (meaning_of code) users secret a ready.0)) }
     ensures stores { IsTrue (D.meaning disk.new).tells
         → IfOk result (λ ready. AllStores (setup_of ready.0).slot (D.meaning disk.new)) }
     ensures refused { IfErr result (λ refusal. AsksDisk D.Disk disk.old disk.new (λ asks. OrWants
-        (Some words.entry.store.now) (Opened words.entry.store.now words.entry.limit program) asks (Err refusal))) }
+        (Some words.entry.store.now) (Opened words.entry.store.now words.entry.limit (meaning_of code)) asks
+        (Err refusal))) }
 {
-    match open_app(alloc, words, program, disk) {
+    match open_app(alloc, words, code, disk) {
         Ok((store, app)) => node_of(alloc, words, app, store, users, secret, 0),
         Err(refusal) => Err(refusal),
     }
@@ -66,9 +67,9 @@ fn play<E: Engine, D: Disk, O: Sink>(
     requires stands { (n : State) × StandsFor E.Engine ready.0 n }
     requires stores { IsTrue (D.meaning disk.old).tells → AllStores (setup_of ready.0).slot (D.meaning disk.old) }
     requires entries { HasEntries text.now }
-    ensures { (asked : words_of.NodeAsked) (inputs : TheInputs) (a : Application) → inputs.text ≡ text.now
-        → IsReady E.Engine (pos 0) asked.turns (meaning_of inputs.program) inputs.users inputs.secret a ready.0
-        → AsksDisk D.Disk disk.old disk.new (λ asks. Plays asked inputs a asks (O.text out.old) (O.text out.new)
+    ensures { (asked : words_of.NodeAsked) (given : GivenRecord) (a : Application) → given.text ≡ text.now
+        → IsReady E.Engine (pos 0) asked.turns given.code given.users given.secret a ready.0
+        → AsksDisk D.Disk disk.old disk.new (λ asks. Plays asked given a asks (O.text out.old) (O.text out.new)
         (O.faults out.old) (O.faults out.new) (number_of result)) }
 {
     let (mut node, mut outbox) = ready;
@@ -92,18 +93,18 @@ fn replayed_from<D: Disk, O: Sink>(
     requires entries { HasEntries inputs.text }
     requires meant { IsMeantNode words }
     ensures { (file : List ℕ) (reads : List Read)
-        → InputsRead (asked_node words.entry) file (of_reads reads) (Ok inputs)
+        → InputsRead (asked_node words.entry) file (of_reads reads) (Ok (given_record inputs))
         → AsksDisk D.Disk disk.old disk.new (λ asks. IsAnswer (words_of.Replay (asked_node words.entry) file)
         (of_reads reads ++ asks) (O.text out.old) (O.text out.new) (O.faults out.old) (O.faults out.new)
         (number_of result)) }
 {
     let Inputs {
-        program,
+        code,
         users,
         secret,
         text,
     } = inputs;
-    match ready(alloc, words, program, users, secret, disk) {
+    match ready(alloc, words, code, users, secret, disk) {
         Ok(begun) => play(begun, text.as_slice(), disk, out),
         Err(refusal) => refuse(alloc, &refusal, out),
     }

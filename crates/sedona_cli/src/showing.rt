@@ -1,5 +1,6 @@
 //! `show`: the application of a store, printed.
 ghost use Rattle.std.specs.Prelude.{◌≤◌, Some, length};
+ghost use Rattle.sed_engine.specs.Program.{meaning_of};
 ghost use Rattle.sedona_words.specs.Asked.{IsMeantStore};
 ghost use Rattle.sedona_words.specs.Command as words_of;
 ghost use Rattle.sedona_cli.specs.Outside.{AsksDisk, HasAsks};
@@ -28,7 +29,7 @@ fn printed(
 ) -> Result<Items<u8>, Refusal>
     requires some { 1 ≤ limit }
     requires most { limit ≤ 4194304 }
-    ensures { PrintedOrWants program limit payload.now result }
+    ensures { PrintedOrWants (meaning_of program) limit payload.now result }
 {
     typed_programs_are_whole();
     schema_can_be_told(&program.program().schema);

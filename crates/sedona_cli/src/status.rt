@@ -19,6 +19,8 @@ pub enum Status {
     DeviceFault,
     /// What the store's file holds is refused.
     StoreRefused,
+    /// The bytes of an image's file are no image, or it breaks a rule.
+    ImageRefused,
     /// Want of memory.
     NoMemory,
     /// All was done, but its text could not be put; or the sink failed what was put as it was done.
@@ -45,6 +47,7 @@ impl Status {
             Status::FileFault => 3,
             Status::DeviceFault => 4,
             Status::StoreRefused => 5,
+            Status::ImageRefused => 6,
             Status::NoMemory => 7,
             Status::SinkFault => 8,
             Status::RecordRefused => 9,
@@ -63,6 +66,8 @@ impl Status {
             Refusal::Refused { .. } => Status::Refused,
             Refusal::Rule { .. } => Status::Refused,
             Refusal::MethodTooLong { .. } => Status::Refused,
+            Refusal::ImageRefused { .. } => Status::ImageRefused,
+            Refusal::ImageBroken { .. } => Status::ImageRefused,
             Refusal::SlotTooSmall { .. } => Status::SlotTooSmall,
             Refusal::DeviceFault => Status::DeviceFault,
             Refusal::StoreExists => Status::StoreRefused,

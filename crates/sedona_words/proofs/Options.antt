@@ -1,8 +1,9 @@
 -- Words behind the last option.
-use Rattle.std.proofs.Common.{◌≡◌, ℕ, false, List, [], ◌∷◌, length, Option, Some, None, String, Global, refl, sym, ap, ◌∙◌}
+use Rattle.std.proofs.Common.{◌≡◌, ℕ, true, false, List, [], ◌∷◌, length, Option, Some, None, String, Global, refl, sym, ap, ◌∙◌, arith}
+use Rattle.std.proofs.lemmas.Bool.{eqb-true}
 use Rattle.std.specs.Prelude.{◌==◌, codes}
 use Rattle.record_making.specs.declared.asked.GenAsked.{GenAsked}
-use Rattle.sedona_words.specs.Command.{◌>>=◌, Command, RecordAsked, gen_behind, gen_named, gen_numbers, gen_of, word_first, data_first, ended, new_named, new_of, node_named, option_first, option_or, replay_named, replay_of, show_named, show_of, texts, turns_first}
+use Rattle.sedona_words.specs.Command.{◌>>=◌, Command, RecordAsked, RunAsked, boot_behind, boot_of, gen_behind, gen_named, gen_numbers, gen_of, image_named, kits_named, word_first, data_first, ended, new_named, new_of, node_named, option_first, option_or, period_first, replay_named, replay_of, run_named, show_named, show_of, texts, turns_first}
 
 ended_none : {A : Type 0} (words : List (List ℕ)) (value : Option A) → (words ≡ [] → ⊥) → ended words value ≡ None
 ended_none [] value some = absurd (some refl)
@@ -44,7 +45,7 @@ Parts = List ℕ × List (List ℕ)
 
 -- the command, with each option read up to one
 abbrev with_data : List ℕ → List ℕ → List ℕ → List ℕ → List ℕ → List ℕ → Parts → Option Command
-with_data kits store users secret file turns limit = ended limit.1 (replay_named (node_named kits store users secret turns limit.0) file)
+with_data kits store users secret file turns limit = ended limit.1 (replay_named (node_named (kits_named kits) store users secret turns limit.0) file)
 
 abbrev with_turns : List ℕ → List ℕ → List ℕ → List ℕ → List ℕ → Parts → Option Command
 with_turns kits store users secret file turns = with_data kits store users secret file turns.0 (data_first turns.1)
@@ -75,7 +76,66 @@ one_more_replayed all kits store users secret file turns limit first second thir
     ∙ ap (with_file kits store users secret) (sym five)
     ∙ ap (with_turns kits store users secret file) (sym six)
     ∙ ap (with_data kits store users secret file turns) (sym seven)
-    ∙ ended_none (texts last) (replay_named (node_named kits store users secret turns limit) file) (texts_some last some))
+    ∙ ended_none (texts last) (replay_named (node_named (kits_named kits) store users secret turns limit) file) (texts_some last some))
+
+-- ---- the words of `boot`
+
+-- what is asked, with each option read up to one
+abbrev boot_cycles : List ℕ → List ℕ → List ℕ → List ℕ → List ℕ → Option Parts → Option RunAsked
+boot_cycles image store users secret port o = o >>= (λ cycles. boot_behind image store users secret port cycles.0 cycles.1)
+
+abbrev boot_port : List ℕ → List ℕ → List ℕ → List ℕ → Option Parts → Option RunAsked
+boot_port image store users secret o = o >>= (λ port. boot_cycles image store users secret port.0 (option_first (codes "--cycles") port.1))
+
+abbrev boot_secret : List ℕ → List ℕ → List ℕ → Option Parts → Option RunAsked
+boot_secret image store users o = o >>= (λ secret. boot_port image store users secret.0 (option_first (codes "--port") secret.1))
+
+abbrev boot_users : List ℕ → List ℕ → Option Parts → Option RunAsked
+boot_users image store o = o >>= (λ users. boot_secret image store users.0 (option_first (codes "--secret") users.1))
+
+abbrev boot_store : List ℕ → Option Parts → Option RunAsked
+boot_store image o = o >>= (λ store. boot_users image store.0 (option_first (codes "--users") store.1))
+
+-- the options that have to be there, option by option
+pub six_options : (all : List (List ℕ)) (image store users secret port cycles : List ℕ) (first second third fourth fifth sixth : List (List ℕ))
+    → Some (image, first) ≡ option_first (codes "--image") all → Some (store, second) ≡ option_first (codes "--store") first → Some (users, third) ≡ option_first (codes "--users") second
+    → Some (secret, fourth) ≡ option_first (codes "--secret") third → Some (port, fifth) ≡ option_first (codes "--port") fourth → Some (cycles, sixth) ≡ option_first (codes "--cycles") fifth
+    → boot_behind image store users secret port cycles sixth ≡ boot_of all
+six_options all image store users secret port cycles first second third fourth fifth sixth one two three four five six =
+    ap (boot_cycles image store users secret port) six
+    ∙ ap (boot_port image store users secret) five
+    ∙ ap (boot_secret image store users) four
+    ∙ ap (boot_users image store) three
+    ∙ ap (boot_store image) two
+    ∙ ap (λ (o : Option Parts). o >>= (λ i. boot_store i.0 (option_first (codes "--store") i.1))) one
+
+-- what is asked, with each of the others read up to one
+abbrev boot_data : List ℕ → List ℕ → List ℕ → List ℕ → List ℕ → List ℕ → List ℕ → List ℕ → Parts → Option RunAsked
+boot_data image store users secret port cycles period turns limit =
+    ended limit.1 (run_named (node_named (image_named image) store users secret turns limit.0) port cycles period)
+
+abbrev boot_turns : List ℕ → List ℕ → List ℕ → List ℕ → List ℕ → List ℕ → List ℕ → Parts → Option RunAsked
+boot_turns image store users secret port cycles period turns = boot_data image store users secret port cycles period turns.0 (data_first turns.1)
+
+abbrev boot_period : List ℕ → List ℕ → List ℕ → List ℕ → List ℕ → List ℕ → Parts → Option RunAsked
+boot_period image store users secret port cycles period = boot_turns image store users secret port cycles period.0 (turns_first period.1)
+
+-- the options that may be left out
+pub three_options : (image store users secret port cycles period turns limit : List ℕ) (words first second third : List (List ℕ)) → (let parts : Parts = (period, first) in parts) ≡ period_first words
+    → (let parts : Parts = (turns, second) in parts) ≡ turns_first first → (let parts : Parts = (limit, third) in parts) ≡ data_first second
+    → ended third (run_named (node_named (image_named image) store users secret turns limit) port cycles period) ≡ boot_behind image store users secret port cycles words
+three_options image store users secret port cycles period turns limit words first second third one two three =
+    ap (boot_data image store users secret port cycles period turns) three
+    ∙ ap (boot_turns image store users secret port cycles period) two
+    ∙ ap (boot_period image store users secret port cycles) one
+
+-- no word more than `boot` has, and one more
+pub all_booted : (words : List (String Global)) (asked : Option RunAsked) → (length words == 0) ≡ true → asked ≡ ended (texts words) asked
+all_booted [] asked none = refl
+all_booted (word ∷ words) asked none = absurd (omega (arith, eqb-true (length (word ∷ words)) 0 none))
+
+pub one_more_booted : (words : List (String Global)) (asked : Option RunAsked) → (length words == 0) ≡ false → None ≡ ended (texts words) asked
+one_more_booted words asked some = sym (ended_none (texts words) asked (texts_some words some))
 
 -- ---- the words of `gen`
 

@@ -1,17 +1,24 @@
 -- What words that were read ask for.
 use Rattle.std.specs.Prelude.{◌≤◌, ℕ, IsTrue, List, length}
 use Rattle.sedona_words.specs.declared.command.Asked.{Asked}
-use Rattle.sedona_words.specs.declared.command.NodeWords.{NodeWords}
-use Rattle.sedona_words.specs.declared.command.RunWords.{RunWords}
 use Rattle.sedona_words.specs.declared.command.Asked.TheVariants as asked
+use Rattle.sedona_words.specs.declared.node_words.CodeWords.{CodeWords}
+use Rattle.sedona_words.specs.declared.node_words.CodeWords.TheVariants as code
+use Rattle.sedona_words.specs.declared.node_words.NodeWords.{NodeWords}
+use Rattle.sedona_words.specs.declared.node_words.RunWords.{RunWords}
 use Rattle.sedona_words.specs.declared.gen_words.GenWords.{GenWords}
 use Rattle.record_making.specs.Spec.{IsAllowed}
-use Rattle.sedona_words.specs.Command.{Command, Cycles, Check, Compile, Gen, New, NodeAsked, RecordAsked, Replay, Run}
-use Rattle.sedona_words.specs.Command.{RunAsked, Show, are_manifests, is_file_name, names_within, texts}
+use Rattle.sedona_words.specs.Command.{CodeAsked, Command, Cycles, Check, Compile, Gen, New, NodeAsked, OfImage, OfKits}
+use Rattle.sedona_words.specs.Command.{RecordAsked, Replay, Run, RunAsked, Show, are_manifests, is_file_name}
+use Rattle.sedona_words.specs.Command.{names_within, texts}
+
+abbrev pub asked_code : CodeWords → CodeAsked
+asked_code (code.Kits kits) = OfKits (names_within kits.now)
+asked_code (code.Image image) = OfImage image.now
 
 abbrev pub asked_node : NodeWords → NodeAsked
 asked_node words = record {
-  kits = names_within words.kits.now;
+  code = asked_code words.code;
   store = words.store.now;
   users = words.users.now;
   secret = words.secret.now;
@@ -54,13 +61,21 @@ pub record IsMeantStore (word name : List ℕ) (bytes : ℕ) : Type 0 where
   pub some : 1 ≤ bytes
   pub most : bytes ≤ 4194304
 
--- So is what is asked of a node: besides, the names of its files, and the turns.
+-- So is what is asked of a code: the kits, or the name of the image's file.
+abbrev pub IsMeantCode : CodeWords → Type 0
+IsMeantCode (code.Kits kits) = IsTrue (are_manifests (names_within kits.now))
+IsMeantCode (code.Image image) = IsTrue (is_file_name image.now)
+
+-- So is what is asked of a node: its code, the names of its files, the turns, and a number of bytes.
 pub record IsMeantNode (words : NodeWords) : Type 0 where
-  pub store : IsMeantStore words.kits.now words.store.now words.limit
+  pub code : IsMeantCode words.code
+  pub store : IsTrue (is_file_name words.store.now)
   pub users : IsTrue (is_file_name words.users.now)
   pub secret : IsTrue (is_file_name words.secret.now)
   pub some : 1 ≤ words.turns
   pub most : words.turns ≤ 1000000
+  pub room : 1 ≤ words.limit
+  pub bound : words.limit ≤ 4194304
 
 -- So is what is asked of a run: the node, a port, a number of cycles, and milliseconds.
 pub record IsMeantRun (words : RunWords) : Type 0 where

@@ -12,17 +12,22 @@ infixl 10 ◌>>=◌
 abbrev pub ◌>>=◌ : {A B : Type 0} → Option A → (A → Option B) → Option B
 o >>= f = option_and_then f o
 
--- What a command asks that runs a node: the names of the kits' manifests, of the store, of the users file and of the
+-- What the code of a node is from: kits, by the names of their manifests, or an image, by the name of its file.
+pub data CodeAsked : Type 0 where
+  OfKits : List (List ℕ) → CodeAsked
+  OfImage : List ℕ → CodeAsked
+
+-- What a command asks that runs a node: what its code is from, the names of the store, of the users file and of the
 -- secret file, the turns of each root call, and the most bytes of data.
 pub record NodeAsked : Type 0 where
-  pub kits : List (List ℕ)
+  pub code : CodeAsked
   pub store : List ℕ
   pub users : List ℕ
   pub secret : List ℕ
   pub turns : ℕ
   pub limit : ℕ
 
--- What `run` asks: a node, the port of its link, the number of cycles, and the period of one in milliseconds.
+-- What `run` and `boot` ask: a node, the port of its link, the number of cycles, and the period of one in milliseconds.
 pub record RunAsked : Type 0 where
   pub node : NodeAsked
   pub port : ℕ
@@ -42,7 +47,7 @@ pub record RecordAsked : Type 0 where
 -- A command of the table of words: `cycles` of a source, so many times; `check` of kits, by their manifests; `compile`
 -- of kits into the file of this name; `new` over kits, in the file of this name, with slots of so many bytes; `show`
 -- over kits, of the file of this name, with so many bytes of data; `replay` of a record, by its name, on a node; `run`
--- of a node over a link; `gen` of a record.
+-- or `boot` of a node over a link, with the code of kits or of an image; `gen` of a record.
 pub data Command : Type 0 where
   Cycles : List ℕ → ℕ → Command
   Check : List (List ℕ) → Command
@@ -193,15 +198,24 @@ turn_count digits = do
   n ← number_within 1000000 digits
   if n == 0 then None else Some n
 
--- a node by the names of its files, with turns and bytes of data in digits
-abbrev pub node_named : List ℕ → List ℕ → List ℕ → List ℕ → List ℕ → List ℕ → Option NodeAsked
-node_named kits store users secret turns limit =
-    if are_manifests (names_within kits) && is_file_name store && is_file_name users && is_file_name secret
+-- the code of kits, by the names of their manifests in one word
+abbrev pub kits_named : List ℕ → Option CodeAsked
+kits_named kits = if are_manifests (names_within kits) then Some (OfKits (names_within kits)) else None
+
+-- that of an image, by the name of its file
+abbrev pub image_named : List ℕ → Option CodeAsked
+image_named image = if is_file_name image then Some (OfImage image) else None
+
+-- a node by its code and the names of its files, with turns and bytes of data in digits
+abbrev pub node_named : Option CodeAsked → List ℕ → List ℕ → List ℕ → List ℕ → List ℕ → Option NodeAsked
+node_named code store users secret turns limit =
+    if is_file_name store && is_file_name users && is_file_name secret
     then (do
+      c ← code
       t ← turn_count turns
       l ← data_limit limit
       Some (record {
-        kits = names_within kits;
+        code = c;
         store = store;
         users = users;
         secret = secret;
@@ -232,8 +246,54 @@ replay_of words = do
   file ← option_first (codes "--record") secret.1
   ended (data_first (turns_first file.1).1).1
       (replay_named
-      (node_named kits.0 store.0 users.0 secret.0 (turns_first file.1).0 (data_first (turns_first file.1).1).0)
+      (node_named (kits_named kits.0) store.0 users.0 secret.0 (turns_first file.1).0
+      (data_first (turns_first file.1).1).0)
       file.0)
+
+-- a port is 1 to 65,535
+abbrev pub port_number : List ℕ → Option ℕ
+port_number digits = do
+  n ← number_within 65535 digits
+  if n == 0 then None else Some n
+
+-- a period is 1 to 60,000 ms
+abbrev pub period_length : List ℕ → Option ℕ
+period_length digits = do
+  n ← number_within 60000 digits
+  if n == 0 then None else Some n
+
+-- a node that is run, with its port, its cycles and its period in digits
+abbrev pub run_named : Option NodeAsked → List ℕ → List ℕ → List ℕ → Option RunAsked
+run_named asked port cycles period = do
+  node ← asked
+  p ← port_number port
+  n ← cycle_count cycles
+  ms ← period_length period
+  Some (record { node = node; port = p; cycles = n; period = ms })
+
+-- the value of `--period`, which may be left out, and the words behind it
+abbrev pub period_first : List (List ℕ) → List ℕ × List (List ℕ)
+period_first words = option_or (codes "--period") (codes "100") words
+
+-- `[--period MS] [--turns B] [--data BYTES]`, of a node whose other words were read
+abbrev pub boot_behind : List ℕ → List ℕ → List ℕ → List ℕ → List ℕ → List ℕ → List (List ℕ) → Option RunAsked
+boot_behind image store users secret port cycles words =
+    ended (data_first (turns_first (period_first words).1).1).1
+    (run_named
+    (node_named (image_named image) store users secret (turns_first (period_first words).1).0
+    (data_first (turns_first (period_first words).1).1).0)
+    port cycles (period_first words).0)
+
+-- `--image I --store S --users U --secret F --port P --cycles N [--period MS] [--turns B] [--data BYTES]`
+abbrev pub boot_of : List (List ℕ) → Option RunAsked
+boot_of words = do
+  image ← option_first (codes "--image") words
+  store ← option_first (codes "--store") image.1
+  users ← option_first (codes "--users") store.1
+  secret ← option_first (codes "--secret") users.1
+  port ← option_first (codes "--port") secret.1
+  cycles ← option_first (codes "--cycles") port.1
+  boot_behind image.0 store.0 users.0 secret.0 port.0 cycles.0 cycles.1
 
 -- a record is of 1 to 4,000 components
 abbrev pub component_count : List ℕ → Option ℕ
@@ -298,5 +358,6 @@ command_of (name ∷ words) =
     else if bytes_eq name (codes "new") then new_of words
     else if bytes_eq name (codes "show") then show_of words
     else if bytes_eq name (codes "replay") then replay_of words
+    else if bytes_eq name (codes "boot") then option_map (λ asked. Run asked) (boot_of words)
     else if bytes_eq name (codes "gen") then option_map (λ asked. Gen asked) (gen_of words)
     else None

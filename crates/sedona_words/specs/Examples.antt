@@ -1,7 +1,7 @@
 -- Words behind `run`, and what they ask for.
 use Rattle.std.specs.Prelude.{List, [], ◌∷◌, codes}
 use Rattle.clap.specs.Walk.{Text}
-use Rattle.sedona_words.specs.Command.{NodeAsked, RunAsked}
+use Rattle.sedona_words.specs.Command.{NodeAsked, OfKits, RunAsked}
 
 -- `--kits math.toml,plant.toml --store s --users u --secret f --cycles 0`, without a port
 abbrev pub no_port : List Text
@@ -32,7 +32,7 @@ others = codes "--data" ∷ codes "8" ∷ codes "--turns=20" ∷ codes "--period
 
 abbrev pub node : NodeAsked
 node = record {
-  kits = codes "math.toml" ∷ codes "plant.toml" ∷ [];
+  code = OfKits (codes "math.toml" ∷ codes "plant.toml" ∷ []);
   store = codes "s";
   users = codes "u";
   secret = codes "f";

@@ -1,9 +1,9 @@
 -- What the words behind `run` ask for.
-use Rattle.std.specs.Prelude.{ℕ, ◌==◌, true, List, [], ◌∷◌, Option, Some, None, if◌then◌else◌, codes}
+use Rattle.std.specs.Prelude.{true, List, [], ◌∷◌, Option, Some, None, if◌then◌else◌, codes}
 use Rattle.clap.specs.Walk.{Row, Rule, Text, first_of, is_empty}
 use Rattle.clap.specs.Simple.{App, matches_of, new_rule, new_shape}
 use Rattle.clap.specs.Faults.{fault_of}
-use Rattle.sedona_words.specs.Command.{◌>>=◌, NodeAsked, RunAsked, cycle_count, node_named, number_within}
+use Rattle.sedona_words.specs.Command.{◌>>=◌, NodeAsked, RunAsked, kits_named, node_named, run_named}
 
 -- ---- the command, as clap sees it
 
@@ -45,18 +45,6 @@ run_matches words =
 
 -- ---- what the matches ask for, each value within its bounds
 
--- a port is 1 to 65,535
-abbrev pub port_of : List ℕ → Option ℕ
-port_of digits = do
-  n ← number_within 65535 digits
-  if n == 0 then None else Some n
-
--- a period is 1 to 60,000 ms
-abbrev pub period_of : List ℕ → Option ℕ
-period_of digits = do
-  n ← number_within 60000 digits
-  if n == 0 then None else Some n
-
 -- the node, by the values of its options
 abbrev pub node_in : List Row → Option NodeAsked
 node_in rows = do
@@ -66,18 +54,14 @@ node_in rows = do
   secret ← first_of (codes "secret") rows
   turns ← first_of (codes "turns") rows
   limit ← first_of (codes "data") rows
-  node_named kits store users secret turns limit
+  node_named (kits_named kits) store users secret turns limit
 
 abbrev pub run_in : List Row → Option RunAsked
 run_in rows = do
-  node ← node_in rows
   port ← first_of (codes "port") rows
-  p ← port_of port
   cycles ← first_of (codes "cycles") rows
-  n ← cycle_count cycles
   period ← first_of (codes "period") rows
-  ms ← period_of period
-  Some (record { node = node; port = p; cycles = n; period = ms })
+  run_named (node_in rows) port cycles period
 
 -- what the words behind `run` ask for, none where they are outside
 abbrev pub run_of : List Text → Option RunAsked

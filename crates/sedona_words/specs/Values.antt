@@ -1,8 +1,7 @@
 -- Words that name each option once, and what their values ask for.
-use Rattle.std.specs.Prelude.{◌==◌, Bool, true, not, List, [], ◌∷◌, ◌++◌, Option, Some, codes}
+use Rattle.std.specs.Prelude.{◌==◌, Bool, true, not, List, [], ◌∷◌, ◌++◌, Option, codes}
 use Rattle.clap.specs.Walk.{Text}
-use Rattle.sedona_words.specs.Command.{◌>>=◌, cycle_count, node_named, RunAsked}
-use Rattle.sedona_words.specs.Run.{period_of, port_of}
+use Rattle.sedona_words.specs.Command.{RunAsked, kits_named, node_named, run_named}
 
 -- the options that have to be there, in the order of the table, each in one word
 abbrev pub needed_words : Text → Text → Text → Text → Text → Text → List Text
@@ -23,12 +22,8 @@ other_words period turns limit = (codes "--period=" ++ period)
 
 -- what values ask for, none where one is out of its bounds
 abbrev pub asked_by : Text → Text → Text → Text → Text → Text → Text → Text → Text → Option RunAsked
-asked_by kits store users secret port cycles period turns limit = do
-  node ← node_named kits store users secret turns limit
-  p ← port_of port
-  n ← cycle_count cycles
-  ms ← period_of period
-  Some (record { node = node; port = p; cycles = n; period = ms })
+asked_by kits store users secret port cycles period turns limit =
+    run_named (node_named (kits_named kits) store users secret turns limit) port cycles period
 
 -- a value that may stand in a word of its own: it does not begin with a hyphen (byte 45)
 abbrev pub is_plain : Text → Bool

@@ -4,44 +4,13 @@ ghost use Rattle.std.specs.Option.{option_map};
 ghost use Rattle.sedona_words.specs.Asked.{asked_command, asked_node, IsMeant, IsMeantNode};
 ghost use Rattle.sedona_words.specs.Command as words_of;
 
+use crate::boot_words::boot_of;
 use crate::gen_words::{GenWords, gen_of};
+use crate::node_words::{NodeWords, RunWords, kits_named, node_named};
 use crate::words::{
-    are_manifests, data_limit, is_file_name, is_manifests, number_within, option_first, option_or,
-    slot_size, turn_count,
+    are_manifests, cycle_count, data_limit, is_file_name, is_manifests, option_first, option_or,
+    slot_size,
 };
-
-// The most cycles that can be asked for.
-const MOST_CYCLES: u64 = 1_000_000;
-
-/// The words of a command that runs a node.
-#[derive(Clone, Copy)]
-pub struct NodeWords<'a> {
-    /// The names of the manifests with commas between them.
-    pub kits: &'a str,
-    /// The name of the store.
-    pub store: &'a str,
-    /// The name of the users file.
-    pub users: &'a str,
-    /// The name of the secret file.
-    pub secret: &'a str,
-    /// The turns of each root call, 1 to 1,000,000.
-    pub turns: u32,
-    /// The most bytes of data, 1 to 4,194,304.
-    pub limit: u32,
-}
-
-/// The words of `run`.
-#[derive(Clone, Copy)]
-pub struct RunWords<'a> {
-    /// The words of the node.
-    pub node: NodeWords<'a>,
-    /// The port that is listened on, 1 to 65,535.
-    pub port: u16,
-    /// The number of cycles, 0 to 1,000,000.
-    pub cycles: u32,
-    /// The milliseconds from one cycle to the next, 1 to 60,000.
-    pub period: u32,
-}
 
 /// What the words ask for.
 #[derive(Clone, Copy)]
@@ -61,21 +30,11 @@ pub enum Asked<'a> {
     /// `replay --kits K --store S --users U --secret F --record R [--turns B] [--data BYTES]`: the words of the node,
     /// and the name of the record.
     Replay(NodeWords<'a>, &'a str),
-    /// `run --kits K --store S --users U --secret F --port P --cycles N [--period MS] [--turns B] [--data BYTES]`.
+    /// `run --kits K --store S --users U --secret F --port P --cycles N [--period MS] [--turns B] [--data BYTES]`, or
+    /// `boot` with `--image I` in the place of the kits.
     Run(RunWords<'a>),
     /// `gen SEED C L N --kits K --users U --user NAME --secret F --out R`.
     Gen(GenWords<'a>),
-}
-
-/// A number of cycles, without a leading zero.
-pub fn cycle_count(digits: &[u8]) -> Option<u32>
-    ensures count { result ≡ words_of.cycle_count digits.now }
-    ensures most { IfSome result (λ count. count ≤ 1000000) }
-{
-    match number_within(digits, MOST_CYCLES) {
-        Some(count) => Some(count as u32),
-        None => None,
-    }
 }
 
 // Cycles of a file, by its name and their number.
@@ -186,39 +145,6 @@ fn show_of(words: &[String]) -> Option<Asked<'_>>
     show_named(kits, store, limit.as_bytes())
 }
 
-/// The words of a node, by the names of its files, and its turns and bytes of data in digits. None where one of them is
-/// out of its bounds.
-pub fn node_named<'a>(
-    kits: &'a str,
-    store: &'a str,
-    users: &'a str,
-    secret: &'a str,
-    turns: &[u8],
-    limit: &[u8],
-) -> Option<NodeWords<'a>>
-    ensures meant { IfSome result IsMeantNode }
-    ensures node { option_map asked_node result
-        ≡ words_of.node_named kits.now store.now users.now secret.now turns.now limit.now }
-{
-    if !is_manifests(kits)
-        || !is_file_name(store)
-        || !is_file_name(users)
-        || !is_file_name(secret)
-    {
-        return None;
-    }
-    let turns = turn_count(turns)?;
-    let limit = data_limit(limit)?;
-    Some(NodeWords {
-        kits,
-        store,
-        users,
-        secret,
-        turns,
-        limit,
-    })
-}
-
 // The replay of a record on a node, by its name.
 fn replay_named<'a>(node: Option<NodeWords<'a>>, file: &'a str) -> Option<Asked<'a>>
     requires { IfSome node IsMeantNode }
@@ -249,7 +175,7 @@ fn replay_of(words: &[String]) -> Option<Asked<'_>>
         return None;
     }
     let node = node_named(
-        kits,
+        kits_named(kits),
         store,
         users,
         secret,
@@ -277,6 +203,8 @@ pub fn read_words(words: &[String]) -> Option<Asked<'_>>
         show_of(rest)
     } else if name.as_str() == "replay" {
         replay_of(rest)
+    } else if name.as_str() == "boot" {
+        Some(Asked::Run(boot_of(rest)?))
     } else if name.as_str() == "gen" {
         Some(Asked::Gen(gen_of(rest)?))
     } else {

@@ -6,9 +6,8 @@ ghost use Rattle.sedona_words.specs.Asked.{asked_node, asked_run, IsMeantNode, I
 ghost use Rattle.sedona_words.specs.Command.{texts};
 ghost use Rattle.sedona_words.specs.Run as run;
 
-use crate::limits::{period_of, port_of};
 use crate::matches::{run_matches, value_of};
-use crate::{NodeWords, RunWords, cycle_count, node_named};
+use crate::node_words::{NodeWords, RunWords, kits_named, node_named, run_named};
 use clap::ArgMatches;
 use sed_value::Memory;
 use std::alloc::Global;
@@ -25,7 +24,7 @@ fn node_in<'a>(matches: &ArgMatches<'a>) -> Option<NodeWords<'a>>
     let turns = value_of(matches, "turns")?;
     let limit = value_of(matches, "data")?;
     node_named(
-        kits,
+        kits_named(kits),
         store,
         users,
         secret,
@@ -39,19 +38,15 @@ fn run_in<'a>(matches: &ArgMatches<'a>) -> Option<RunWords<'a>>
     ensures meant { IfSome result IsMeantRun }
     ensures run { option_map asked_run result ≡ run.run_in (rows_of (found_of matches.now)) }
 {
-    let node = node_in(matches)?;
     let port = value_of(matches, "port")?;
-    let port = port_of(port.as_bytes())?;
     let cycles = value_of(matches, "cycles")?;
-    let cycles = cycle_count(cycles.as_bytes())?;
     let period = value_of(matches, "period")?;
-    let period = period_of(period.as_bytes())?;
-    Some(RunWords {
-        node,
-        port,
-        cycles,
-        period,
-    })
+    run_named(
+        node_in(matches),
+        port.as_bytes(),
+        cycles.as_bytes(),
+        period.as_bytes(),
+    )
 }
 
 /// What the words behind `run` ask for. None exactly where they are outside the table of words. Fails only for want of

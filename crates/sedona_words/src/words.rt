@@ -15,8 +15,17 @@ const LONGEST_FILE_NAME: usize = 4096;
 // The most kits that a program has besides `sys`.
 const MOST_KITS: usize = 15;
 
+// The most cycles that can be asked for.
+const MOST_CYCLES: u64 = 1_000_000;
+
 // The most turns of a root call.
 const MOST_TURNS: u64 = 1_000_000;
+
+// The greatest port.
+const GREATEST_PORT: u64 = 65_535;
+
+// The longest period, in milliseconds.
+const LONGEST_PERIOD: u64 = 60_000;
 
 /// Whether a word may name a file: it has 1 to as many bytes as the longest name.
 pub fn is_file_name(name: &str) -> bool
@@ -97,6 +106,17 @@ pub fn number_within(digits: &[u8], most: u64) -> Option<u64>
     read_decimal(digits, most)
 }
 
+/// A number of cycles, without a leading zero.
+pub fn cycle_count(digits: &[u8]) -> Option<u32>
+    ensures count { result ≡ words_of.cycle_count digits.now }
+    ensures most { IfSome result (λ count. count ≤ 1000000) }
+{
+    match number_within(digits, MOST_CYCLES) {
+        Some(count) => Some(count as u32),
+        None => None,
+    }
+}
+
 /// The size of a slot, in bytes.
 pub fn slot_size(digits: &[u8]) -> Option<u32>
     ensures size { result ≡ words_of.slot_size digits.now }
@@ -142,6 +162,31 @@ pub fn turn_count(digits: &[u8]) -> Option<u32>
     match number_within(digits, MOST_TURNS) {
         Some(0) => None,
         Some(count) => Some(count as u32),
+        None => None,
+    }
+}
+
+/// A port, by its digits.
+pub fn port_number(digits: &[u8]) -> Option<u16>
+    ensures port { result ≡ words_of.port_number digits.now }
+    ensures some { IfSome result (λ port. 1 ≤ port) }
+{
+    match number_within(digits, GREATEST_PORT) {
+        Some(0) => None,
+        Some(port) => Some(port as u16),
+        None => None,
+    }
+}
+
+/// A period in milliseconds, by its digits.
+pub fn period_length(digits: &[u8]) -> Option<u32>
+    ensures period { result ≡ words_of.period_length digits.now }
+    ensures some { IfSome result (λ period. 1 ≤ period) }
+    ensures most { IfSome result (λ period. period ≤ 60000) }
+{
+    match number_within(digits, LONGEST_PERIOD) {
+        Some(0) => None,
+        Some(period) => Some(period as u32),
         None => None,
     }
 }

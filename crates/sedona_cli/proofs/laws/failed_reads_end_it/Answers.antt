@@ -8,4 +8,4 @@ pub returns : goal.returns
 returns c =
     tells_comes (λ (names : List (List ℕ)). generates_tell (KitsLoaded names) (c.failed_loads_are_told.ensures.kits names))
     (λ (file : List ℕ). generates_tell (TextLoaded file) (c.failed_loads_are_told.ensures.text file))
-    (record { users = c.failed_inputs_are_told.ensures.of_users; secret = c.failed_inputs_are_told.ensures.of_secret; record_text = c.failed_inputs_are_told.ensures.of_record })
+    (record { users = c.failed_inputs_are_told.ensures.of_users; secret = c.failed_inputs_are_told.ensures.of_secret; record_text = c.failed_inputs_are_told.ensures.of_record; code = c.failed_inputs_are_told.ensures.of_code })

@@ -12,7 +12,7 @@ returns c =
       reads = c.bytes_are_read_as_one.ensures;
       kits = λ (names : List (List ℕ)). generates_one (KitsLoaded names) (c.loads_agree.ensures.kits names) (c.loads_agree.ensures.alike names) refused;
       text = λ (file : List ℕ). generates_one (TextLoaded file) (c.loads_agree.ensures.text file) (c.loads_agree.ensures.alone file) refused;
-      inputs = record { users = c.inputs_agree.ensures.of_users; secret = c.inputs_agree.ensures.of_secret; record_text = c.inputs_agree.ensures.of_record };
+      inputs = record { users = c.inputs_agree.ensures.of_users; secret = c.inputs_agree.ensures.of_secret; record_text = c.inputs_agree.ensures.of_record; code = c.inputs_agree.ensures.of_code };
       texts = λ p q alike. c.texts_alone_are_alike.ensures p q most_data alike.schema alike.fields alike.statics;
     } in
     one_comes ends

@@ -2,7 +2,7 @@ use Rattle.std.proofs.Common.{◌≡◌, ◌∙◌, ◌++◌, List, ℕ, Ok, Err
 use Rattle.std.specs.Prelude.{OnOk}
 use Rattle.sed_typed.specs.declared.program.Program.{Program}
 use Rattle.sed_engine.specs.Carries.{Carries}
-use Rattle.sed_engine.specs.Program.{code_of}
+use Rattle.sed_engine.specs.Program.{code_of, meaning_of}
 use Rattle.scode_image.specs.declared.image.Image.{Image}
 use Rattle.scode_image.specs.Grammar.{IsImage}
 use Rattle.scode_code.specs.Faults.{IsVerified}
@@ -36,6 +36,7 @@ returns-clause-ok c =
         is_text = put.1;
         verified = verified;
         carries = carries;
+        means = subst (λ (image : Image). made.meaning_of image ≡ meaning_of own) (sym is) right.means;
       }),
       put.2,
     )) c.write_image.ensures.ok
