@@ -1,6 +1,5 @@
 -- The code of a node has one end.
 use Rattle.std.proofs.Common.{◌≡◌, ℕ, List, refl, subst}
-use Rattle.sed_engine.specs.Code.{Meaning as Code}
 use Rattle.sed_engine.specs.Program as source
 use Rattle.sed_check.specs.Refusals.{AreAlike}
 use Rattle.sed_typed.specs.declared.program.Program.{Program}

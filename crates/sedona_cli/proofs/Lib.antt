@@ -26,13 +26,10 @@ pub mod Payloads
 pub mod WithPayload
 pub mod ShowSteps
 pub mod Ran
-pub mod ReplayRun
-pub mod LiveRun
 pub mod ReplaySteps
 pub mod LiveSteps
 pub mod WriteSteps
 pub mod GenSteps
 pub mod CompileSteps
-pub mod Outputs
 pub mod Wanting
 pub mod Playing

@@ -1,13 +1,11 @@
 -- `run` comes to one end, and tells the reads that failed.
-use Rattle.std.proofs.Common.{◌≡◌, ℕ, Bool, true, false, List, [], ◌∷◌, ◌++◌, Result, Ok, Err, refl, sym, ap, subst, ◌∙◌}
+use Rattle.std.proofs.Common.{◌≡◌, ℕ, Bool, true, false, List, [], ◌∷◌, ◌++◌, Ok, Err, refl, sym, ap, subst, ◌∙◌}
 use Rattle.sed_engine.specs.Code.{Meaning as Code}
 use Rattle.comp_tree.specs.Application.{Application}
 use Rattle.dasp_session.specs.declared.user.User.{User}
-use Rattle.sed_outside.specs.Steps.{Decides}
 use Rattle.sed_outside.specs.Reads.{failed_names}
 use Rattle.input_files.specs.Inputs.{SecretRead, UsersRead}
 use Rattle.sedona_cli.specs.Given.{Given}
-use Rattle.sedona_cli.specs.declared.refusal.Refusal.{Refusal}
 use Rattle.sedona_cli.specs.Agree.{Pointwise}
 use Rattle.sedona_words.specs.Command.{NodeAsked, RunAsked}
 use Rattle.sedona_cli.specs.Outside.{Ask, Binds, reads_in}

@@ -1,53 +1,33 @@
 -- Where memory was wanted for the words, nothing was asked of the outside.
-use Rattle.std.proofs.Common.{◌≡◌, ℕ, List, [], ◌∷◌, ◌++◌, Option, Some, None, inl, inr, refl, sym, ◌∙◌, arith}
+use Rattle.std.proofs.Common.{◌≡◌, ℕ, List, [], ◌∷◌, ◌++◌, Option, Some, None, inl, inr, refl, arith}
 use Rattle.sed_outside.specs.declared.files.Files.{Ghosts as FileGhosts}
 use Rattle.sed_outside.specs.declared.clock.Clock.{Ghosts as ClockGhosts}
 use Rattle.sed_outside.specs.declared.link.Link.{Ghosts as LinkGhosts}
+use Rattle.sed_outside.specs.declared.sink.Sink.{Ghosts as SinkGhosts}
 use Rattle.disk_model.specs.declared.disk.Disk.{Ghosts as DiskGhosts}
 use Rattle.sed_outside.proofs.Joining.{no_reads}
+use Rattle.sedona_words.specs.Command.{Command, Cycles, Check, Compile, Gen, New, Replay, Run, Show, output_of, store_of}
+use Rattle.sedona_cli.specs.Does.{Does}
 use Rattle.sedona_cli.specs.Lines.{memory_line}
 use Rattle.sedona_cli.specs.Outside.{Ask, of_reads}
-use Rattle.sedona_cli.specs.Program.{AsksStore, IsAnswer, wanted, at_store}
+use Rattle.sedona_cli.specs.Program.{AsksLiveOf, IsAnswer, wanted}
 use Rattle.sedona_cli.specs.Puts.{IsOneOf, Puts}
-use Rattle.sedona_cli.specs.Run.{AsksLink, at_link}
-use Rattle.sedona_cli.specs.Writing.{AsksOf, HasWrite, KeepsFiles, KeepsWrites, nothing}
+use Rattle.sedona_cli.specs.Run.{at_link, unasked}
+use Rattle.sedona_cli.specs.World.{world}
+use Rattle.sedona_cli.specs.Writing.{AsksOf, HasWrite, nothing}
 use Rattle.sedona_cli.proofs.Building.{no_asks, nothing_spared}
-use Rattle.sedona_cli.proofs.Outputs.{keeps_files, keeps_writes}
-use Rattle.sedona_words.specs.Command.{Command, store_of}
 
 -- how it is answered
-pub wants_words : (command : Command) (before after : Option (List ℕ)) (fb fa status : ℕ) → status ≡ 7 → Puts before after fb fa memory_line → IsAnswer command [] before after fb fa status
+wants_words : (command : Command) (before after : Option (List ℕ)) (fb fa status : ℕ) → status ≡ 7 → Puts before after fb fa memory_line → IsAnswer command [] before after fb fa status
 wants_words command before after fb fa status seven puts = wanted (nothing_spared (store_of command)) seven puts
 
-pub nothing_asked : {S T : Type 0} (F : FileGhosts S) (D : DiskGhosts T) (out : Option (List ℕ)) (x : S) (d : T) (P : List Ask → Type 0) → P [] → AsksOf F D out x x d d P
+nothing_asked : {S T : Type 0} (F : FileGhosts S) (D : DiskGhosts T) (out : Option (List ℕ)) (x : S) (d : T) (P : List Ask → Type 0) → P [] → AsksOf F D out x x d d P
 nothing_asked F D None x d P holds = no_asks F D x d P holds
 nothing_asked F D (Some name) x d P holds =
     (refl, (x, no_reads F x (λ reads. HasWrite F name x x (λ writes. P (of_reads reads ++ writes))) (nothing refl holds)))
 
-abbrev Any : List Ask → Type 0
-Any asks = Unit {0}
-
-pub files_same : {S T : Type 0} (F : FileGhosts S) (D : DiskGhosts T) (out : Option (List ℕ)) (x : S) (d : T) → KeepsFiles F out x x
-files_same F D out x d = keeps_files F D out x x d d Any (nothing_asked F D out x d Any tt)
-
-pub writes_same : {S T : Type 0} (F : FileGhosts S) (D : DiskGhosts T) (out : Option (List ℕ)) (x : S) (d : T) → KeepsWrites F out x x
-writes_same F D out x d = keeps_writes F D out x x d d Any (nothing_asked F D out x d Any tt)
-
--- ---- 7 alone is told of it
-
-pub seven_store : (status : ℕ) → status ≡ 7 → IsOneOf at_store status → ⊥
-seven_store status seven (inl e) = absurd (omega (arith, seven, e))
-seven_store status seven (inr (inl e)) = absurd (omega (arith, seven, e))
-seven_store status seven (inr (inr (inl e))) = absurd (omega (arith, seven, e))
-seven_store status seven (inr (inr (inr (inl e)))) = absurd (omega (arith, seven, e))
-seven_store status seven (inr (inr (inr (inr (inl e))))) = absurd (omega (arith, seven, e))
-seven_store status seven (inr (inr (inr (inr (inr never))))) = never
-
-pub store_same : {T : Type 0} (D : DiskGhosts T) (store : Option (List ℕ)) (status : ℕ) (d : T) → status ≡ 7 → AsksStore D store status d d
-store_same D None status d seven = refl
-store_same D (Some name) status d seven = record { never = λ before. refl; once = λ at. absurd (seven_store status seven at); at_most_once = λ is. inl refl }
-
-pub not_done : (status : ℕ) → status ≡ 7 → IsOneOf (0 ∷ 8 ∷ []) status → ⊥
+-- 7 tells neither that all was done nor that a port was asked for
+not_done : (status : ℕ) → status ≡ 7 → IsOneOf (0 ∷ 8 ∷ []) status → ⊥
 not_done status seven (inl e) = absurd (omega (arith, seven, e))
 not_done status seven (inr (inl e)) = absurd (omega (arith, seven, e))
 not_done status seven (inr (inr never)) = never
@@ -58,17 +38,21 @@ seven_link status seven (inr (inl e)) = absurd (omega (arith, seven, e))
 seven_link status seven (inr (inr (inl e))) = absurd (omega (arith, seven, e))
 seven_link status seven (inr (inr (inr never))) = never
 
-pub link_same : {U V : Type 0} (L : LinkGhosts U) (C : ClockGhosts V) (port : Option ℕ) (status : ℕ) (link : U) (clock : V) → status ≡ 7 → AsksLink L C port status link link clock clock
-link_same L C None status link clock seven = (refl, refl)
-link_same L C (Some port) status link clock seven = record {
-  never = λ before. (refl, refl);
-  once = λ at. absurd (seven_link status seven at);
-  at_most_once = λ is. inl (refl, refl);
-  taken = λ at. absurd (not_done status seven at);
-  untaken = λ ten. absurd (omega (arith, seven, ten));
-  silent = λ which. record { polls = refl; polled = refl; offered = refl; asked = refl; moments = inl (refl, refl) };
-  unasked = λ ten. refl;
-}
+not_live : {S T U V : Type 0} (F : FileGhosts S) (D : DiskGhosts T) (L : LinkGhosts U) (C : ClockGhosts V) (command : Command) (x : S) (link : U) (clock : V) (d : T) (before after : Option (List ℕ)) (status : ℕ) → status ≡ 7
+    → AsksLiveOf F D L C command x x link link clock clock d d before after status
+not_live F D L C (Cycles file count) x link clock d before after status seven = (refl, refl)
+not_live F D L C (Check names) x link clock d before after status seven = (refl, refl)
+not_live F D L C (Compile image names) x link clock d before after status seven = (refl, refl)
+not_live F D L C (New names store slot) x link clock d before after status seven = (refl, refl)
+not_live F D L C (Show names store limit) x link clock d before after status seven = (refl, refl)
+not_live F D L C (Replay node file) x link clock d before after status seven = (refl, refl)
+not_live F D L C (Run r) x link clock d before after status seven = unasked (seven_link status seven) refl refl
+not_live F D L C (Gen g) x link clock d before after status seven = (refl, refl)
 
-pub no_other : (status n : ℕ) → status ≡ 7 → (n ≡ 7 → ⊥) → status ≡ n → ⊥
-no_other status n seven not is = not (sym is ∙ seven)
+pub wanted_words : {S U V T W : Type 0} (F : FileGhosts S) (L : LinkGhosts U) (C : ClockGhosts V) (D : DiskGhosts T) (O : SinkGhosts W) (command : Command) (x : S) (link : U) (clock : V) (d : T) (sink sink_now : W) (status : ℕ)
+    → status ≡ 7 → Puts (O.text sink) (O.text sink_now) (O.faults sink) (O.faults sink_now) memory_line → Does F L C D O command (world x link clock d sink) (world x link clock d sink_now) status
+wanted_words F L C D O command x link clock d sink sink_now status seven puts = record {
+  answered = nothing_asked F D (output_of command) x d _ (wants_words command (O.text sink) (O.text sink_now) (O.faults sink) (O.faults sink_now) status seven puts);
+  leaves = λ at. absurd (not_done status seven at);
+  live = not_live F D L C command x link clock d (O.text sink) (O.text sink_now) status seven;
+}

@@ -29,5 +29,7 @@ pub mod Run
 pub mod Gen
 pub mod Compile
 pub mod Program
+pub mod World
+pub mod Does
 pub mod Agree
 pub mod Status

@@ -12,7 +12,8 @@ use Rattle.sedona_cli.specs.declared.refusal.Refusal.{Refusal}
 use Rattle.sedona_cli.specs.declared.refusal.Refusal.TheVariants.{FileFault, Refused, Rule, SlotTooSmall, DeviceFault}
 use Rattle.sedona_cli.specs.declared.refusal.Refusal.TheVariants.{StoreExists, NoStore, NoApplication, WrongKits}
 use Rattle.sedona_cli.specs.declared.refusal.Refusal.TheVariants.{OverLimit, BadUsers, ShortSecret, BadRecord}
-use Rattle.sedona_cli.specs.declared.refusal.Refusal.TheVariants.{ImageBroken, ImageRefused, LinkFault, Memory, MethodTooLong}
+use Rattle.sedona_cli.specs.declared.refusal.Refusal.TheVariants.{ImageBroken, ImageRefused, LinkFault, Memory}
+use Rattle.sedona_cli.specs.declared.refusal.Refusal.TheVariants.{MethodTooLong}
 
 -- what is put of a line
 abbrev pub line_bytes : Line → List ℕ
@@ -58,7 +59,8 @@ line_of (Rule file at rule) = refused_line file (decimal at ++ (codes " " ++ dec
 line_of (MethodTooLong n) = codes "method too long " ++ (decimal n ++ line_end)
 line_of (ImageRefused at) = codes "image refused " ++ (decimal at ++ line_end)
 line_of (ImageBroken method at rule) =
-    codes "image refused " ++ (decimal method ++ (codes " " ++ (decimal at ++ (codes " " ++ (decimal rule ++ line_end)))))
+    codes "image refused "
+    ++ (decimal method ++ (codes " " ++ (decimal at ++ (codes " " ++ (decimal rule ++ line_end)))))
 line_of (SlotTooSmall needs has) =
     codes "slot too small: needs " ++ (decimal needs ++ (codes ", has " ++ (decimal has ++ line_end)))
 line_of DeviceFault = codes "device fault" ++ line_end

@@ -12,7 +12,8 @@ use Rattle.sedona_cli.specs.declared.refusal.Refusal.{Refusal}
 use Rattle.sedona_cli.specs.declared.refusal.Refusal.TheVariants.{FileFault, Refused, Rule, SlotTooSmall, DeviceFault}
 use Rattle.sedona_cli.specs.declared.refusal.Refusal.TheVariants.{StoreExists, NoStore, NoApplication, WrongKits}
 use Rattle.sedona_cli.specs.declared.refusal.Refusal.TheVariants.{OverLimit, BadUsers, ShortSecret, BadRecord}
-use Rattle.sedona_cli.specs.declared.refusal.Refusal.TheVariants.{ImageBroken, ImageRefused, LinkFault, Memory, MethodTooLong}
+use Rattle.sedona_cli.specs.declared.refusal.Refusal.TheVariants.{ImageBroken, ImageRefused, LinkFault, Memory}
+use Rattle.sedona_cli.specs.declared.refusal.Refusal.TheVariants.{MethodTooLong}
 use Rattle.scode_compile.specs.declared.refusal.CompileRefusal.{CompileRefusal}
 use Rattle.scode_compile.specs.declared.refusal.CompileRefusal.TheVariants as compiled
 

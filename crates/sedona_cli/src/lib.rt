@@ -13,7 +13,6 @@ mod coming;
 mod compiling;
 mod generating;
 mod inputs;
-mod laws;
 mod lines;
 mod living;
 mod loading;
@@ -30,5 +29,4 @@ mod status;
 mod store;
 mod writing;
 
-pub use laws::{failed_reads_end_it, one_end};
 pub use program::sedona;

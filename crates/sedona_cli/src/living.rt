@@ -145,8 +145,8 @@ fn run_from<L: Link, C: Clock, D: Disk, O: Sink>(
 }
 
 /// Runs the node that a store opens to over a link and a clock, by the words of `run` or of `boot`, and puts the
-/// application that is reached and a summary. The port is asked for once all is read and the store is open; the node begins at the moment
-/// that it is then.
+/// application that is reached and a summary. The port is asked for once all is read and the store is open; the node
+/// begins at the moment that it is then.
 pub fn lived<F: Files, L: Link, C: Clock, D: Disk, O: Sink>(
     alloc: Global,
     words: RunWords<'_>,

@@ -1,4 +1,3 @@
-use Rattle.std.proofs.Common.{Ok, Err}
 use Rattle.sed_engine.specs.Program as source
 use Rattle.scode_code.specs.Image as made
 use Rattle.sedona_words.specs.Command.{names_within}

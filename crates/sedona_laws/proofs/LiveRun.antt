@@ -20,7 +20,7 @@ use Rattle.sedona_cli.proofs.Asking.{reads_before}
 use Rattle.sedona_cli.proofs.Ends.{err_ok, one_refusal}
 use Rattle.sedona_cli.proofs.LiveAsked.{run_inputs_alone}
 use Rattle.sedona_cli.proofs.ReplayEnds.{open_reads}
-use Rattle.sedona_cli.proofs.ReplayRun.{none_of}
+use Rattle.sedona_laws.proofs.ReplayRun.{none_of}
 use Rattle.sedona_cli.proofs.ShowSteps.{OpensNone, neither}
 use Rattle.sedona_cli.proofs.StoreAsked.{of_refusal}
 use Rattle.sedona_cli.proofs.Storing.{five, no_link}
