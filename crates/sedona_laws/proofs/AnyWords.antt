@@ -1,11 +1,12 @@
 -- What follows of any words.
-use Rattle.std.proofs.Common.{◌≡◌, ◌⊎◌, ℕ, false, true, List, [], ◌∷◌, Option, Some, None, inl, inr, refl, sym, ap, subst, ◌∙◌, arith}
+use Rattle.std.proofs.Common.{◌≡◌, ℕ, false, List, [], ◌∷◌, Option, Some, None, inl, inr, refl, sym, ◌∙◌, arith}
 use Rattle.sed_outside.specs.declared.files.Files.{Ghosts as FileGhosts}
 use Rattle.sed_outside.specs.declared.clock.Clock.{Ghosts as ClockGhosts}
 use Rattle.sed_outside.specs.declared.link.Link.{Ghosts as LinkGhosts}
 use Rattle.sed_outside.specs.declared.sink.Sink.{Ghosts as SinkGhosts}
 use Rattle.disk_model.specs.declared.disk.Disk.{Ghosts as DiskGhosts}
 use Rattle.sedona_words.specs.Command.{Command}
+use Rattle.sedona_cli.specs.declared.status.Status.TheVariants.{NoMemory, Usage}
 use Rattle.sedona_cli.specs.Does.{Does, DoesNothing, IsUsage, usage, no_memory}
 use Rattle.sedona_cli.specs.Lines.{memory_line, usage_line}
 use Rattle.sedona_cli.specs.Puts.{IsOneOf, Puts}
@@ -14,7 +15,7 @@ use Rattle.sedona_cli.specs.World.{World}
 use Rattle.sedona_cli.proofs.Ends.{not_both}
 use Rattle.sedona_laws.specs.Answers.{Answers}
 use Rattle.sedona_laws.proofs.Doing.{is_one, not_one}
-use Rattle.sedona_laws.proofs.Statuses.{all_statuses}
+use Rattle.sedona_laws.proofs.Statuses.{all_statuses, number_is}
 
 -- ---- how words outside the table are answered
 
@@ -41,8 +42,8 @@ module _ (words : List (List ℕ)) (before after : Option (List ℕ)) (fb fa sta
   no_other n (no_memory run seven puts) is not_one not_seven = not_seven (sym is ∙ seven)
 
   pub is_listed : IsUsage words before after fb fa status → IsOneOf all_statuses status
-  is_listed (usage one puts) = inr (inl one)
-  is_listed (no_memory run seven puts) = inr (inr (inr (inr (inr (inr (inr (inl seven)))))))
+  is_listed (usage one puts) = number_is Usage status one
+  is_listed (no_memory run seven puts) = number_is NoMemory status seven
 
 -- ---- any words
 

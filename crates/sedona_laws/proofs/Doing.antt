@@ -1,5 +1,5 @@
 -- What follows from what a command does.
-use Rattle.std.proofs.Common.{◌≡◌, ◌≢◌, ◌⊎◌, ℕ, List, [], ◌∷◌, Result, inl, inr, refl, sym}
+use Rattle.std.proofs.Common.{◌≡◌, ◌≢◌, ◌⊎◌, ℕ, List, [], ◌∷◌, Result, inl, inr, refl}
 use Rattle.std.specs.Prelude.{IsTrue, length}
 use Rattle.sed_outside.specs.Cause.{Rose}
 use Rattle.sed_outside.specs.declared.files.Files.{Ghosts as FileGhosts}

@@ -1,5 +1,5 @@
 -- Replies within a run.
-use Rattle.std.proofs.Common.{◌≡◌, ◌≢◌, ℕ, Bool, true, false, List, [], ◌∷◌, ◌++◌, Some, refl, sym, ap, subst, ◌∙◌}
+use Rattle.std.proofs.Common.{◌≡◌, ℕ, true, false, List, [], ◌∷◌, ◌++◌, Some, ap, subst, ◌∙◌}
 use Rattle.sed_outside.specs.Cause.{Rose}
 use Rattle.sed_outside.specs.declared.addr.Addr.{Addr}
 use Rattle.sed_value.specs.declared.refusal.Refusal.TheVariants.{OutOfMemory}
@@ -14,8 +14,8 @@ use Rattle.node_events.specs.Node.{Node, Setup}
 use Rattle.node_events.specs.Replying.{IsReplied}
 use Rattle.node_events.specs.Running.{Event, Reached, comes, followed_by, run}
 use Rattle.sed_node.specs.Running.{ComesTo}
-use Rattle.sedona_cli.specs.Outside.{Ran, reached}
-use Rattle.sedona_laws.specs.Replies.{IsSentReply, NoReplyIs26, delivered_in, node_after}
+use Rattle.sedona_cli.specs.Outside.{Ran}
+use Rattle.sedona_laws.specs.Replies.{NoReplyIs26, node_after}
 
 -- an event of those that handled entries came to was handled as one of them
 pub record WasHandled (event : Event) : Type 0 where

@@ -1,5 +1,5 @@
 -- Replies within a run of a node.
-use Rattle.std.specs.Prelude.{◌≡◌, ◌≢◌, List, [], ◌∷◌, ◌++◌, Some}
+use Rattle.std.specs.Prelude.{◌≡◌, ◌≢◌, List, ◌∷◌, ◌++◌, Some}
 use Rattle.sed_outside.specs.declared.addr.Addr.{Addr}
 use Rattle.sed_value.specs.declared.refusal.Refusal.TheVariants.{OutOfMemory}
 use Rattle.sox_msg.specs.Answered.{Answered, refused}
