@@ -11,7 +11,7 @@ use Rattle.replay_log.specs.Entry.{Entry}
 use Rattle.replay_log.specs.Record.{IsRecord, IsRefusedAt}
 use Rattle.scode_image.specs.declared.image.Image.{Image}
 use Rattle.scode_image.specs.Grammar.{FaultsAt, IsImage}
-use Rattle.scode_code.specs.Breaks.{BreaksNone, IsFirstBroken}
+use Rattle.scode_code.specs.Breaks.{IsFirstBroken}
 use Rattle.scode_code.specs.Faults.{Broken, first_broken}
 use Rattle.input_files.specs.declared.refusal.InputRefusal.{InputRefusal}
 use Rattle.input_files.specs.declared.refusal.InputRefusal.TheVariants.{FileFault, BadRecord, BadImage, BrokenRule}

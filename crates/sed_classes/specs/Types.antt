@@ -135,8 +135,8 @@ primitive_number prim.Long = 4
 abbrev pub same_primitive : Primitive → Primitive → Bool
 same_primitive p q = primitive_number p == primitive_number q
 
--- Two types of results or parameters are equal. What is unknown is equal to all, since another rule speaks of it; what is
--- of no form is equal to no other.
+-- Two types of results or parameters are equal. What is unknown is equal to all, since another rule speaks of it; what
+-- is of no form is equal to no other.
 abbrev pub is_same_type : SourceType → SourceType → Bool
 is_same_type Unknown u = true
 is_same_type Outside u = is_unknown u
