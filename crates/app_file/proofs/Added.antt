@@ -46,7 +46,8 @@ use Rattle.app_file.proofs.PutComponents.{app_put, each_put, same_put, was_put}
 use Rattle.app_file.proofs.Refused.{AllFalse, all_false, not_false}
 use Rattle.app_file.proofs.RootCalls.{creatable_class, whole_run}
 use Rattle.app_file.proofs.TakenValues.{EachOf, goes_home, taken_are}
-use Rattle.app_file.proofs.Trees.{IsTreeOf, tree_of, tree_once, tree_parents, tree_reached}
+use Rattle.app_file.proofs.Trees.{IsTreeOf, ids_end, tree_depths, tree_rooted}
+use Rattle.comp_tree.proofs.WithinLimits.{tree_of}
 
 -- ---- the values of a new component
 
@@ -222,7 +223,7 @@ module _ (m : Meaning) (code : IsWhole m) (stored : (o : Object) (slot : ℕ) (v
               ∙ not_named q x (subst (λ (z : ℕ). In z (children_of after q)) d g) h out
           | inr also ↦
               ap (λ (s : List ℕ). bytes_eq s (name_of after y)) (name_old x out) ∙ ap (bytes_eq (name_of all x)) (name_old y also)
-              ∙ names_apart (name_of all) (children_of all q) (siblings_from all (name_of all) whole.siblings q) x y (old_child q x h out) (old_child q y g also) ne
+              ∙ names_apart (name_of all) (children_of all q) (siblings_from all (name_of all) whole.formed.siblings q) x y (old_child q x h out) (old_child q y g also) ne
         ]
       ]
 
@@ -238,32 +239,37 @@ module _ (m : Meaning) (code : IsWhole m) (stored : (o : Object) (slot : ℕ) (v
   app_stays : IsSomeAnd (map.get after 0) (IsApp m)
   app_stays =
       subst (λ (r : Option Component). IsSomeAnd r (IsApp m)) (sym (get_old 0 (live_apart 0 tree.app)))
-      (app_put all parent k (with_child new k) holder.1 m whole.app (λ e is. record { class = is.class; name = is.name; parent = is.parent }))
+      (app_put all parent k (with_child new k) holder.1 m whole.formed.app (λ e is. record { class = is.class; name = is.name; parent = is.parent }))
+
+  few_ids : Each after (λ q c. q < most_components)
+  few_ids = each (λ q c. q < most_components) (least_is_free all room).1 (was (λ q c. q < most_components) whole.ids) whole.ids
 
   pub whole_added : Whole m (record { components = record { by_id = after; statics = a.components.statics; limit = a.components.limit }; links = a.links })
   whole_added = record {
-    reached = tree_reached after grown;
-    once = tree_once after grown;
-    parents = tree_parents after grown;
-    app = app_stays;
-    others = each (λ q c. 0 < q → IsOther m c) (λ lt. record { component = other.0; concrete = other.1 })
-        (λ lt. let o = was (λ q c. 0 < q → IsOther m c) whole.others lt in record { component = o.component; concrete = o.concrete }) whole.others;
-    names = each (λ q c. IsTrue (is_name c.name)) named (was (λ q c. IsTrue (is_name c.name)) whole.names) whole.names;
-    siblings = siblings_to after (name_of after) siblings;
-    links = λ i d lt.
-        let is = whole.links i d lt in
-        link_with_classes m all after _ (same (option_map (λ (c : Component). c.class)) refl _ (live_apart _ is.from)) (same (option_map (λ (c : Component). c.class)) refl _ (live_apart _ is.to)) is;
-    order = whole.order;
-    values = each (λ q c. Fits m.fields (m.fields c.class) (m.initial c.class) c.contents) new_values (was (λ q c. Fits m.fields (m.fields c.class) (m.initial c.class) c.contents) whole.values) whole.values;
-    faults = each (λ q c. c.fault ≤ 5) (omega arith) (was (λ q c. c.fault ≤ 5) whole.faults) whole.faults;
-    statics = whole.statics;
-    ids = each (λ q c. q < most_components) (least_is_free all room).1 (was (λ q c. q < most_components) whole.ids) whole.ids;
+    formed = record {
+      tree = tree_rooted after grown;
+      app = app_stays;
+      others = each (λ q c. 0 < q → IsOther m c) (λ lt. record { component = other.0; concrete = other.1 })
+          (λ lt. let o = was (λ q c. 0 < q → IsOther m c) whole.formed.others lt in record { component = o.component; concrete = o.concrete }) whole.formed.others;
+      names = each (λ q c. IsTrue (is_name c.name)) named (was (λ q c. IsTrue (is_name c.name)) whole.formed.names) whole.formed.names;
+      siblings = siblings_to after (name_of after) siblings;
+      links = λ i d lt.
+          let is = whole.formed.links i d lt in
+          link_with_classes m all after _ (same (option_map (λ (c : Component). c.class)) refl _ (live_apart _ is.from)) (same (option_map (λ (c : Component). c.class)) refl _ (live_apart _ is.to)) is;
+      order = whole.formed.order;
+      values = each (λ q c. Fits m.fields (m.fields c.class) (m.initial c.class) c.contents) new_values (was (λ q c. Fits m.fields (m.fields c.class) (m.initial c.class) c.contents) whole.formed.values) whole.formed.values;
+      faults = each (λ q c. c.fault ≤ 5) (omega arith) (was (λ q c. c.fault ≤ 5) whole.formed.faults) whole.formed.faults;
+      statics = whole.formed.statics;
+      ids = ids_end after few_ids;
+    };
+    ids = few_ids;
+    link_count = whole.link_count;
+    depths = tree_depths after grown;
     children = each (λ q c. length c.children ≤ most_children) (omega arith)
         (let long = length-append k.children (new ∷ []) in
         let here : children_of all parent ≡ k.children = ap (λ r. option_map_or (λ (c : Component). c.children) r []) holder.1 in
         let less : length k.children < most_children = subst (λ (ids : List ℕ). length ids < most_children) here few in
         omega arith) whole.children;
-    link_count = whole.link_count;
     links_at_each = whole.links_at_each;
     data_sizes =
         let f : Component → ℕ = λ c. m.data_size c.class in

@@ -30,8 +30,8 @@ module _ (m : Meaning) (a : Application) (whole : Whole m a) where
   cleared id None there = whole
   cleared id (Some c) there =
       whole_put m a whole id c (without_fault c) there refl refl refl refl
-      (here (λ (c : Component). Fits m.fields (m.fields c.class) (m.initial c.class) c.contents) (map.get a.components.by_id id) c there (whole.values id))
-      (omega arith) a.components.statics whole.statics
+      (here (λ (c : Component). Fits m.fields (m.fields c.class) (m.initial c.class) c.contents) (map.get a.components.by_id id) c there (whole.formed.values id))
+      (omega arith) a.components.statics whole.formed.statics
 
   pub whole_clear : (id : ℕ) → Whole m (over a (after_clear a.components id))
   whole_clear id = cleared id (map.get a.components.by_id id) refl
@@ -48,21 +48,23 @@ module _ (m : Meaning) (a : Application) (whole : Whole m a) where
 
   whole_links : (links : List Link) → AreLinked m a.components.by_id links → AreInOrder links → length links ≤ most_links → Whole m (record { components = a.components; links = links })
   whole_links links are order few = record {
-    reached = whole.reached;
-    once = whole.once;
-    parents = whole.parents;
-    app = whole.app;
-    others = whole.others;
-    names = whole.names;
-    siblings = whole.siblings;
-    links = are.typed;
-    order = order;
-    values = whole.values;
-    faults = whole.faults;
-    statics = whole.statics;
+    formed = record {
+      tree = whole.formed.tree;
+      app = whole.formed.app;
+      others = whole.formed.others;
+      names = whole.formed.names;
+      siblings = whole.formed.siblings;
+      links = are.typed;
+      order = order;
+      values = whole.formed.values;
+      faults = whole.formed.faults;
+      statics = whole.formed.statics;
+      ids = whole.formed.ids;
+    };
     ids = whole.ids;
-    children = whole.children;
     link_count = few;
+    depths = whole.depths;
+    children = whole.children;
     links_at_each = are.at_each;
     data_sizes = whole.data_sizes;
     least_limit = whole.least_limit;
@@ -70,7 +72,7 @@ module _ (m : Meaning) (a : Application) (whole : Whole m a) where
   }
 
   linked : AreLinked m a.components.by_id a.links
-  linked = record { typed = whole.links; at_each = whole.links_at_each }
+  linked = record { typed = whole.formed.links; at_each = whole.links_at_each }
 
   one_more : (l : Link) (links : List Link) → length (with_link l links) ≡ suc (length links)
   one_more l [] = refl

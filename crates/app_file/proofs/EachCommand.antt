@@ -41,8 +41,8 @@ module _ (m : Meaning) (code : IsWhole m) (stored : (o : Object) (slot : ℕ) (v
       let may = allowed _ _ e done in after _ may.1 (whole_delete m code a whole id turns moment may.0 laws.gone laws.less_at laws.fewer_at)
   whole_edit (Invoke id slot argument) bytes done = after _ (allowed _ _ e done).1 (whole_invoke m a whole code id slot argument turns moment (is_save id slot))
   whole_edit (Connect l) bytes done =
-      let may = allowed _ _ e done in after _ may.1 (whole_link m a whole l (laws.count l a.links) (laws.more l a.links whole.order) may.0)
-  whole_edit (Disconnect l) bytes done = after _ (allowed _ _ e done).1 (whole_unlink m a whole l (laws.fewer l a.links) (laws.less l a.links whole.order))
+      let may = allowed _ _ e done in after _ may.1 (whole_link m a whole l (laws.count l a.links) (laws.more l a.links whole.formed.order) may.0)
+  whole_edit (Disconnect l) bytes done = after _ (allowed _ _ e done).1 (whole_unlink m a whole l (laws.fewer l a.links) (laws.less l a.links whole.formed.order))
   whole_edit (Rename id name) bytes done = let may = allowed _ _ e done in after _ may.1 (whole_rename m a whole id name may.0)
   whole_edit (Reorder id children) bytes done = let may = allowed _ _ e done in after _ may.1 (whole_reorder m a whole id children may.0)
   whole_edit (ReadSlot id slot) bytes done = after _ (allowed _ _ e done).1 whole

@@ -4,7 +4,7 @@ use Rattle.std.specs.Prelude.{codes, slice_get, Option, Some, None}
 use Rattle.std.specs.FinMap as map
 use Rattle.comp_tree.specs.Application.{Application, ById, Component, Link}
 use Rattle.sed_value.specs.declared.kit.KitRef.{KitRef}
-use Rattle.app_file.specs.Limits.{limit_passed}
+use Rattle.comp_tree.specs.Limits.{limit_passed}
 use Rattle.app_file.specs.Reading.{DifferAt}
 use Rattle.app_file.specs.Text.{app_text, old_text}
 use Rattle.app_file.proofs.Building.{application, code, component, found, math, plant, sys}

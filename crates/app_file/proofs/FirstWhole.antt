@@ -23,7 +23,7 @@ use Rattle.sed_value.proofs.Maps.{total, total_more}
 use Rattle.app_file.proofs.Names.{names_differ}
 use Rattle.app_file.proofs.Nodes.{siblings_to}
 use Rattle.app_file.proofs.RootCalls.{app_creatable}
-use Rattle.app_file.proofs.Trees.{IsTreeOf, tree_once, tree_parents, tree_reached}
+use Rattle.app_file.proofs.Trees.{IsTreeOf, ids_end, tree_depths, tree_rooted}
 
 module _ (m : Meaning) (code : IsWhole m) (made : (class : ℕ) → IsTrue (is_creatable m class) → IsObject m (new_object m class))
     (statics : Contents) (limit : ℕ) (fit : Fits m.fields m.static_fields m.initial_statics statics) (room : m.data_size (app_class m) ≤ limit) (least : 1 ≤ limit) (most : limit ≤ 4194304) where
@@ -91,23 +91,28 @@ module _ (m : Meaning) (code : IsWhole m) (made : (class : ℕ) → IsTrue (is_c
       let none : ◌≡◌ {A = List (ℕ × Component)} (map.entries {R = nat_cmp} map.empty) [] = no_entry (map.entries {R = nat_cmp} map.empty) (sym (map.len-entries {R = nat_cmp} map.empty) ∙ map.len-empty nat_cmp Component) in
       ap (λ (es : List (ℕ × Component)). sum_by (λ (c : Component). m.data_size c.class) (map_list (λ e. e.1) es)) none
 
+  few_ids : Each all (λ q c. q < most_components)
+  few_ids = each (λ q c. q < most_components) (omega arith)
+
   pub whole_first : Whole m (record { components = first_components m statics limit; links = [] })
   whole_first = record {
-    reached = tree_reached all tree;
-    once = tree_once all tree;
-    parents = tree_parents all tree;
-    app = subst (λ (r : Option Component). IsSomeAnd r (IsApp m)) (sym here) (record { class = class_is; name = refl; parent = refl });
-    others = each (λ q c. 0 < q → IsOther m c) (λ lt. absurd (omega (arith, lt)));
-    names = each (λ q c. IsTrue (is_name c.name)) refl;
-    siblings = siblings_to all (name_of all) (λ q. subst (λ (ids : List ℕ). IsDistinct bytes_eq (map_list (name_of all) ids)) (sym (no_children q)) (names_differ (name_of all) [] tt (λ x y never k ne. absurd never)));
-    links = λ k d lt. absurd (omega (arith, lt));
-    order = λ i j d lt few. absurd (omega (arith, few));
-    values = each (λ q c. Fits m.fields (m.fields c.class) (m.initial c.class) c.contents) (made (app_class m) (app_creatable m code (app_class m) class_is)).fits;
-    faults = each (λ q c. c.fault ≤ 5) (omega arith);
-    statics = fit;
-    ids = each (λ q c. q < most_components) (omega arith);
-    children = each (λ q c. length c.children ≤ most_children) (omega arith);
+    formed = record {
+      tree = tree_rooted all tree;
+      app = subst (λ (r : Option Component). IsSomeAnd r (IsApp m)) (sym here) (record { class = class_is; name = refl; parent = refl });
+      others = each (λ q c. 0 < q → IsOther m c) (λ lt. absurd (omega (arith, lt)));
+      names = each (λ q c. IsTrue (is_name c.name)) refl;
+      siblings = siblings_to all (name_of all) (λ q. subst (λ (ids : List ℕ). IsDistinct bytes_eq (map_list (name_of all) ids)) (sym (no_children q)) (names_differ (name_of all) [] tt (λ x y never k ne. absurd never)));
+      links = λ k d lt. absurd (omega (arith, lt));
+      order = λ i j d lt few. absurd (omega (arith, few));
+      values = each (λ q c. Fits m.fields (m.fields c.class) (m.initial c.class) c.contents) (made (app_class m) (app_creatable m code (app_class m) class_is)).fits;
+      faults = each (λ q c. c.fault ≤ 5) (omega arith);
+      statics = fit;
+      ids = ids_end all few_ids;
+    };
+    ids = few_ids;
     link_count = omega arith;
+    depths = tree_depths all tree;
+    children = each (λ q c. length c.children ≤ most_children) (omega arith);
     links_at_each = λ id. omega arith;
     data_sizes = let one = total_more (λ (c : Component). m.data_size c.class) map.empty 0 c (map.get-empty nat_cmp 0) in let none = nothing in let few = room in omega arith;
     least_limit = least;

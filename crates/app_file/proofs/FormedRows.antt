@@ -21,10 +21,9 @@ use Rattle.comp_tree.specs.Application.{Application, Component, Link, children_o
 use Rattle.comp_tree.specs.Links.{go_together_if_there}
 use Rattle.comp_tree.specs.Parts.{no_id}
 use Rattle.comp_tree.specs.Refusals.{is_for_components, is_sys_type}
-use Rattle.comp_tree.specs.Whole.{IsApp, IsLink, IsOther}
-use Rattle.app_file.specs.Formed.{IsFormed}
+use Rattle.comp_tree.specs.Whole.{IsApp, IsFormed, IsLink, IsOther}
 use Rattle.app_file.specs.Rows.{behind, row_of, rows_by, rows_of, sibling_behind}
-use Rattle.app_file.proofs.EntriesOfMaps.{entries_are_got}
+use Rattle.comp_tree.proofs.EntriesOfMaps.{entries_are_got}
 use Rattle.app_file.proofs.FrontsOfFiles.{name_positive}
 use Rattle.app_file.proofs.RowsOneWay.{IsClass, IsIdOrNone, LinkFits, RowFits}
 use Rattle.app_file.proofs.SlotValues.{config_is_typed}

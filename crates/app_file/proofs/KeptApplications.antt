@@ -17,7 +17,7 @@ use Rattle.comp_tree.specs.Whole.{Whole}
 use Rattle.app_file.specs.Reading.{IsFile}
 use Rattle.app_file.specs.Rows.{Row, row_of, rows_by, rows_of, sibling_behind}
 use Rattle.app_file.specs.Text.{app_text, body_text, front_text, greatest_of, version}
-use Rattle.app_file.proofs.EntriesOfMaps.{entries_are_got}
+use Rattle.comp_tree.proofs.EntriesOfMaps.{entries_are_got}
 use Rattle.app_file.proofs.SlotValues.{config_is_typed}
 use Rattle.app_file.proofs.ToldRows.{pairs}
 use Rattle.app_file.proofs.ValuesOneWay.{AreTyped}

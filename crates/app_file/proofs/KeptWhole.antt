@@ -1,8 +1,8 @@
 -- What a file keeps of a whole application is whole.
-use Rattle.std.proofs.Common.{ℕ, ◌≡◌, ◌<◌, ◌≤◌, ◌↔◌, ◌+◌, Bool, List, [], ◌∷◌, refl, sym, ◌∙◌, ap, subst, arith}
-use Rattle.std.specs.Prelude.{Option, Some, None, IfSome, IsSomeAnd, IsTrue, T, is_some, ◌&&◌, length, map as map_list, nat_eq, sum_by}
+use Rattle.std.proofs.Common.{ℕ, ◌≡◌, ◌<◌, ◌≤◌, ◌+◌, List, [], ◌∷◌, refl, sym, ◌∙◌, ap, subst, arith}
+use Rattle.std.specs.Prelude.{Option, Some, None, IfSome, IsSomeAnd, IsTrue, T, is_some, ◌&&◌, length, map as map_list, sum_by}
 use Rattle.std.specs.Option.{option_and_then, option_map, option_map_or}
-use Rattle.std.specs.List.{Contains, IsDistinct}
+use Rattle.std.specs.List.{IsDistinct}
 use Rattle.std.specs.Str.{bytes_eq}
 use Rattle.std.specs.FinMap as map
 use Rattle.std.specs.FinMap.{is_sorted}
@@ -15,11 +15,11 @@ use Rattle.sed_engine.specs.Fits.{Fits}
 use Rattle.sub_table.specs.Link.{Link}
 use Rattle.comp_tree.specs.Application.{Application, ById, Component, children_of, data_size_of, is_live, most_children, most_components, name_of, parent_of, type_at}
 use Rattle.sed_value.specs.Mapped.{on_values}
-use Rattle.comp_tree.specs.Order.{depth_first}
 use Rattle.comp_tree.specs.Parts.{Kept, kept_by_id, kept_component, kept_contents}
 use Rattle.comp_tree.specs.Whole.{Each, IsApp, IsLink, IsOther, Whole}
 use Rattle.comp_tree.proofs.MapLemmas.{get-map_values}
-use Rattle.comp_tree.proofs.SubtreeLemmas.{down_is}
+use Rattle.comp_tree.proofs.WithinLimits.{tree_of}
+use Rattle.app_file.proofs.Trees.{IsTreeOf, ids_end, same_tree, tree_depths, tree_rooted}
 
 module _ (m : Meaning) where
   -- ---- the entries
@@ -87,9 +87,6 @@ module _ (m : Meaning) where
     type_same : (q slot : ℕ) → type_at m after q slot ≡ type_at m all q slot
     type_same q slot = ap property_type (same (λ r. option_and_then (λ (c : Component). slot_form m c.class slot) r) (λ c. refl) q)
 
-    depth_same : depth_first after ≡ depth_first all
-    depth_same = down_is after (children_of all) children_same 17 0 ∙ sym (down_is all (children_of all) (λ q. refl) 17 0)
-
     link_same : (l : Link) → IsLink m all l → IsLink m after l
     link_same l is = record {
       from = live_same l.from ∙ is.from;
@@ -112,27 +109,27 @@ module _ (m : Meaning) where
     kept_is_whole =
         let all = a.components.by_id in
         let after = kept_by_id m a.components.by_id in
+        let tree : IsTreeOf after = same_tree all after (live_same all) (parent_same all) (children_same all) (tree_of m a whole) in
+        let few_ids : Each after (λ q c. q < most_components) = each all (λ q c. q < most_components) (λ q c. q < most_components) (λ q c there is. is) whole.ids in
         record {
-          reached = λ q.
-              subst (λ (b : Bool). IsTrue b ↔ Contains (depth_first after) q) (sym (live_same all q))
-              (subst (λ (ids : List ℕ). IsTrue (is_live all q) ↔ Contains ids q) (sym (depth_same all)) (whole.reached q));
-          once = subst (IsDistinct nat_eq) (sym (depth_same all)) whole.once;
-          parents = λ q up.
-              subst (λ (r : Option ℕ). (r ≡ Some up) ↔ Contains (children_of after up) q) (sym (parent_same all q))
-              (subst (λ (ids : List ℕ). (parent_of all q ≡ Some up) ↔ Contains ids q) (sym (children_same all up)) (whole.parents q up));
-          app = app_same all whole.app;
-          others = each all (λ q c. 0 < q → IsOther m c) (λ q c. 0 < q → IsOther m c) (λ q c there is lt. record { component = (is lt).component; concrete = (is lt).concrete }) whole.others;
-          names = each all (λ q c. IsTrue (is_name c.name)) (λ q c. IsTrue (is_name c.name)) (λ q c there is. is) whole.names;
-          siblings = subst (λ (names : ℕ → List ℕ). Each after (λ q c. IsDistinct bytes_eq (map_list names c.children))) (λ i q. sym (name_same all q) i)
-              (each all (λ q c. IsDistinct bytes_eq (map_list (name_of all) c.children)) (λ q c. IsDistinct bytes_eq (map_list (name_of all) c.children)) (λ q c there is. is) whole.siblings);
-          links = λ k e lt. link_same all _ (whole.links k e lt);
-          order = whole.order;
-          values = each all (λ q c. Fits m.fields (m.fields c.class) (m.initial c.class) c.contents) (λ q c. Fits m.fields (m.fields c.class) (m.initial c.class) c.contents) (λ q c there is. fits q c there) whole.values;
-          faults = each all (λ q c. c.fault ≤ 5) (λ q c. c.fault ≤ 5) (λ q c there is. omega arith) whole.faults;
-          statics = first;
-          ids = each all (λ q c. q < most_components) (λ q c. q < most_components) (λ q c there is. is) whole.ids;
-          children = each all (λ q c. length c.children ≤ most_children) (λ q c. length c.children ≤ most_children) (λ q c there is. is) whole.children;
+          formed = record {
+            tree = tree_rooted after tree;
+            app = app_same all whole.formed.app;
+            others = each all (λ q c. 0 < q → IsOther m c) (λ q c. 0 < q → IsOther m c) (λ q c there is lt. record { component = (is lt).component; concrete = (is lt).concrete }) whole.formed.others;
+            names = each all (λ q c. IsTrue (is_name c.name)) (λ q c. IsTrue (is_name c.name)) (λ q c there is. is) whole.formed.names;
+            siblings = subst (λ (names : ℕ → List ℕ). Each after (λ q c. IsDistinct bytes_eq (map_list names c.children))) (λ i q. sym (name_same all q) i)
+                (each all (λ q c. IsDistinct bytes_eq (map_list (name_of all) c.children)) (λ q c. IsDistinct bytes_eq (map_list (name_of all) c.children)) (λ q c there is. is) whole.formed.siblings);
+            links = λ k e lt. link_same all _ (whole.formed.links k e lt);
+            order = whole.formed.order;
+            values = each all (λ q c. Fits m.fields (m.fields c.class) (m.initial c.class) c.contents) (λ q c. Fits m.fields (m.fields c.class) (m.initial c.class) c.contents) (λ q c there is. fits q c there) whole.formed.values;
+            faults = each all (λ q c. c.fault ≤ 5) (λ q c. c.fault ≤ 5) (λ q c there is. omega arith) whole.formed.faults;
+            statics = first;
+            ids = ids_end after few_ids;
+          };
+          ids = few_ids;
           link_count = whole.link_count;
+          depths = tree_depths after tree;
+          children = each all (λ q c. length c.children ≤ most_children) (λ q c. length c.children ≤ most_children) (λ q c there is. is) whole.children;
           links_at_each = whole.links_at_each;
           data_sizes = subst (λ (n : ℕ). n ≤ a.components.limit) (sym (kept_sizes all)) whole.data_sizes;
           least_limit = whole.least_limit;

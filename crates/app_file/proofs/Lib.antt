@@ -7,14 +7,11 @@ pub mod ValuesOneWay
 pub mod SlotValues
 pub mod RowsOneWay
 pub mod Children
-pub mod EntriesOfMaps
 pub mod FormedRows
 pub mod OneApplication
 pub mod OneReading
-pub mod WithinLimits
 pub mod ToldRows
 pub mod ToldTexts
-pub mod WholeFiles
 pub mod OtherLimits
 pub mod PutComponents
 pub mod RootCalls

@@ -1,8 +1,8 @@
 -- What a rename and a reorder leave of a whole application.
 use Rattle.std.proofs.Common.{ℕ, ◌≡◌, ◌≢◌, ◌<◌, ◌≤◌, Bool, true, false, inl, inr, refl, sym, ◌∙◌, ap, subst, arith}
-use Rattle.std.specs.Prelude.{Option, Some, None, IfSome, IsTrue, is_some, not, ◌==◌, ◌&&◌, ◌||◌, List, [], ◌∷◌, length, map as map_list, nat_eq}
+use Rattle.std.specs.Prelude.{Option, Some, None, IfSome, IsTrue, is_some, not, ◌==◌, ◌&&◌, ◌||◌, List, [], ◌∷◌, length, map as map_list}
 use Rattle.std.specs.Option.{option_and_then, option_map_or}
-use Rattle.std.specs.List.{Contains, IsDistinct, list_any}
+use Rattle.std.specs.List.{IsDistinct, list_any}
 use Rattle.std.specs.Str.{bytes_eq}
 use Rattle.std.specs.FinMap as map
 use Rattle.std.proofs.lemmas.Bool.{cases_eq}
@@ -15,7 +15,7 @@ use Rattle.comp_tree.specs.Application.{Application, ById, Component, children_o
 use Rattle.comp_tree.specs.Edit.{over}
 use Rattle.comp_tree.specs.Edits.{after_rename, after_reorder, with_children, with_name}
 use Rattle.comp_tree.specs.Refusals.{are_each_once, are_the_children, first_refusal, ids_of, refusals_of_rename, refusals_of_reorder}
-use Rattle.comp_tree.specs.Shape.{IsTree, up_by}
+use Rattle.comp_tree.specs.Shape.{IsTree}
 use Rattle.comp_tree.specs.Whole.{Each, IsLink, IsOther, Whole}
 use Rattle.comp_tree.proofs.MapLemmas.{get_beside, get_put}
 use Rattle.comp_tree.proofs.ShapeLemmas.{In, in_to, once_from}
@@ -24,7 +24,8 @@ use Rattle.sed_value.proofs.Maps.{total_over}
 use Rattle.app_file.proofs.Names.{names_apart, names_differ, names_once, turned_bytes}
 use Rattle.app_file.proofs.PutComponents.{app_put, each_put, same_put, was_put}
 use Rattle.app_file.proofs.Refused.{AllFalse, all_false, not_false}
-use Rattle.app_file.proofs.Trees.{IsTreeOf, tree_of, tree_once, tree_parents, tree_reached}
+use Rattle.app_file.proofs.Trees.{IsTreeOf, ids_end, same_tree, tree_depths, tree_rooted}
+use Rattle.comp_tree.proofs.WithinLimits.{tree_of}
 
 -- ---- siblings, by the children of each id
 
@@ -80,43 +81,33 @@ module _ (m : Meaning) (a : Application) (whole : Whole m a) (id : ℕ) (c d : C
   values_same : Fits m.fields (m.fields c.class) (m.initial c.class) c.contents → Fits m.fields (m.fields d.class) (m.initial d.class) d.contents
   values_same fits = rw (class, contents) fits
 
+  few_ids : Each after (λ q c. q < most_components)
+  few_ids = each (λ q c. q < most_components) (was (λ q c. q < most_components) whole.ids) whole.ids
+
   pub whole_node : Whole m (record { components = record { by_id = after; statics = a.components.statics; limit = a.components.limit }; links = a.links })
   whole_node = record {
-    reached = tree_reached after tree;
-    once = tree_once after tree;
-    parents = tree_parents after tree;
-    app = app_put all id c d there m whole.app (λ e is. record { class = is.class ∙ ap Some (sym class); name = app_name e ∙ is.name; parent = parent ∙ is.parent });
-    others = each (λ q c. 0 < q → IsOther m c) (λ lt. other_same (was (λ q c. 0 < q → IsOther m c) whole.others lt)) whole.others;
-    names = each (λ q c. IsTrue (is_name c.name)) named whole.names;
-    siblings = siblings_to after (name_of after) siblings;
-    links = λ k e lt. link_same _ (whole.links k e lt);
-    order = whole.order;
-    values = each (λ q c. Fits m.fields (m.fields c.class) (m.initial c.class) c.contents) (values_same (was (λ q c. Fits m.fields (m.fields c.class) (m.initial c.class) c.contents) whole.values)) whole.values;
-    faults = each (λ q c. c.fault ≤ 5) (subst (λ (n : ℕ). n ≤ 5) (sym fault) (was (λ q c. c.fault ≤ 5) whole.faults)) whole.faults;
-    statics = whole.statics;
-    ids = each (λ q c. q < most_components) (was (λ q c. q < most_components) whole.ids) whole.ids;
-    children = each (λ q c. length c.children ≤ most_children) few whole.children;
+    formed = record {
+      tree = tree_rooted after tree;
+      app = app_put all id c d there m whole.formed.app (λ e is. record { class = is.class ∙ ap Some (sym class); name = app_name e ∙ is.name; parent = parent ∙ is.parent });
+      others = each (λ q c. 0 < q → IsOther m c) (λ lt. other_same (was (λ q c. 0 < q → IsOther m c) whole.formed.others lt)) whole.formed.others;
+      names = each (λ q c. IsTrue (is_name c.name)) named whole.formed.names;
+      siblings = siblings_to after (name_of after) siblings;
+      links = λ k e lt. link_same _ (whole.formed.links k e lt);
+      order = whole.formed.order;
+      values = each (λ q c. Fits m.fields (m.fields c.class) (m.initial c.class) c.contents) (values_same (was (λ q c. Fits m.fields (m.fields c.class) (m.initial c.class) c.contents) whole.formed.values)) whole.formed.values;
+      faults = each (λ q c. c.fault ≤ 5) (subst (λ (n : ℕ). n ≤ 5) (sym fault) (was (λ q c. c.fault ≤ 5) whole.formed.faults)) whole.formed.faults;
+      statics = whole.formed.statics;
+      ids = ids_end after few_ids;
+    };
+    ids = few_ids;
     link_count = whole.link_count;
+    depths = tree_depths after tree;
+    children = each (λ q c. length c.children ≤ most_children) few whole.children;
     links_at_each = whole.links_at_each;
     data_sizes = subst (λ (n : ℕ). n ≤ a.components.limit) (sym (total_over (λ (c : Component). m.data_size c.class) all id c d there (ap m.data_size (sym class)))) whole.data_sizes;
     least_limit = whole.least_limit;
     most_limit = whole.most_limit;
   }
-
--- ---- a tree told by the same functions
-
-same_tree : (first later : ById) → ((q : ℕ) → is_live later q ≡ is_live first q) → ((q : ℕ) → parent_of later q ≡ parent_of first q) → ((q : ℕ) → children_of later q ≡ children_of first q) → IsTreeOf first → IsTreeOf later
-same_tree first later live parent children tree = record {
-  app = live 0 ∙ tree.app;
-  root = parent 0 ∙ tree.root;
-  up = λ id above e. subst (λ (ids : List ℕ). Contains ids id) (sym (children above)) (tree.up id above (sym (parent id) ∙ e));
-  down = λ id above h. parent id ∙ tree.down id above (subst (λ (ids : List ℕ). Contains ids id) (children above) h);
-  once = λ above. subst (IsDistinct nat_eq) (sym (children above)) (tree.once above);
-  known = λ id above e. live id ∙ tree.known id above (sym (parent id) ∙ e);
-  within = λ id h.
-      let w = tree.within id (sym (live id) ∙ h) in
-      (w.0, w.1, ap (λ (p : ℕ → Option ℕ). up_by p w.0 id) (λ i q. parent q i) ∙ w.2);
-}
 
 -- ---- a rename
 
@@ -159,7 +150,7 @@ module _ (m : Meaning) (a : Application) (whole : Whole m a) (id : ℕ) (name : 
     -- no sibling has the name
     none_named : (q y : ℕ) → In id (children_of old q) → In y (children_of old q) → y ≢ id → bytes_eq (name_of old y) name ≡ false
     none_named q y h k ne =
-        let up : parent_of old id ≡ Some q = (whole.parents id q).1 (in_to (children_of old q) id h) in
+        let up : parent_of old id ≡ Some q = whole.formed.tree.down id q (in_to (children_of old q) id h) in
         let row = sym (ap (λ r. option_map_or (λ (parent : ℕ). list_any (λ child. not (child == id) && bytes_eq (name_of old child) name) (children_of old parent)) r false) up) ∙ table.1.1.0 in
         other_name y id (bytes_eq (name_of old y) name) (any_false (λ child. not (child == id) && bytes_eq (name_of old child) name) (children_of old q) row y k) ne
 
@@ -175,14 +166,14 @@ module _ (m : Meaning) (a : Application) (whole : Whole m a) (id : ℕ) (name : 
             ∙ none_named q x (subst (λ (z : ℕ). In z (children_of old q)) d k) h out
         | inr also ↦
             ap (λ (n : List ℕ). bytes_eq n (name_of new y)) (name_beside x out) ∙ ap (bytes_eq (name_of old x)) (name_beside y also)
-            ∙ names_apart (name_of old) (children_of old q) (siblings_from old (name_of old) whole.siblings q) x y h k ne
+            ∙ names_apart (name_of old) (children_of old q) (siblings_from old (name_of old) whole.formed.siblings q) x y h k ne
       ]
     ]
 
     siblings : (q : ℕ) → IsDistinct bytes_eq (map_list (name_of new) (children_of new q))
     siblings q =
         subst (λ (ids : List ℕ). IsDistinct bytes_eq (map_list (name_of new) ids)) (sym (children_same q))
-        (names_differ (name_of new) (children_of old q) (names_once (name_of old) (children_of old q) (siblings_from old (name_of old) whole.siblings q)) (apart q))
+        (names_differ (name_of new) (children_of old q) (names_once (name_of old) (children_of old q) (siblings_from old (name_of old) whole.formed.siblings q)) (apart q))
 
     tree : IsTreeOf new
     tree =
@@ -255,7 +246,7 @@ module _ (m : Meaning) (a : Application) (whole : Whole m a) (id : ℕ) (bytes :
         (subst (λ (parent : ℕ → Option ℕ). IsTree (is_live before) parent (children_of now)) (λ i q. sym (same_put before id c (with_children order c) at (λ r. option_and_then (λ (c : Component). c.parent) r) refl q) i) ordered)
 
     old_siblings : (q : ℕ) → IsDistinct bytes_eq (map_list (name_of before) (children_of before q))
-    old_siblings = siblings_from before (name_of before) whole.siblings
+    old_siblings = siblings_from before (name_of before) whole.formed.siblings
 
     siblings_now : (q : ℕ) → IsDistinct bytes_eq (map_list (name_of now) (children_of now q))
     siblings_now q =
@@ -277,7 +268,7 @@ module _ (m : Meaning) (a : Application) (whole : Whole m a) (id : ℕ) (bytes :
 
     reordered_whole : Whole m (record { components = record { by_id = now; statics = a.components.statics; limit = a.components.limit }; links = a.links })
     reordered_whole =
-        whole_node m a whole id c (with_children order c) at refl refl refl refl (λ e. refl) (was_put before id c c at (λ q c. IsTrue (is_name c.name)) whole.names)
+        whole_node m a whole id c (with_children order c) at refl refl refl refl (λ e. refl) (was_put before id c c at (λ q c. IsTrue (is_name c.name)) whole.formed.names)
         as_many tree_with siblings_now
 
   of_component : (o : Option Component) → map.get before id ≡ o

@@ -12,14 +12,15 @@ use Rattle.sed_engine.specs.Code.{Meaning, new_object, slot_value}
 use Rattle.sed_engine.specs.Whole.{HasTables}
 use Rattle.comp_tree.specs.Application.{Application, ById, Component, children_of, is_live, object_of}
 use Rattle.comp_tree.specs.Parts.{Kept, config_slots, kept_component, link_bytes, no_id, u1, u2, with_slots}
-use Rattle.app_file.specs.Formed.{IsFormed}
+use Rattle.comp_tree.specs.Whole.{IsFormed}
 use Rattle.app_file.specs.Reading.{StandsFor}
 use Rattle.app_file.specs.Rows.{Row, behind, row_of, rows_by, rows_of, sibling_behind}
 use Rattle.app_file.specs.Telling.{told_component}
 use Rattle.app_file.specs.Text.{IsTextOf, file_text, front_text, body_text, greatest_of, row_text}
 use Rattle.app_file.proofs.Children.{same_list}
 use Rattle.app_file.proofs.EighthByte.{of_one_kind}
-use Rattle.app_file.proofs.EntriesOfMaps.{get-map_values, tied_is}
+use Rattle.comp_tree.proofs.EntriesOfMaps.{tied_is}
+use Rattle.comp_tree.proofs.MapLemmas.{get-map_values}
 use Rattle.app_file.proofs.FormedRows.{contains_item, links_fit, rows_fit}
 use Rattle.app_file.proofs.OneWay.{same_front}
 use Rattle.app_file.proofs.ToldRows.{pairs}

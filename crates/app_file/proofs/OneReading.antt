@@ -7,13 +7,13 @@ use Rattle.sed_value.specs.declared.kit.KitRef.{KitRef}
 use Rattle.sed_engine.specs.Code.{Meaning}
 use Rattle.sed_engine.specs.Whole.{HasTables}
 use Rattle.comp_tree.specs.Application.{Application}
-use Rattle.app_file.specs.Limits.{limit_passed}
+use Rattle.comp_tree.specs.Limits.{limit_passed}
 use Rattle.app_file.specs.Reading.{CanBeTold, DifferAt, HasWrongKits, IsFile, IsFront, IsNoFile, IsOverLimit, IsReadAs, Reading, StandsFor, no_file, wrong_kits, over_limit, file}
 use Rattle.app_file.specs.Rows.{rows_of}
 use Rattle.app_file.specs.Text.{IsTextOf, body_text, greatest_of}
 use Rattle.app_file.proofs.FrontsOfFiles.{one_front}
 use Rattle.app_file.proofs.OneApplication.{one_application}
-use Rattle.app_file.proofs.WholeFiles.{AreShallow, formed, within}
+use Rattle.comp_tree.proofs.PassingNone.{within}
 
 -- ---- the first place that differs
 
@@ -59,9 +59,9 @@ front_of m a bytes tables told (inr old) = record {
 
 -- ---- what excludes what
 
-module _ (shallow : AreShallow) (m : Meaning) (limit : ℕ) (bytes : List ℕ) (tables : HasTables m) (told : CanBeTold m.schema) where
+module _ (m : Meaning) (limit : ℕ) (bytes : List ℕ) (tables : HasTables m) (told : CanBeTold m.schema) where
   stands : (a : Application) → IsFile m limit bytes a → StandsFor m limit bytes a
-  stands a is = record { formed = formed shallow m a is.whole; kept = is.kept; under = is.under; text = is.text }
+  stands a is = record { formed = is.whole.formed; kept = is.kept; under = is.under; text = is.text }
 
   no_file_or_kits : (p : ℕ) (f k : Option KitRef) → IsNoFile m limit bytes → HasWrongKits m bytes p f k → ⊥
   no_file_or_kits p f k (inl none) w = none w.version w.kits w.rest w.front
@@ -90,7 +90,7 @@ module _ (shallow : AreShallow) (m : Meaning) (limit : ℕ) (bytes : List ℕ) (
   limit_or_file : (which : ℕ) (a : Application) → IsOverLimit m limit bytes which → IsFile m limit bytes a → ⊥
   limit_or_file which a over is =
       let same = one_application m limit bytes over.application a tables told.numbers over.stands (stands a is) in
-      let no : ◌≡◌ {A = Option ℕ} (Some which) None = sym over.first ∙ ap (limit_passed m) same ∙ within shallow m a is.whole in
+      let no : ◌≡◌ {A = Option ℕ} (Some which) None = sym over.first ∙ ap (limit_passed m) same ∙ within m a is.whole in
       absurd (cc)
 
   one_limit : (which other : ℕ) → IsOverLimit m limit bytes which → IsOverLimit m limit bytes other → which ≡ other
@@ -117,6 +117,6 @@ module _ (shallow : AreShallow) (m : Meaning) (limit : ℕ) (bytes : List ℕ) (
   read_as_one (file a) (over_limit which) v w = absurd (limit_or_file which a w v)
   read_as_one (file a) (file b) v w = ap file (one_application m limit bytes a b tables told.numbers (stands a v) (stands b w))
 
-pub one_reading : AreShallow → (m : Meaning) (limit : ℕ) (bytes : List ℕ) (one other : Reading) → HasTables m → CanBeTold m.schema → IsReadAs m limit bytes one
+pub one_reading : (m : Meaning) (limit : ℕ) (bytes : List ℕ) (one other : Reading) → HasTables m → CanBeTold m.schema → IsReadAs m limit bytes one
     → IsReadAs m limit bytes other → one ≡ other
-one_reading shallow m limit bytes one other tables told v w = read_as_one shallow m limit bytes tables told one other v w
+one_reading m limit bytes one other tables told v w = read_as_one m limit bytes tables told one other v w

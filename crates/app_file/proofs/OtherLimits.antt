@@ -5,14 +5,12 @@ use Rattle.app_save.specs.Store.{IsStore, Opens as OpensTo}
 use Rattle.sed_engine.specs.Code.{Meaning}
 use Rattle.sed_engine.specs.Whole.{HasTables}
 use Rattle.comp_tree.specs.Application.{Application}
-use Rattle.comp_tree.specs.Whole.{Whole}
-use Rattle.app_file.specs.Formed.{IsFormed}
-use Rattle.app_file.specs.Limits.{under}
+use Rattle.comp_tree.specs.Whole.{IsFormed, Whole}
+use Rattle.comp_tree.specs.Limits.{under}
 use Rattle.app_file.specs.Opens.{Opens}
 use Rattle.app_file.specs.Reading.{CanBeTold, IsFile, StandsFor}
 use Rattle.app_file.specs.Text.{IsTextOf}
 use Rattle.app_file.proofs.OneApplication.{one_application}
-use Rattle.app_file.proofs.WholeFiles.{AreShallow, formed}
 
 -- ---- under another limit
 
@@ -46,21 +44,11 @@ module _ (m : Meaning) (other : ℕ) (a : Application) where
 
   whole_under : a.components.limit ≤ other → other ≤ 4194304 → Whole m a → Whole m (under other a)
   whole_under more most is = record {
-    reached = is.reached;
-    once = is.once;
-    parents = is.parents;
-    app = is.app;
-    others = is.others;
-    names = is.names;
-    siblings = is.siblings;
-    links = is.links;
-    order = is.order;
-    values = is.values;
-    faults = is.faults;
-    statics = is.statics;
+    formed = formed_under is.formed;
     ids = is.ids;
-    children = is.children;
     link_count = is.link_count;
+    depths = is.depths;
+    children = is.children;
     links_at_each = is.links_at_each;
     data_sizes = let sizes = is.data_sizes in omega (arith, sizes, more);
     least_limit = let least = is.least_limit in omega (arith, least, more);
@@ -89,9 +77,9 @@ opens_under_more m limit more image a is le most = record {
 
 -- ---- one application
 
-module _ (shallow : AreShallow) (m : Meaning) (limit other : ℕ) (a b : Application) (tables : HasTables m) (told : CanBeTold m.schema) where
+module _ (m : Meaning) (limit other : ℕ) (a b : Application) (tables : HasTables m) (told : CanBeTold m.schema) where
   stands : (limit : ℕ) (bytes : List ℕ) (c : Application) → IsFile m limit bytes c → StandsFor m limit bytes c
-  stands limit bytes c is = record { formed = formed shallow m c is.whole; kept = is.kept; under = is.under; text = is.text }
+  stands limit bytes c is = record { formed = is.whole.formed; kept = is.kept; under = is.under; text = is.text }
 
   pub one_file_under : (bytes : List ℕ) → IsFile m limit bytes a → IsFile m other bytes b → b ≡ under other a
   one_file_under bytes first second =

@@ -1,8 +1,8 @@
 -- A whole application in which one component has other values and another fault stays whole.
-use Rattle.std.proofs.Common.{ℕ, ◌≡◌, ◌<◌, ◌≤◌, ◌↔◌, Bool, inl, inr, refl, sym, ◌∙◌, ap, subst}
-use Rattle.std.specs.Prelude.{Option, Some, None, IfSome, IsSomeAnd, IsTrue, is_some, List, [], length, map as map_list, nat_eq}
+use Rattle.std.proofs.Common.{ℕ, ◌≡◌, ◌<◌, ◌≤◌, inl, inr, refl, sym, ◌∙◌, ap, subst}
+use Rattle.std.specs.Prelude.{Option, Some, None, IfSome, IsSomeAnd, IsTrue, is_some, List, [], length, map as map_list}
 use Rattle.std.specs.Option.{option_and_then, option_map_or}
-use Rattle.std.specs.List.{Contains, IsDistinct}
+use Rattle.std.specs.List.{IsDistinct}
 use Rattle.std.specs.Str.{bytes_eq}
 use Rattle.std.specs.FinMap as map
 use Rattle.std.proofs.lemmas.Bool.{cases_eq}
@@ -12,11 +12,11 @@ use Rattle.sed_engine.specs.Code.{Meaning, property_type, slot_form}
 use Rattle.sed_engine.specs.Fits.{Fits}
 use Rattle.sub_table.specs.Link.{Link}
 use Rattle.comp_tree.specs.Application.{Application, ById, Component, children_of, is_live, most_children, most_components, name_of, parent_of, type_at}
-use Rattle.comp_tree.specs.Order.{depth_first}
 use Rattle.comp_tree.specs.Whole.{Each, IsApp, IsLink, IsOther, Whole}
 use Rattle.comp_tree.proofs.MapLemmas.{get_beside, get_put}
-use Rattle.comp_tree.proofs.SubtreeLemmas.{down_is}
+use Rattle.comp_tree.proofs.WithinLimits.{tree_of}
 use Rattle.sed_value.proofs.Maps.{total_over}
+use Rattle.app_file.proofs.Trees.{IsTreeOf, ids_end, same_tree, tree_depths, tree_rooted}
 
 -- what is said of each component, of the one that stands there
 pub here : (P : Component → Type 0) (r : Option Component) (c : Component) → r ≡ Some c → IfSome r P → P c
@@ -94,8 +94,8 @@ module _ (m : Meaning) (a : Application) (whole : Whole m a) (id : ℕ) (c d : C
   type_same : (q slot : ℕ) → type_at m after q slot ≡ type_at m all q slot
   type_same q slot = ap property_type (same (λ r. option_and_then (λ (c : Component). slot_form m c.class slot) r) (ap (λ (k : ℕ). slot_form m k slot) class) q)
 
-  depth_same : depth_first after ≡ depth_first all
-  depth_same = down_is after (children_of all) children_same 17 0 ∙ sym (down_is all (children_of all) (λ q. refl) 17 0)
+  tree : IsTreeOf after
+  tree = same_tree all after live_same parent_same children_same (tree_of m a whole)
 
   link_same : (l : Link) → IsLink m all l → IsLink m after l
   link_same l is = record {
@@ -111,36 +111,37 @@ module _ (m : Meaning) (a : Application) (whole : Whole m a) (id : ℕ) (c d : C
   other_same is = record { component = rw class is.component; concrete = rw class is.concrete }
 
   app_there : IsSomeAnd (map.get after 0) (IsApp m)
-  app_there = app_put all id c d there m whole.app (λ e is. app_same is)
+  app_there = app_put all id c d there m whole.formed.app (λ e is. app_same is)
 
   -- of the component that stands there
   abbrev now : (P : ℕ → Component → Type 0) → Each all P → P id c
   now P were = was_put all id c d there P were
 
+  few_ids : Each after (λ q c. q < most_components)
+  few_ids = each (λ q c. q < most_components) (now (λ q c. q < most_components) whole.ids) whole.ids
+
   pub whole_put : Whole m (record { components = record { by_id = after; statics = statics; limit = a.components.limit }; links = a.links })
   whole_put = record {
-    reached = λ q.
-        subst (λ (b : Bool). IsTrue b ↔ Contains (depth_first after) q) (sym (live_same q))
-        (subst (λ (ids : List ℕ). IsTrue (is_live all q) ↔ Contains ids q) (sym depth_same) (whole.reached q));
-    once = subst (IsDistinct nat_eq) (sym depth_same) whole.once;
-    parents = λ q up.
-        subst (λ (r : Option ℕ). (r ≡ Some up) ↔ Contains (children_of after up) q) (sym (parent_same q))
-        (subst (λ (ids : List ℕ). (parent_of all q ≡ Some up) ↔ Contains ids q) (sym (children_same up)) (whole.parents q up));
-    app = app_there;
-    others = each (λ q c. 0 < q → IsOther m c) (λ lt. other_same (now (λ q c. 0 < q → IsOther m c) whole.others lt)) whole.others;
-    names = each (λ q c. IsTrue (is_name c.name)) (subst (λ (n : List ℕ). IsTrue (is_name n)) (sym name) (now (λ q c. IsTrue (is_name c.name)) whole.names)) whole.names;
-    siblings = subst (λ (names : ℕ → List ℕ). Each after (λ q c. IsDistinct bytes_eq (map_list names c.children))) (λ i q. sym (name_same q) i)
-        (each (λ q c. IsDistinct bytes_eq (map_list (name_of all) c.children))
-        (subst (λ (ids : List ℕ). IsDistinct bytes_eq (map_list (name_of all) ids)) (sym children) (now (λ q c. IsDistinct bytes_eq (map_list (name_of all) c.children)) whole.siblings))
-        whole.siblings);
-    links = λ k e lt. link_same _ (whole.links k e lt);
-    order = whole.order;
-    values = each (λ q c. Fits m.fields (m.fields c.class) (m.initial c.class) c.contents) values whole.values;
-    faults = each (λ q c. c.fault ≤ 5) fault whole.faults;
-    statics = fits;
-    ids = each (λ q c. q < most_components) (now (λ q c. q < most_components) whole.ids) whole.ids;
-    children = each (λ q c. length c.children ≤ most_children) (subst (λ (ids : List ℕ). length ids ≤ most_children) (sym children) (now (λ q c. length c.children ≤ most_children) whole.children)) whole.children;
+    formed = record {
+      tree = tree_rooted after tree;
+      app = app_there;
+      others = each (λ q c. 0 < q → IsOther m c) (λ lt. other_same (now (λ q c. 0 < q → IsOther m c) whole.formed.others lt)) whole.formed.others;
+      names = each (λ q c. IsTrue (is_name c.name)) (subst (λ (n : List ℕ). IsTrue (is_name n)) (sym name) (now (λ q c. IsTrue (is_name c.name)) whole.formed.names)) whole.formed.names;
+      siblings = subst (λ (names : ℕ → List ℕ). Each after (λ q c. IsDistinct bytes_eq (map_list names c.children))) (λ i q. sym (name_same q) i)
+          (each (λ q c. IsDistinct bytes_eq (map_list (name_of all) c.children))
+          (subst (λ (ids : List ℕ). IsDistinct bytes_eq (map_list (name_of all) ids)) (sym children) (now (λ q c. IsDistinct bytes_eq (map_list (name_of all) c.children)) whole.formed.siblings))
+          whole.formed.siblings);
+      links = λ k e lt. link_same _ (whole.formed.links k e lt);
+      order = whole.formed.order;
+      values = each (λ q c. Fits m.fields (m.fields c.class) (m.initial c.class) c.contents) values whole.formed.values;
+      faults = each (λ q c. c.fault ≤ 5) fault whole.formed.faults;
+      statics = fits;
+      ids = ids_end after few_ids;
+    };
+    ids = few_ids;
     link_count = whole.link_count;
+    depths = tree_depths after tree;
+    children = each (λ q c. length c.children ≤ most_children) (subst (λ (ids : List ℕ). length ids ≤ most_children) (sym children) (now (λ q c. length c.children ≤ most_children) whole.children)) whole.children;
     links_at_each = whole.links_at_each;
     data_sizes = subst (λ (n : ℕ). n ≤ a.components.limit) (sym (total_over (λ (c : Component). m.data_size c.class) all id c d there (ap m.data_size (sym class)))) whole.data_sizes;
     least_limit = whole.least_limit;

@@ -38,7 +38,8 @@ use Rattle.app_file.proofs.Names.{names_apart, names_differ}
 use Rattle.app_file.proofs.Nodes.{siblings_from, siblings_to}
 use Rattle.app_file.proofs.PutComponents.{app_put, each_put, same_put, was_put}
 use Rattle.app_file.proofs.Refused.{AllFalse, all_false, not_false}
-use Rattle.app_file.proofs.Trees.{IsTreeOf, tree_of, tree_once, tree_parents, tree_reached}
+use Rattle.app_file.proofs.Trees.{IsTreeOf, ids_end, tree_depths, tree_rooted}
+use Rattle.comp_tree.proofs.WithinLimits.{tree_of}
 use Rattle.app_file.proofs.Visits.{whole_calls}
 
 -- ---- sums over fewer
@@ -198,14 +199,14 @@ module _ (m : Meaning) (a : Application) (whole : Whole m a) (id : ℕ) (live : 
       let old_x = child_stays q x h in
       let old_y = child_stays q y g in
       ap (λ (n : List ℕ). bytes_eq n (name_of after y)) (name_same x old_x.1) ∙ ap (bytes_eq (name_of all x)) (name_same y old_y.1)
-      ∙ names_apart (name_of all) (children_of all q) (siblings_from all (name_of all) whole.siblings q) x y old_x.0 old_y.0 ne)
+      ∙ names_apart (name_of all) (children_of all q) (siblings_from all (name_of all) whole.formed.siblings q) x y old_x.0 old_y.0 ne)
 
   app_stays : IsSomeAnd (map.get after 0) (IsApp m)
   app_stays = elim (decide 0) [
     | inl h ↦ absurd (let no : false ≡ true = sym (ap is_some (gone 0 h)) ∙ left.app in cc)
     | inr out ↦
         subst (λ (r : Option Component). IsSomeAnd r (IsApp m)) (sym (stays 0 out))
-        (app_put all at k (without_child id k) holder.1 m whole.app (λ e is. record { class = is.class; name = is.name; parent = is.parent }))
+        (app_put all at k (without_child id k) holder.1 m whole.formed.app (λ e is. record { class = is.class; name = is.name; parent = is.parent }))
   ]
 
   not_gone : (q : ℕ) → list_any (λ other. q == other) ids ≡ false → In q (down_by (children_of all) 17 id) → ⊥
@@ -214,29 +215,34 @@ module _ (m : Meaning) (a : Application) (whole : Whole m a) (id : ℕ) (live : 
   abbrev class_same : (q : ℕ) → list_any (λ other. q == other) ids ≡ false → class_at after q ≡ class_at all q
   class_same q out = same (option_map (λ (c : Component). c.class)) refl q (not_gone q out)
 
+  few_ids : Each after (λ q c. q < most_components)
+  few_ids = each (λ q c. q < most_components) (was (λ q c. q < most_components) whole.ids) whole.ids
+
   pub whole_removed : Whole m (record { components = record { by_id = after; statics = a.components.statics; limit = a.components.limit }; links = without_links_at ids a.links })
   whole_removed = record {
-    reached = tree_reached after left;
-    once = tree_once after left;
-    parents = tree_parents after left;
-    app = app_stays;
-    others = each (λ q c. 0 < q → IsOther m c) (λ lt. let o = was (λ q c. 0 < q → IsOther m c) whole.others lt in record { component = o.component; concrete = o.concrete }) whole.others;
-    names = each (λ q c. IsTrue (is_name c.name)) (was (λ q c. IsTrue (is_name c.name)) whole.names) whole.names;
-    siblings = siblings_to after (name_of after) siblings;
-    links = λ n d lt.
-        let out = gone_links n d lt in
-        link_with_classes m all after (get_or (without_links_at ids a.links) n d) (class_same _ out.0) (class_same _ out.1)
-        (All-filter (λ (l : Link). not (list_any (λ other. (l.from == other) || (l.to == other)) ids)) (IsLink m all) a.links whole.links n d lt);
-    order = order;
-    values = each (λ q c. Fits m.fields (m.fields c.class) (m.initial c.class) c.contents) (was (λ q c. Fits m.fields (m.fields c.class) (m.initial c.class) c.contents) whole.values) whole.values;
-    faults = each (λ q c. c.fault ≤ 5) (was (λ q c. c.fault ≤ 5) whole.faults) whole.faults;
-    statics = whole.statics;
-    ids = each (λ q c. q < most_components) (was (λ q c. q < most_components) whole.ids) whole.ids;
-    children = each (λ q c. length c.children ≤ most_children)
-        (let few = was (λ q c. length c.children ≤ most_children) whole.children in let less = fewer_left (λ child. not (child == id)) k.children in omega arith) whole.children;
+    formed = record {
+      tree = tree_rooted after left;
+      app = app_stays;
+      others = each (λ q c. 0 < q → IsOther m c) (λ lt. let o = was (λ q c. 0 < q → IsOther m c) whole.formed.others lt in record { component = o.component; concrete = o.concrete }) whole.formed.others;
+      names = each (λ q c. IsTrue (is_name c.name)) (was (λ q c. IsTrue (is_name c.name)) whole.formed.names) whole.formed.names;
+      siblings = siblings_to after (name_of after) siblings;
+      links = λ n d lt.
+          let out = gone_links n d lt in
+          link_with_classes m all after (get_or (without_links_at ids a.links) n d) (class_same _ out.0) (class_same _ out.1)
+          (All-filter (λ (l : Link). not (list_any (λ other. (l.from == other) || (l.to == other)) ids)) (IsLink m all) a.links whole.formed.links n d lt);
+      order = order;
+      values = each (λ q c. Fits m.fields (m.fields c.class) (m.initial c.class) c.contents) (was (λ q c. Fits m.fields (m.fields c.class) (m.initial c.class) c.contents) whole.formed.values) whole.formed.values;
+      faults = each (λ q c. c.fault ≤ 5) (was (λ q c. c.fault ≤ 5) whole.formed.faults) whole.formed.faults;
+      statics = whole.formed.statics;
+      ids = ids_end after few_ids;
+    };
+    ids = few_ids;
     link_count = let halves = length-filter_both (λ (l : Link). not (list_any (λ other. (l.from == other) || (l.to == other)) ids)) (λ (l : Link). not (not (list_any (λ other. (l.from == other) || (l.to == other)) ids))) (λ l. refl) a.links in
         let few = whole.link_count in
         omega arith;
+    depths = tree_depths after left;
+    children = each (λ q c. length c.children ≤ most_children)
+        (let few = was (λ q c. length c.children ≤ most_children) whole.children in let less = fewer_left (λ child. not (child == id)) k.children in omega arith) whole.children;
     links_at_each = λ q. let less = fewer q in let few = whole.links_at_each q in omega arith;
     data_sizes =
         let f : Component → ℕ = λ c. m.data_size c.class in
@@ -274,4 +280,4 @@ module _ (m : Meaning) (code : IsWhole m) (a : Application) (whole : Whole m a) 
       subst (λ (ids : List ℕ). Whole m (record { components = after_delete m a.components id turns moment; links = without_links_at ids a.links }))
       (stopped_subtree m a.components stopped (subtree a.components.by_id id) turns moment refl id)
       (whole_removed m (record { components = stopped; links = a.links }) whole_stopped id live not_app
-      (gone_links (subtree stopped.by_id id) a.links) (order (subtree stopped.by_id id) a.links whole.order) (fewer (subtree stopped.by_id id) a.links))
+      (gone_links (subtree stopped.by_id id) a.links) (order (subtree stopped.by_id id) a.links whole.formed.order) (fewer (subtree stopped.by_id id) a.links))

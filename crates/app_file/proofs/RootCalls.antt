@@ -87,11 +87,11 @@ module _ (m : Meaning) (code : IsWhole m) where
     creatable : (id : ℕ) (c : Component) → map.get a.components.by_id id ≡ Some c → IsTrue (is_creatable m c.class)
     creatable id c there = elim (cases_eq id 0) [
       | inl e ↦
-          let app = some_is (map.get a.components.by_id 0) (IsApp m) whole.app in
+          let app = some_is (map.get a.components.by_id 0) (IsApp m) whole.formed.app in
           let one : app.0 ≡ c = some_one app.0 c (sym app.1 ∙ ap (map.get a.components.by_id) (sym e) ∙ there) in
           app_creatable c.class ((subst (IsApp m) one app.2).class)
       | inr ne ↦
-          let other = here (λ (c : Component). 0 < id → IsOther m c) (map.get a.components.by_id id) c there (whole.others id) (omega arith) in
+          let other = here (λ (c : Component). 0 < id → IsOther m c) (map.get a.components.by_id id) c there (whole.formed.others id) (omega arith) in
           creatable_class c.class other.component other.concrete
     ]
       where
@@ -101,7 +101,7 @@ module _ (m : Meaning) (code : IsWhole m) where
     pub object_fits : (id : ℕ) (c : Component) → map.get a.components.by_id id ≡ Some c → IsObject m (object_of c)
     object_fits id c there = record {
       creatable = creatable id c there;
-      fits = here (λ (c : Component). Fits m.fields (m.fields c.class) (m.initial c.class) c.contents) (map.get a.components.by_id id) c there (whole.values id);
+      fits = here (λ (c : Component). Fits m.fields (m.fields c.class) (m.initial c.class) c.contents) (map.get a.components.by_id id) c there (whole.formed.values id);
     }
 
     objects_fit : (id : ℕ) → IfSome (map.get a.components.by_id id) (λ (c : Component). IsObject m (object_of c))
@@ -119,7 +119,7 @@ module _ (m : Meaning) (code : IsWhole m) where
       ran c there false = whole
       ran c there true =
           let q : Question = asked_of (object_of c) a.components.statics which argument turns moment in
-          let fits = whole_leaves m code q (here (λ (c : Component). Fits m.fields (m.fields c.class) (m.initial c.class) c.contents) (map.get a.components.by_id id) c there (whole.values id)) whole.statics in
+          let fits = whole_leaves m code q (here (λ (c : Component). Fits m.fields (m.fields c.class) (m.initial c.class) c.contents) (map.get a.components.by_id id) c there (whole.formed.values id)) whole.formed.statics in
           whole_put m a whole id c (with_end c (m.root q)) there refl refl refl refl fits.0 (fault_fits q) (m.root q).statics fits.1
 
       ran_if : (r : Option Component) → map.get a.components.by_id id ≡ r
@@ -138,7 +138,7 @@ module _ (m : Meaning) (code : IsWhole m) where
       put_value id slot v None there may = whole
       put_value id slot v (Some c) there may =
           whole_put m a whole id c (with_value m slot v c) there refl refl refl refl (stored (object_of c) slot v (object_fits id c there) may).fits
-          (here (λ (c : Component). c.fault ≤ 5) (map.get a.components.by_id id) c there (whole.faults id)) a.components.statics whole.statics
+          (here (λ (c : Component). c.fault ≤ 5) (map.get a.components.by_id id) c there (whole.formed.faults id)) a.components.statics whole.formed.statics
 
       pub whole_store : (id slot : ℕ) (v : Value) → IsSomeAnd (map.get a.components.by_id id) (λ (c : Component). IsTrue (may_store m c.class slot v)) → Whole m (over a (store m a.components id slot v))
       whole_store id slot v may = put_value id slot v (map.get a.components.by_id id) refl may

@@ -14,7 +14,7 @@ use Rattle.sed_value.specs.Mapped.{on_values}
 use Rattle.comp_tree.specs.Parts.{config_slots, kept_by_id, kept_component, with_slots}
 use Rattle.app_file.specs.Rows.{Row, row_of, rows_by, rows_of}
 use Rattle.app_file.specs.Telling.{RowAgrees, RowsAgree, told_by, told_component, told_entries}
-use Rattle.app_file.proofs.EntriesOfMaps.{tied_is}
+use Rattle.comp_tree.proofs.EntriesOfMaps.{tied_is}
 
 -- what is read of each, beside it
 pub pairs : (f : ℕ → Value) (xs : List ℕ) → ◌≡◌ {A = List (ℕ × Value)} (map_list (λ x. (x, f x)) xs) (zip xs (map_list f xs))

@@ -10,12 +10,12 @@ use Rattle.std.proofs.lemmas.List.Elements.{All-from_recursion}
 use Rattle.sed_engine.specs.Code.{Meaning}
 use Rattle.comp_tree.specs.Application.{Application, Component, Link, children_of}
 use Rattle.comp_tree.specs.Parts.{Kept, config_slots, values_in}
-use Rattle.app_file.specs.Formed.{IsFormed}
+use Rattle.comp_tree.specs.Whole.{IsFormed}
 use Rattle.app_file.specs.Reading.{StandsFor}
 use Rattle.app_file.specs.Rows.{Row, row_of, rows_by, rows_of}
 use Rattle.app_file.specs.Telling.{RowAgrees, RowsAgree, ids_of_rows, told_application, told_by, told_component, told_entries, told_text}
 use Rattle.app_file.specs.Text.{HasShortNames, body_text, file_text, front_text, greatest_of}
-use Rattle.app_file.proofs.EntriesOfMaps.{entries_are_got}
+use Rattle.comp_tree.proofs.EntriesOfMaps.{entries_are_got}
 use Rattle.app_file.proofs.OneApplication.{kept_component_is, kept_is_told}
 use Rattle.app_file.proofs.ToldRows.{entries_are, rows_are_told, told_is_kept}
 

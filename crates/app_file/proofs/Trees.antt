@@ -1,76 +1,53 @@
--- A whole application is a tree, and what is a tree is reached from the App.
-use Rattle.std.proofs.Common.{ℕ, zero, suc, ◌≡◌, ◌<◌, ◌↔◌, inl, inr, refl, sym, ◌∙◌, ap, subst, arith}
-use Rattle.std.specs.Prelude.{Option, Some, None, IfSome, IsTrue, is_some, List, [], map as map_list, nat_eq}
-use Rattle.std.specs.Option.{option_and_then, option_map_or}
+-- What is a tree is rooted, and stands nowhere deeper than a tree may; and a tree told by the same functions is one.
+use Rattle.std.proofs.Common.{ℕ, ◌≡◌, ◌<◌, ◌≤◌, sym, ◌∙◌, ap, subst, arith}
+use Rattle.std.specs.Prelude.{Option, Some, None, IfSome, IsTrue, List, nat_eq}
 use Rattle.std.specs.List.{Contains, IsDistinct}
-use Rattle.std.specs.Str.{bytes_eq}
 use Rattle.std.specs.FinMap as map
-use Rattle.sed_engine.specs.Code.{Meaning}
-use Rattle.comp_tree.specs.Application.{Application, ById, Component, children_of, is_live, name_of, parent_of}
-use Rattle.comp_tree.specs.Order.{depth_first}
-use Rattle.comp_tree.specs.Shape.{IsTree, down_by, up_by}
-use Rattle.comp_tree.specs.Whole.{IsApp, Whole}
-use Rattle.comp_tree.proofs.ShapeLemmas.{In, all_reached, flat_in, in_from, in_to, once_to, only_live, reached_once, up_next}
-use Rattle.comp_tree.proofs.SubtreeLemmas.{down_is}
-use Rattle.app_file.proofs.Names.{names_once}
-use Rattle.app_file.proofs.PutComponents.{some_is}
+use Rattle.comp_tree.specs.Application.{ById, Component, children_of, greatest_depth, is_live, most_components, parent_of}
+use Rattle.comp_tree.specs.Order.{depth}
+use Rattle.comp_tree.specs.Parts.{no_id}
+use Rattle.comp_tree.specs.Shape.{IsRooted, IsTree, up_by}
+use Rattle.comp_tree.specs.Whole.{Each}
+use Rattle.comp_tree.proofs.DepthLemmas.{depth_is}
 
 abbrev pub IsTreeOf : ById → Type 0
 IsTreeOf all = IsTree (is_live all) (parent_of all) (children_of all)
 
-module _ (all : ById) where
-  listed : depth_first all ≡ down_by (children_of all) 17 0
-  listed = down_is all (children_of all) (λ q. refl) 17 0
+pub tree_rooted : (all : ById) → IsTreeOf all → IsRooted (is_live all) (parent_of all) (children_of all)
+tree_rooted all tree = record {
+  app = tree.app;
+  root = tree.root;
+  up = tree.up;
+  down = tree.down;
+  once = tree.once;
+  known = tree.known;
+  reached = λ id live. let w = tree.within id live in (w.0, w.2);
+}
 
-  -- ---- of a tree
+pub tree_depths : (all : ById) → IsTreeOf all → (id : ℕ) → IsTrue (is_live all id) → depth all id ≤ greatest_depth
+tree_depths all tree id live =
+    let w = tree.within id live in
+    let few : w.0 ≤ 16 = w.1 in
+    let deep : depth all id ≡ w.0 = depth_is (parent_of all) 17 w.0 id tree.root (omega (arith, few)) w.2 in
+    omega (arith, deep, few)
 
-  module _ (tree : IsTreeOf all) where
-    pub tree_reached : (id : ℕ) → IsTrue (is_live all id) ↔ Contains (depth_first all) id
-    tree_reached id = (
-      λ h. subst (λ (ids : List ℕ). Contains ids id) (sym listed) (in_to (down_by (children_of all) 17 0) id (all_reached (is_live all) (parent_of all) (children_of all) tree id h)),
-      λ h. only_live (is_live all) (parent_of all) (children_of all) tree id (in_from (down_by (children_of all) 17 0) id (subst (λ (ids : List ℕ). Contains ids id) listed h)),
-    )
+pub same_tree : (first later : ById) → ((q : ℕ) → is_live later q ≡ is_live first q) → ((q : ℕ) → parent_of later q ≡ parent_of first q) → ((q : ℕ) → children_of later q ≡ children_of first q) → IsTreeOf first → IsTreeOf later
+same_tree first later live parent children tree = record {
+  app = live 0 ∙ tree.app;
+  root = parent 0 ∙ tree.root;
+  up = λ id above e. subst (λ (ids : List ℕ). Contains ids id) (sym (children above)) (tree.up id above (sym (parent id) ∙ e));
+  down = λ id above h. parent id ∙ tree.down id above (subst (λ (ids : List ℕ). Contains ids id) (children above) h);
+  once = λ above. subst (IsDistinct nat_eq) (sym (children above)) (tree.once above);
+  known = λ id above e. live id ∙ tree.known id above (sym (parent id) ∙ e);
+  within = λ id h.
+      let w = tree.within id (sym (live id) ∙ h) in
+      (w.0, w.1, ap (λ (p : ℕ → Option ℕ). up_by p w.0 id) (λ i q. parent q i) ∙ w.2);
+}
 
-    pub tree_once : IsDistinct nat_eq (depth_first all)
-    tree_once = subst (IsDistinct nat_eq) (sym listed) (once_to (down_by (children_of all) 17 0) (reached_once (is_live all) (parent_of all) (children_of all) tree))
-
-    pub tree_parents : (id up : ℕ) → (parent_of all id ≡ Some up) ↔ Contains (children_of all up) id
-    tree_parents id up = (tree.up id up, tree.down id up)
-
-  -- ---- of a whole application
-
-  -- what stands below comes up in fewer steps than there are levels
-  up_from : ((id above : ℕ) → In id (children_of all above) → parent_of all id ≡ Some above) → (k x id : ℕ) → In id (down_by (children_of all) k x) → (n : ℕ) × (n < k) × (up_by (parent_of all) n id ≡ Some x)
-  unfolding down_by
-  up_from down zero x id never = absurd never
-  up_from down (suc k) x id (inl e) = (zero, omega arith, ap Some e)
-  up_from down (suc k) x id (inr h) =
-      let c = flat_in (down_by (children_of all) k) id (children_of all x) h in
-      let r = up_from down k c.0 id c.2 in
-      (suc r.0, let lt = r.1 in omega arith, up_next (parent_of all) r.0 id c.0 r.2 ∙ down c.0 x c.1)
-
-  with_parent : (o : Option Component) (above : ℕ) → option_and_then (λ (c : Component). c.parent) o ≡ Some above → IsTrue (is_some o)
-  with_parent None above is = absurd (let no : ◌≡◌ {A = Option ℕ} None (Some above) = is in cc)
-  with_parent (Some c) above is = refl
-
-  once_in : (names : ℕ → List ℕ) (o : Option Component) → IfSome o (λ (c : Component). IsDistinct bytes_eq (map_list names c.children)) → IsDistinct nat_eq (option_map_or (λ (c : Component). c.children) o [])
-  once_in names None siblings = once_to [] tt
-  once_in names (Some c) siblings = once_to c.children (names_once names c.children siblings)
-
-pub tree_of : (m : Meaning) (a : Application) → Whole m a → IsTreeOf a.components.by_id
-tree_of m a whole =
-    let all = a.components.by_id in
-    let app = some_is (map.get all 0) (IsApp m) whole.app in
-    record {
-      app = ap is_some app.1;
-      root = ap (option_and_then (λ (c : Component). c.parent)) app.1 ∙ app.2.parent;
-      up = λ id above. (whole.parents id above).0;
-      down = λ id above. (whole.parents id above).1;
-      once = λ above. once_in all (name_of all) (map.get all above) (whole.siblings above);
-      known = λ id above is. with_parent all (map.get all id) above is;
-      within = λ id live.
-          let r = up_from all (λ x above h. (whole.parents x above).1 (in_to (children_of all above) x h)) 17 0 id
-          (in_from (down_by (children_of all) 17 0) id (subst (λ (ids : List ℕ). Contains ids id) (listed all) ((whole.reached id).0 live)))
-          in
-          (r.0, let lt = r.1 in omega arith, r.2);
-    }
+-- ids below the limit are none that ends a list
+pub ids_end : (all : ById) → Each all (λ id c. id < most_components) → Each all (λ id c. id < no_id)
+ids_end all below id = by_component (map.get all id) (below id)
+  where
+    by_component : (r : Option Component) → IfSome r (λ (c : Component). id < most_components) → IfSome r (λ (c : Component). id < no_id)
+    by_component None below = tt
+    by_component (Some c) below = omega (arith, below)

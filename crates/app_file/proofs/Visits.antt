@@ -38,7 +38,7 @@ module _ (m : Meaning) (code : IsWhole m) (stored : (o : Object) (slot : ℕ) (v
   whole_copies [] among s whole = whole
   whole_copies (l ∷ some) among s whole =
       whole_copies some (λ P all. All-tail P l some (among P all)) (copy_along m turns moment s l)
-      (whole_along s l whole (All-head (IsLink m s.left.by_id) l some (among (IsLink m s.left.by_id) whole.links)))
+      (whole_along s l whole (All-head (IsLink m s.left.by_id) l some (among (IsLink m s.left.by_id) whole.formed.links)))
 
   whole_visit : (s : Counted) (id : ℕ) → Whole m (with s.left) → Whole m (with (visit m links turns moment s id).left)
   whole_visit s id whole =

@@ -1,7 +1,5 @@
 pub mod Rows
 pub mod Text
-pub mod Formed
-pub mod Limits
 pub mod Reading
 pub mod Telling
 pub mod Opens

@@ -10,9 +10,8 @@ use Rattle.sed_typed.specs.declared.schema.Schema.{Schema}
 use Rattle.sed_engine.specs.Code.{Meaning}
 use Rattle.comp_tree.specs.Application.{Application}
 use Rattle.comp_tree.specs.Parts.{Kept}
-use Rattle.comp_tree.specs.Whole.{Whole}
-use Rattle.app_file.specs.Formed.{IsFormed}
-use Rattle.app_file.specs.Limits.{limit_passed}
+use Rattle.comp_tree.specs.Whole.{IsFormed, Whole}
+use Rattle.comp_tree.specs.Limits.{limit_passed}
 use Rattle.app_file.specs.Text.{IsTextOf, front_text, old_version, version as new_version}
 use Rattle.app_file.specs.declared.refusal.AppRefusal.{AppRefusal}
 use Rattle.app_file.specs.declared.refusal.AppRefusal.TheVariants.{NotAnApp, WrongKits, OverLimit, Memory}

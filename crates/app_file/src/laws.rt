@@ -1,14 +1,12 @@
 //! Laws of the texts of applications. Each is the contract of a function that does nothing.
-ghost use Rattle.std.specs.Prelude.{◌≡◌, ◌≤◌, ℕ, List, None};
+ghost use Rattle.std.specs.Prelude.{◌≡◌, ◌≤◌, ℕ, List};
 ghost use Rattle.sed_value.specs.declared.kit.KitRef.{KitRef};
 ghost use Rattle.disk_model.specs.Disk.{Image};
 ghost use Rattle.sed_engine.specs.Code.{Meaning};
 ghost use Rattle.sed_engine.specs.Whole.{HasTables};
-ghost use Rattle.comp_tree.specs.Application.{Application, Link, children_of, is_live, parent_of};
-ghost use Rattle.comp_tree.specs.Shape.{IsTree};
-ghost use Rattle.comp_tree.specs.Whole.{Whole};
-ghost use Rattle.app_file.specs.Formed.{IsFormed};
-ghost use Rattle.app_file.specs.Limits.{limit_passed, under};
+ghost use Rattle.comp_tree.specs.Application.{Application, Link, children_of};
+ghost use Rattle.comp_tree.specs.Whole.{IsFormed};
+ghost use Rattle.comp_tree.specs.Limits.{under};
 ghost use Rattle.app_file.specs.Opens.{Opens};
 ghost use Rattle.app_file.specs.Reading.{CanBeTold, IsFile, IsFront, IsReadAs, Reading, StandsFor};
 ghost use Rattle.app_file.specs.Rows.{Row, rows_of};
@@ -16,7 +14,6 @@ ghost use Rattle.app_file.specs.Telling.{RowsAgree, told_application, told_by, t
 ghost use Rattle.app_file.specs.Text.{AppText, HasShortNames, OldText, old_version, version};
 
 use app_save::stores_open_to_one;
-use comp_tree::{trees_are_walked_once, walked_ids_are_shallow};
 
 /// No bytes are a text of both kinds.
 pub fn texts_are_of_one_kind()
@@ -39,28 +36,7 @@ pub fn texts_stand_for_one()
 pub fn bytes_are_read_as_one()
     ensures { (m : Meaning) (limit : ℕ) (bytes : List ℕ) (one other : Reading) → HasTables m → CanBeTold m.schema
         → IsReadAs m limit bytes one → IsReadAs m limit bytes other → one ≡ other }
-{
-    walked_ids_are_shallow();
-}
-
-/// An application that is formed and passes no limit is a tree of at most 16 levels below the App, and it is whole.
-pub fn what_passes_no_limit_is_whole()
-    ensures tree { (m : Meaning) (a : Application) → IsFormed m a → limit_passed m a ≡ None
-        → IsTree (is_live a.components.by_id) (parent_of a.components.by_id) (children_of a.components.by_id) }
-    ensures whole { (m : Meaning) (a : Application) → IsFormed m a → limit_passed m a ≡ None → 1 ≤ a.components.limit
-        → a.components.limit ≤ 4194304 → Whole m a }
-{
-    trees_are_walked_once();
-}
-
-/// An application that is whole is formed, and passes no limit: so a file is the text of a kept application that is
-/// whole, and no more is asked.
-pub fn what_is_whole_passes_no_limit()
-    ensures formed { (m : Meaning) (a : Application) → Whole m a → IsFormed m a }
-    ensures within { (m : Meaning) (a : Application) → Whole m a → limit_passed m a ≡ None }
-{
-    walked_ids_are_shallow();
-}
+{}
 
 /// What is read under a data limit is read under each larger one that there may be, and what a store opens to under
 /// the one it opens to under the other: the same application, but with that limit. Bytes stand for the same application
@@ -77,7 +53,6 @@ pub fn a_larger_data_limit_reads_the_same()
     ensures one_opened { (m : Meaning) (limit other : ℕ) (image : Image) (a b : Application) → HasTables m
         → CanBeTold m.schema → Opens m limit image a → Opens m other image b → b ≡ under other a }
 {
-    walked_ids_are_shallow();
     stores_open_to_one();
 }
 

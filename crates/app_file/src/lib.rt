@@ -25,6 +25,5 @@ pub use kept::texts_are_files_of_what_is_kept;
 pub use laws::{
     a_larger_data_limit_reads_the_same, bytes_are_read_as_one, fronts_are_one,
     rows_tell_of_applications, texts_are_of_one_kind, texts_stand_for_one,
-    what_is_whole_passes_no_limit, what_passes_no_limit_is_whole,
 };
 pub use refusal::AppRefusal;

@@ -6,7 +6,7 @@ use Rattle.std.specs.List.{Contains, IsDistinct}
 use Rattle.std.proofs.lemmas.Bool.Decides.{nat_tests}
 use Rattle.std.proofs.lemmas.Option.{slice_get_within, slice_get-get_or, slice_get_past, slice_get-map, same_Some as some_is}
 use Rattle.comp_tree.specs.Shape.{up_by}
-use Rattle.app_file.specs.Formed.{IsRooted}
+use Rattle.comp_tree.specs.Shape.{IsRooted}
 use Rattle.app_file.specs.Rows.{behind, sibling_behind}
 use Rattle.app_file.proofs.Children.{next_item}
 use Rattle.app_front.specs.Chains.{AreLists, IsChain, IsChild, LacksChain, next_at}

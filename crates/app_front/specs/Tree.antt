@@ -2,7 +2,7 @@
 use Rattle.std.specs.Prelude.{ℕ, ◌≡◌, false, List, [], map as map_list, slice_get}
 use Rattle.std.specs.List.{All}
 use Rattle.std.specs.Option.{option_map_or}
-use Rattle.app_file.specs.Formed.{IsRooted}
+use Rattle.comp_tree.specs.Shape.{IsRooted}
 use Rattle.app_file.specs.Rows.{sibling_behind}
 use Rattle.app_front.specs.TreeRows.{id_at, is_row, parent_in, place_of}
 use Rattle.app_front.specs.declared.tree_rows.TreeRow.{TreeRow}

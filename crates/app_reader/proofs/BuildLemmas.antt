@@ -15,8 +15,8 @@ use Rattle.comp_tree.specs.declared.loaded.Loaded.{Loaded}
 use Rattle.app_front.specs.TreeRows.{Ascend, place_of}
 use Rattle.app_front.specs.Tree.{list_at}
 use Rattle.app_front.specs.declared.tree_rows.TreeRow.{TreeRow}
-use Rattle.app_file.specs.Formed.{IsFormed}
-use Rattle.app_file.specs.Limits.{limit_passed}
+use Rattle.comp_tree.specs.Limits.{limit_passed}
+use Rattle.comp_tree.specs.Whole.{IsFormed}
 use Rattle.app_front.specs.Rows.{IsToldRow}
 use Rattle.app_front.specs.declared.rows.FileRow.{FileRow}
 use Rattle.app_reader.specs.FormedFile.{IsAppRow, IsOtherRow, tree_row, tree_rows}

@@ -14,11 +14,10 @@ use Rattle.sed_engine.specs.Code.{Meaning, slot_type}
 use Rattle.sed_engine.specs.Whole.{HasTables}
 use Rattle.comp_tree.specs.Application.{Application, Component, Link, children_of}
 use Rattle.comp_tree.specs.Parts.{config_slots, no_id}
-use Rattle.comp_tree.specs.Whole.{IsLink}
-use Rattle.app_file.specs.Formed.{IsFormed}
+use Rattle.comp_tree.specs.Whole.{IsFormed, IsLink}
 use Rattle.app_file.specs.Rows.{Row, row_of, rows_by, rows_of, sibling_behind}
 use Rattle.app_file.specs.Text.{greatest_of}
-use Rattle.app_file.proofs.EntriesOfMaps.{entries_are_got}
+use Rattle.comp_tree.proofs.EntriesOfMaps.{entries_are_got}
 use Rattle.app_file.proofs.FormedRows.{link_fits, row_fits, small_id}
 use Rattle.app_file.proofs.ValuesOneWay.{AreTyped}
 use Rattle.app_front.specs.Rows.{AreOfTypes, IsToldId, IsToldLink, IsToldRow, number_of_id, told_row}

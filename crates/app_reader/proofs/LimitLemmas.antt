@@ -5,7 +5,7 @@ use Rattle.std.specs.List.{list_any}
 use Rattle.std.proofs.lemmas.Bool.Decides.{nat_tests}
 use Rattle.sed_engine.specs.Code.{Meaning}
 use Rattle.comp_tree.specs.Application.{data_size_of}
-use Rattle.app_file.specs.Limits.{first_passed, limit_passed, limits_passed}
+use Rattle.comp_tree.specs.Limits.{first_passed, limit_passed, limits_passed}
 use Rattle.app_reader.specs.FormedFile.{tree_rows}
 use Rattle.app_reader.specs.Passed.{passed_by}
 use Rattle.app_reader.specs.Ready.{application_told, components_told}

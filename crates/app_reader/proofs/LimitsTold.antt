@@ -15,7 +15,7 @@ use Rattle.comp_tree.specs.Parts.{links_at}
 use Rattle.app_front.specs.TreeRows.{Ascend, id_at, parent_in}
 use Rattle.app_front.specs.Tree.{children_in, list_at}
 use Rattle.app_front.specs.declared.tree_rows.TreeRow.{TreeRow}
-use Rattle.app_file.specs.Limits.{limits_passed}
+use Rattle.comp_tree.specs.Limits.{limits_passed}
 use Rattle.app_file.specs.Telling.{told_application, told_by, told_entries}
 use Rattle.app_front.specs.Rows.{told_row}
 use Rattle.app_front.specs.declared.rows.FileRow.{FileRow}

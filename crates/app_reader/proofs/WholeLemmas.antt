@@ -3,10 +3,9 @@ use Rattle.std.proofs.Common.{◌≡◌, ℕ, ◌<◌, ◌≤◌, List}
 use Rattle.std.specs.Prelude.{None}
 use Rattle.sed_engine.specs.Code.{Meaning}
 use Rattle.comp_tree.specs.Application.{Application, data_size_of}
-use Rattle.comp_tree.specs.Whole.{Whole}
+use Rattle.comp_tree.specs.Whole.{IsFormed, Whole}
 use Rattle.link_prop.specs.Linked.{AreLinked}
-use Rattle.app_file.specs.Formed.{IsFormed}
-use Rattle.app_file.specs.Limits.{limit_passed}
+use Rattle.comp_tree.specs.Limits.{limit_passed}
 use Rattle.app_file.specs.Reading.{IsFile, IsOverLimit, StandsFor}
 use Rattle.app_reader.specs.Ready.{AreReady, application_told, components_told}
 use Rattle.app_reader.specs.declared.ready.FormedRows.{FormedRows}
@@ -24,7 +23,7 @@ module _ (m : Meaning) (limit : ℕ) (rows : FormedRows) (ready : AreReady m row
     whole_told = wholes (application_told m limit rows) (ready.application limit) (passes_none m rows limits limit ready.few fits) least most
 
     pub links_told : AreLinked m (components_told m rows) rows.file.links
-    links_told = record { typed = whole_told.links; at_each = whole_told.links_at_each }
+    links_told = record { typed = whole_told.formed.links; at_each = whole_told.links_at_each }
 
     pub file_told : (bytes : List ℕ) → StandsFor m limit bytes (application_told m limit rows) → IsFile m limit bytes (application_told m limit rows)
     file_told bytes stands = record { whole = whole_told; kept = stands.kept; under = stands.under; text = stands.text }

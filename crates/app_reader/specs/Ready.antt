@@ -6,8 +6,8 @@ use Rattle.sed_engine.specs.Code.{Meaning}
 use Rattle.comp_tree.specs.Application.{Application, ById, Components}
 use Rattle.app_front.specs.Reached.{StayWithin}
 use Rattle.app_front.specs.Tree.{children_in}
-use Rattle.app_file.specs.Formed.{IsFormed}
-use Rattle.app_file.specs.Limits.{first_passed}
+use Rattle.comp_tree.specs.Limits.{first_passed}
+use Rattle.comp_tree.specs.Whole.{IsFormed}
 use Rattle.app_file.specs.Telling.{told_application, told_by}
 use Rattle.app_front.specs.Rows.{IsToldRow}
 use Rattle.app_reader.specs.FormedFile.{IsFormedFile, tree_rows}

@@ -4,7 +4,7 @@ use Rattle.std.specs.FinMap as map
 use Rattle.sed_engine.specs.Code.{Meaning}
 use Rattle.comp_tree.specs.Application.{Application}
 use Rattle.comp_tree.specs.Parts.{Kept}
-use Rattle.app_file.specs.Formed.{IsFormed}
+use Rattle.comp_tree.specs.Whole.{IsFormed}
 use Rattle.app_file.specs.Rows.{Row, rows_of}
 use Rattle.app_file.specs.Text.{HasShortNames, greatest_of, old_version}
 use Rattle.app_front.specs.Rows.{AreRows, told_row}

@@ -9,8 +9,7 @@ ghost use Rattle.app_reader.specs.Ready.{AreReady, components_told, tree_with};
 use crate::entries::entries;
 use crate::limits_of_rows_are_those_told;
 use crate::ready::FormedRows;
-use app_file::what_passes_no_limit_is_whole;
-use comp_tree::Tree;
+use comp_tree::{Tree, what_passes_no_limit_is_whole};
 use sed_engine::{AddRefusal, Engine};
 use std::alloc::Global;
 

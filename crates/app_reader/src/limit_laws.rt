@@ -2,7 +2,7 @@
 ghost use Rattle.std.specs.Prelude.{◌≡◌, ◌∷◌, [], ◌++◌, ℕ, List, length, nat_lt};
 ghost use Rattle.sed_engine.specs.Code.{Meaning};
 ghost use Rattle.comp_tree.specs.Application.{data_size_of};
-ghost use Rattle.app_file.specs.Limits.{limits_passed};
+ghost use Rattle.comp_tree.specs.Limits.{limits_passed};
 ghost use Rattle.app_file.specs.Telling.{told_application, told_by};
 ghost use Rattle.app_front.specs.declared.rows.FileRows.{FileRows};
 ghost use Rattle.app_front.specs.Tree.{IsTreeOf, children_in};

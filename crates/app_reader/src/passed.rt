@@ -3,7 +3,7 @@ ghost use Rattle.std.specs.Prelude.{◌≡◌, ◌≤◌, ◌==◌, ◌||◌, na
 ghost use Rattle.std.specs.List.{list_any};
 ghost use Rattle.sub_table.specs.Link.{Link};
 ghost use Rattle.sub_table.specs.Links.{links_at};
-ghost use Rattle.app_file.specs.Limits.{first_passed};
+ghost use Rattle.comp_tree.specs.Limits.{first_passed};
 ghost use Rattle.app_front.specs.TreeRows.{Ascend};
 ghost use Rattle.app_front.specs.declared.tree_rows.TreeRow.{TreeRow as AnyRow};
 ghost use Rattle.app_reader.specs.Passed.{depth_in, passed_by};

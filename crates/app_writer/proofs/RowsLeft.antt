@@ -11,7 +11,7 @@ use Rattle.comp_tree.specs.Application.{ById, Component, children_of, is_live}
 use Rattle.comp_tree.specs.Told.{IsGreatest}
 use Rattle.app_file.specs.Rows.{row_of, rows_by}
 use Rattle.app_file.specs.Text.{greatest_of, row_text}
-use Rattle.app_file.proofs.EntriesOfMaps.{entries_are_got}
+use Rattle.comp_tree.proofs.EntriesOfMaps.{entries_are_got}
 use Rattle.sed_wire.specs.declared.writer.Writer.{Writer}
 use Rattle.app_parts.proofs.SoFar.{SoFar, none_yet}
 use Rattle.app_writer.specs.Written.{row_at, rows_text}

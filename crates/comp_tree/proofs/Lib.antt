@@ -19,3 +19,6 @@ pub mod MarkCalls
 pub mod MarkDelete
 pub mod FitLemmas
 pub mod WalkedTrees
+pub mod EntriesOfMaps
+pub mod WithinLimits
+pub mod PassingNone

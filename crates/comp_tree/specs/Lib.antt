@@ -8,8 +8,9 @@ pub mod Refusals
 pub mod Edits
 pub mod Cycle
 pub mod Edit
-pub mod Whole
 pub mod Shape
+pub mod Whole
+pub mod Limits
 pub mod Held
 pub mod Told
 pub mod Allowed

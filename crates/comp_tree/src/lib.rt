@@ -21,6 +21,9 @@ mod siblings;
 pub mod tree;
 
 pub use entry::Entry;
-pub use laws::{trees_are_walked_once, walked_ids_are_shallow};
+pub use laws::{
+    trees_are_walked_once, walked_ids_are_shallow, what_is_whole_passes_no_limit,
+    what_passes_no_limit_is_whole,
+};
 pub use loaded::Loaded;
 pub use tree::Tree;

@@ -16,8 +16,7 @@ use Rattle.sed_engine.specs.Code.{Meaning, Question}
 use Rattle.sed_engine.specs.Program.{meaning_of, shape_of}
 use Rattle.sed_engine.specs.Root.{RootEnd}
 use Rattle.comp_tree.specs.Application.{Application, ById, Component, Link}
-use Rattle.comp_tree.specs.Whole.{IsApp, IsLink, IsOther, Whole}
-use Rattle.app_file.specs.Formed.{IsFormed}
+use Rattle.comp_tree.specs.Whole.{IsApp, IsFormed, IsLink, IsOther, Whole}
 use Rattle.app_file.specs.Reading.{HasNoBody, IsFile, IsReadAs, Reading, StandsFor, no_file, wrong_kits, over_limit, file}
 use Rattle.app_file.specs.Text.{IsTextOf}
 use Rattle.sed_check.specs.Refusals.{AreAlike}
@@ -71,21 +70,11 @@ module _ (schema : Schema) (shapes : ℕ → List Shape) (slot_field : ℕ → �
 
   whole_alike : (r t : Question → RootEnd) (a : Application) → Whole (code r) a → Whole (code t) a
   whole_alike r t a is = record {
-    reached = is.reached;
-    once = is.once;
-    parents = is.parents;
-    app = some_and (by.get a.components.by_id 0) (IsApp (code r)) (IsApp (code t)) (app_alike r t) is.app;
-    others = λ id. if_some (by.get a.components.by_id id) _ _ (λ c other some. other_alike r t c (other some)) (is.others id);
-    names = is.names;
-    siblings = is.siblings;
-    links = All-weaker (IsLink (code r) a.components.by_id) (IsLink (code t) a.components.by_id) (link_alike r t a.components.by_id) a.links is.links;
-    order = is.order;
-    values = is.values;
-    faults = is.faults;
-    statics = is.statics;
+    formed = formed_alike r t a is.formed;
     ids = is.ids;
-    children = is.children;
     link_count = is.link_count;
+    depths = is.depths;
+    children = is.children;
     links_at_each = is.links_at_each;
     data_sizes = is.data_sizes;
     least_limit = is.least_limit;

@@ -12,9 +12,9 @@ returns-clause-opens c = opens_under_more
 
 pub returns-clause-one_file : goal.returns-clause-one_file
 returns-clause-one_file c = λ m limit other bytes a b tables told.
-    one_file_under c.walked_ids_are_shallow.ensures m limit other a b tables told bytes
+    one_file_under m limit other a b tables told bytes
 
 pub returns-clause-one_opened : goal.returns-clause-one_opened
 returns-clause-one_opened c = λ m limit other image a b tables told.
-    one_opened_under c.walked_ids_are_shallow.ensures m limit other a b tables told c.stores_open_to_one.ensures.slot
+    one_opened_under m limit other a b tables told c.stores_open_to_one.ensures.slot
     c.stores_open_to_one.ensures.payload image

@@ -2,4 +2,4 @@ use Rattle.app_file.proofs.OneReading.{one_reading}
 use Rattle.app_file.proofs.laws.bytes_are_read_as_one.Goals as goal
 
 pub returns : goal.returns
-returns c = one_reading c.walked_ids_are_shallow.ensures
+returns c = one_reading

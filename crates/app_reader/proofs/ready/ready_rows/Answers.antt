@@ -1,7 +1,7 @@
 use Rattle.std.proofs.Common.{◌≡◌, Err, sym, ap, subst, ◌∙◌}
 use Rattle.std.specs.Prelude.{None, Some}
 use Rattle.app_front.specs.TreeRows.{Ascend}
-use Rattle.app_file.specs.Limits.{first_passed}
+use Rattle.comp_tree.specs.Limits.{first_passed}
 use Rattle.app_reader.specs.FormedFile.{tree_rows}
 use Rattle.app_reader.specs.Passed.{passed_by}
 use Rattle.app_reader.specs.Ready.{application_told, children_told}

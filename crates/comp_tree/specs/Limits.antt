@@ -1,4 +1,4 @@
--- The limits that a file may pass, and applications under another limit of data.
+-- The limits that an application may pass, and applications under another limit of data.
 use Rattle.std.specs.Prelude.{ℕ, Bool, nat_le, nat_lt, if◌then◌else◌, List, [], ◌∷◌, length, Option, Some, None}
 use Rattle.std.specs.List.{list_any}
 use Rattle.std.specs.FinMap as map

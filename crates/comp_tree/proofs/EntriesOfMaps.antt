@@ -7,7 +7,6 @@ use Rattle.std.specs.FinMap.{FinMap, find, is_sorted}
 use Rattle.std.specs.FinMap.Entries.{below_all}
 use Rattle.std.specs.Ordering.{nat_cmp, eq_by_cmp, is_lt}
 use Rattle.std.proofs.lemmas.Bool.Decides.{nat_tests}
-pub use Rattle.comp_tree.proofs.MapLemmas.{get-map_values}
 use Rattle.sed_value.proofs.Orders.{tied_same, tied_apart, below_is}
 
 pub tied_is : (a b : ℕ) → eq_by_cmp nat_cmp a b ≡ true → a ≡ b

@@ -1,8 +1,8 @@
--- What passes no limit.
+-- What is formed and passes no limit is a tree, and it is whole.
 use Rattle.std.proofs.Common.{◌≡◌, ℕ, zero, suc, ◌<◌, ◌≤◌, ◌⊎◌, inl, inr, Bool, true, false, IsTrue, List, [], ◌∷◌, length, refl, sym, subst, ◌∙◌, ap, arith}
-use Rattle.std.specs.Prelude.{Option, Some, None, IfSome, is_some, nat_eq, nat_le, nat_lt, ◌==◌, if◌then◌else◌, ◌||◌, ◌↔◌, map as map_list}
+use Rattle.std.specs.Prelude.{Option, Some, None, IfSome, is_some, nat_le, nat_lt, ◌==◌, if◌then◌else◌, ◌||◌, map as map_list}
 use Rattle.std.specs.Option.{option_and_then}
-use Rattle.std.specs.List.{AllByRecursion, Contains, IsDistinct, list_any}
+use Rattle.std.specs.List.{AllByRecursion, list_any}
 use Rattle.std.specs.FinMap as map
 use Rattle.std.specs.Ordering.{nat_cmp, eq_by_cmp}
 use Rattle.std.proofs.lemmas.Bool.{cases_order}
@@ -11,13 +11,12 @@ use Rattle.std.proofs.lemmas.List.Elements.{recursion_from_All}
 use Rattle.sed_typed.specs.Classes.{reached}
 use Rattle.sed_engine.specs.Code.{Meaning}
 use Rattle.comp_tree.specs.Application.{Application, Component, Link, children_of, data_size_of, greatest_depth, is_live, most_children, most_components, most_links, most_links_at_component, parent_of}
-use Rattle.comp_tree.specs.Order.{depth, depth_first}
+use Rattle.comp_tree.specs.Limits.{first_passed, limit_passed}
+use Rattle.comp_tree.specs.Order.{depth}
 use Rattle.comp_tree.specs.Parts.{links_at}
 use Rattle.comp_tree.specs.Shape.{IsTree, up_by}
-use Rattle.comp_tree.specs.Whole.{Each, IsLink, Whole}
-use Rattle.app_file.specs.Formed.{IsFormed}
-use Rattle.app_file.specs.Limits.{first_passed, limit_passed}
-use Rattle.app_file.proofs.EntriesOfMaps.{tied_is}
+use Rattle.comp_tree.specs.Whole.{Each, IsFormed, IsLink, Whole}
+use Rattle.comp_tree.proofs.EntriesOfMaps.{tied_is}
 
 -- ---- lists
 
@@ -79,18 +78,8 @@ deep_enough parent (suc k) (suc n) id few up = by_parent (λ y. deep_enough pare
     by_parent more None up = absurd (let no : ◌≡◌ {A = Option ℕ} None (Some 0) = up in cc)
     by_parent more (Some y) up = ap suc (more y up)
 
-module _ (m : Meaning) (a : Application) (formed : IsFormed m a) (passed : NonePassed m a) where
-  key_there : (id : ℕ) → IsTrue (is_live a.components.by_id id) → list_any (eq_by_cmp nat_cmp id) (map.keys a.components.by_id) ≡ true
-  key_there id live = sym (map.contains_key-keys a.components.by_id id) ∙ live
-
-  not_deep : (id : ℕ) → IsTrue (is_live a.components.by_id id) → depth a.components.by_id id ≤ 16
-  not_deep id live =
-      let none = not_of_key (λ id. nat_lt greatest_depth (depth a.components.by_id id)) (map.keys a.components.by_id) id (key_there id live) passed.deep in
-      at_most (depth a.components.by_id id) none
-    where
-      at_most : (d : ℕ) → nat_lt greatest_depth d ≡ false → d ≤ 16
-      at_most d none = grind (arith, nat_tests)
-
+-- what is formed, and stands nowhere deeper than a tree may, is a tree
+module _ (m : Meaning) (a : Application) (formed : IsFormed m a) (depths : (id : ℕ) → IsTrue (is_live a.components.by_id id) → depth a.components.by_id id ≤ greatest_depth) where
   few_steps : (id : ℕ) → IsTrue (is_live a.components.by_id id) → (n : ℕ) × (n ≤ 16) × (up_by (parent_of a.components.by_id) n id ≡ Some 0)
   few_steps id live = by_order (formed.tree.reached id live)
     where
@@ -102,7 +91,7 @@ module _ (m : Meaning) (a : Application) (formed : IsFormed m a) (passed : NoneP
           by_cases (inr (inl less)) = (r.0, omega (arith, less), r.1)
           by_cases (inr (inr more)) =
               let deep : depth a.components.by_id id ≡ 17 = deep_enough (parent_of a.components.by_id) 17 r.0 id (omega (arith, more)) r.1 in
-              let shallow = not_deep id live in
+              let shallow = depths id live in
               absurd (omega (arith, deep, shallow))
 
   tree_within : IsTree (is_live a.components.by_id) (parent_of a.components.by_id) (children_of a.components.by_id)
@@ -115,6 +104,18 @@ module _ (m : Meaning) (a : Application) (formed : IsFormed m a) (passed : NoneP
     known = formed.tree.known;
     within = few_steps;
   }
+
+module _ (m : Meaning) (a : Application) (formed : IsFormed m a) (passed : NonePassed m a) where
+  key_there : (id : ℕ) → IsTrue (is_live a.components.by_id id) → list_any (eq_by_cmp nat_cmp id) (map.keys a.components.by_id) ≡ true
+  key_there id live = sym (map.contains_key-keys a.components.by_id id) ∙ live
+
+  not_deep : (id : ℕ) → IsTrue (is_live a.components.by_id id) → depth a.components.by_id id ≤ greatest_depth
+  not_deep id live =
+      let none = not_of_key (λ id. nat_lt greatest_depth (depth a.components.by_id id)) (map.keys a.components.by_id) id (key_there id live) passed.deep in
+      at_most (depth a.components.by_id id) none
+    where
+      at_most : (d : ℕ) → nat_lt greatest_depth d ≡ false → d ≤ greatest_depth
+      at_most d none = grind (arith, nat_tests)
 
   each : (P : ℕ → Component → Type 0) → ((id : ℕ) (c : Component) → map.get a.components.by_id id ≡ Some c → P id c) → Each a.components.by_id P
   each P at id = by_component (map.get a.components.by_id id) refl
@@ -176,36 +177,28 @@ module _ (m : Meaning) (a : Application) (formed : IsFormed m a) (passed : NoneP
           let long : length (links_at id a.links) ≡ 0 = ap length none in
           omega (arith, long)
 
-pub is_tree : (m : Meaning) (a : Application) → IsFormed m a → limit_passed m a ≡ None
-    → IsTree (is_live a.components.by_id) (parent_of a.components.by_id) (children_of a.components.by_id)
-is_tree m a formed none = tree_within m a formed (none_passed m a none)
-
 not_more : (most n : ℕ) → nat_lt most n ≡ false → n ≤ most
 not_more most n none = grind (arith, nat_tests)
 
 pub is_whole : (m : Meaning) (a : Application) → IsFormed m a → limit_passed m a ≡ None → 1 ≤ a.components.limit → a.components.limit ≤ 4194304
-    → ((id : ℕ) → IsTrue (is_live a.components.by_id id) ↔ Contains (depth_first a.components.by_id) id) → IsDistinct nat_eq (depth_first a.components.by_id)
     → Whole m a
-is_whole m a formed none least most reached once =
+is_whole m a formed none least most =
     let passed = none_passed m a none in
     record {
-      reached = reached;
-      once = once;
-      parents = λ id up. (formed.tree.up id up, formed.tree.down id up);
-      app = formed.app;
-      others = formed.others;
-      names = formed.names;
-      siblings = formed.siblings;
-      links = formed.links;
-      order = formed.order;
-      values = formed.values;
-      faults = formed.faults;
-      statics = formed.statics;
+      formed = formed;
       ids = each m a formed passed (λ id c. id < most_components) (small m a formed passed);
-      children = each m a formed passed (λ id c. length c.children ≤ most_children) (few_children m a formed passed);
       link_count = not_more most_links (length a.links) passed.links;
+      depths = not_deep m a formed passed;
+      children = each m a formed passed (λ id c. length c.children ≤ most_children) (few_children m a formed passed);
       links_at_each = few_links m a formed passed;
       data_sizes = not_more a.components.limit (data_size_of m a.components.by_id) passed.data_size;
       least_limit = least;
       most_limit = most;
     }
+
+pub is_tree : (m : Meaning) (a : Application) → IsFormed m a → limit_passed m a ≡ None
+    → IsTree (is_live a.components.by_id) (parent_of a.components.by_id) (children_of a.components.by_id)
+is_tree m a formed none = tree_within m a formed (not_deep m a formed (none_passed m a none))
+
+pub tree_of : (m : Meaning) (a : Application) → Whole m a → IsTree (is_live a.components.by_id) (parent_of a.components.by_id) (children_of a.components.by_id)
+tree_of m a whole = tree_within m a whole.formed whole.depths
