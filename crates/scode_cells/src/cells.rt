@@ -153,6 +153,7 @@ impl Cells {
     }
 
     /// The method of the running frame.
+    #[inline(always)]
     pub fn method(&self) -> u16
         requires { IsRunning self.now }
         ensures { result ≡ (running self.now).method }
@@ -161,6 +162,7 @@ impl Cells {
     }
 
     /// The place of the running frame's next instruction.
+    #[inline(always)]
     pub fn place(&self) -> u16
         requires { IsRunning self.now }
         ensures { result ≡ (running self.now).place }
@@ -169,6 +171,7 @@ impl Cells {
     }
 
     /// Sets the place of the running frame's next instruction.
+    #[inline(always)]
     pub fn set_place(&mut self, place: u16)
         requires { IsRunning self.old }
         ensures { self.new ≡ placed self.old place }
@@ -177,6 +180,7 @@ impl Cells {
     }
 
     /// Puts a cell on the stack of the running frame.
+    #[inline(always)]
     pub fn push(&mut self, v: Cell)
         requires running { IsRunning self.old }
         requires room { cells_in (running self.old) < self.old.most }
@@ -187,6 +191,7 @@ impl Cells {
     }
 
     /// Takes the topmost cell off the stack of the running frame.
+    #[inline(always)]
     pub fn pop(&mut self) -> Cell
         requires { 0 < length (running self.old).stack }
         ensures top { slice_get (running self.old).stack 0 ≡ Some result }
@@ -197,6 +202,7 @@ impl Cells {
     }
 
     /// The cell of the running frame's stack that so many others lie on.
+    #[inline(always)]
     pub fn top(&self, n: usize) -> Cell
         requires { n < length (running self.now).stack }
         ensures { slice_get (running self.now).stack n ≡ Some result }
@@ -205,6 +211,7 @@ impl Cells {
     }
 
     /// A local of the running frame.
+    #[inline(always)]
     pub fn load(&self, i: usize) -> Cell
         requires { i < length (running self.now).locals }
         ensures { slice_get (running self.now).locals i ≡ Some result }
@@ -213,6 +220,7 @@ impl Cells {
     }
 
     /// Sets a local of the running frame.
+    #[inline(always)]
     pub fn store(&mut self, i: usize, v: Cell)
         requires { i < length (running self.old).locals }
         ensures { self.new ≡ stored self.old i v }

@@ -7,6 +7,7 @@ ghost use Rattle.scode_mem.specs.Blocks.{bytes_at, put_at};
 use byteorder::{BigEndian, ByteOrder};
 
 /// The number in 1 to 8 bytes from a place on, the highest first.
+#[inline(always)]
 pub fn number_at(bytes: &[u8], at: usize, width: usize) -> u64
     requires some { 1 ≤ width }
     requires most { width ≤ 8 }
@@ -18,6 +19,7 @@ pub fn number_at(bytes: &[u8], at: usize, width: usize) -> u64
 }
 
 // The number in all of 1 to 8 bytes.
+#[inline(always)]
 fn number_in(bytes: &[u8], width: usize) -> u64
     requires some { 1 ≤ width }
     requires most { width ≤ 8 }
@@ -29,6 +31,7 @@ fn number_in(bytes: &[u8], width: usize) -> u64
 }
 
 /// Puts a number into 1 to 8 bytes from a place on, the highest first. All other bytes stay.
+#[inline(always)]
 pub fn put_number(bytes: &mut [u8], at: usize, width: usize, number: u64)
     requires some { 1 ≤ width }
     requires most { width ≤ 8 }

@@ -135,6 +135,7 @@ impl Pool {
     }
 
     /// The number in 1 to 8 bytes of a block from an offset on, the highest first.
+    #[inline(always)]
     pub fn read(&self, b: Block, at: u16, width: u8) -> u64
         requires some { 1 ≤ width }
         requires most { width ≤ 8 }
@@ -152,6 +153,7 @@ impl Pool {
     }
 
     /// Puts a number into 1 to 8 bytes of a block from an offset on, the highest first. Nothing else changes.
+    #[inline(always)]
     pub fn write(&mut self, b: Block, at: u16, width: u8, v: u64)
         requires some { 1 ≤ width }
         requires most { width ≤ 8 }

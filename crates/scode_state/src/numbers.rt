@@ -20,6 +20,7 @@ use scode_mem::{Block, Pool};
 use sed_value::{Prim, Value, low_byte, low_short};
 
 /// The primitive at an offset of a block as an expression reads it: byte and short are ints.
+#[inline(always)]
 pub fn read_cell(pool: &Pool, b: Block, at: u16, p: Prim) -> Cell
     requires { HasBytes pool.now b at (width_of p) }
     ensures bytes { IfSome (bytes_of pool.now b) (λ bytes.
@@ -32,6 +33,7 @@ pub fn read_cell(pool: &Pool, b: Block, at: u16, p: Prim) -> Cell
 }
 
 // What a number in the bytes of a primitive is read as.
+#[inline(always)]
 fn cell_of(p: Prim, number: u64) -> Cell
     requires { number < 256 ^ width_of p }
     ensures { (bytes : List ℕ) → number ≡ number_of bytes → there (plain_of result) ≡ read_as (primitive_from p bytes) }
@@ -46,6 +48,7 @@ fn cell_of(p: Prim, number: u64) -> Cell
 
 /// Stores a cell of the kind that a primitive at an offset of a block wants, as an assignment does: a byte keeps the
 /// low 8 bits of an int and a short the low 16. Nothing else changes.
+#[inline(always)]
 pub fn write_cell(pool: &mut Pool, b: Block, at: u16, p: Prim, v: Cell)
     requires there { HasBytes pool.old b at (width_of p) }
     requires kind { IsSome (number_for p v) }
@@ -59,6 +62,7 @@ pub fn write_cell(pool: &mut Pool, b: Block, at: u16, p: Prim, v: Cell)
 }
 
 // The number that is kept of a cell.
+#[inline(always)]
 fn kept_number(p: Prim, v: Cell) -> u64
     requires { IsSome (number_for p v) }
     ensures number { number_for p v ≡ Some result }

@@ -1,8 +1,6 @@
 -- Groups of instructions.
 use Rattle.scode_ops.specs.declared.op.Op.{Op}
 use Rattle.scode_ops.specs.declared.op.Op.TheVariants as op
-use Rattle.scode_vm.specs.declared.group.Group as told
-use Rattle.scode_vm.specs.declared.group.Group.TheVariants as told_as
 
 pub data Group : Type 0 where
   Locals : Group
@@ -111,17 +109,3 @@ group_of op.StrGet = Strs
 group_of op.StrSet = Strs
 group_of op.StrEq = Strs
 group_of op.StrCopy = Strs
-
--- a group as the machine tells it
-abbrev pub group_told : told.Group → Group
-group_told told_as.Locals = Locals
-group_told told_as.Ints = Ints
-group_told told_as.Longs = Longs
-group_told told_as.Comparisons = Comparisons
-group_told told_as.Conversions = Conversions
-group_told told_as.Jumps = Jumps
-group_told told_as.Turns = Turns
-group_told told_as.Fields = Fields
-group_told told_as.Arrays = Arrays
-group_told told_as.Calls = Calls
-group_told told_as.Strs = Strs

@@ -104,6 +104,7 @@ fn is_same(a: Cell, b: Cell) -> bool
 }
 
 /// Does a comparison.
+#[inline(always)]
 pub fn comparison_instruction(op: Op, cells: &mut Cells) -> Result<(), Trap>
     requires group { group_of op ≡ Comparisons }
     requires may { MayDo (λ w. effect w op) cells.old }

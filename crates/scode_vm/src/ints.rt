@@ -78,6 +78,7 @@ pub fn flip_int(cells: &mut Cells)
 }
 
 /// Does an instruction on ints.
+#[inline(always)]
 pub fn int_instruction(op: Op, cells: &mut Cells) -> Result<(), Trap>
     requires group { group_of op ≡ Ints }
     requires may { MayDo (λ w. effect w op) cells.old }

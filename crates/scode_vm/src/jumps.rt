@@ -42,6 +42,7 @@ pub fn jump_if_true(to: u16, cells: &mut Cells)
 }
 
 /// Does a jump.
+#[inline(always)]
 pub fn jump_instruction(op: Op, cells: &mut Cells) -> Result<(), Trap>
     requires group { group_of op ≡ Jumps }
     requires may { MayDo (λ w. effect w op) cells.old }

@@ -11,7 +11,6 @@ mod calls;
 mod comparisons;
 mod conversions;
 mod course;
-mod group;
 mod ints;
 mod jumps;
 mod laws;
@@ -29,7 +28,6 @@ pub use conversions::{
     conversion_instruction, int_to_byte, int_to_long, int_to_short, long_to_int, not,
 };
 pub use course::Course;
-pub use group::{Group, group_of};
 pub use ints::{flip_int, int_arithmetic, int_instruction, negate_int};
 pub use jumps::{jump, jump_if_false, jump_if_true, jump_instruction};
 pub use laws::{fine_frames_may_go_on, instructions_are_steps};

@@ -107,6 +107,7 @@ pub fn pop(cells: &mut Cells)
 }
 
 /// Does an instruction on constants, locals or the stack.
+#[inline(always)]
 pub fn local_instruction(op: Op, cells: &mut Cells) -> Result<(), Trap>
     requires group { group_of op ≡ Locals }
     requires may { MayDo (λ w. effect w op) cells.old }

@@ -44,6 +44,7 @@ pub fn ticks(moment: i64, cells: &mut Cells)
 }
 
 /// Takes a turn, or puts the moment on the stack.
+#[inline(always)]
 pub fn turn_instruction(op: Op, moment: i64, cells: &mut Cells, left: &mut u32) -> Result<(), Trap>
     requires group { group_of op ≡ Turns }
     requires may { MayDo (λ w. effect w op) cells.old }
