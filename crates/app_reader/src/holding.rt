@@ -11,6 +11,7 @@ ghost use Rattle.app_front.specs.Rows.{IsToldRow, number_of_id};
 ghost use Rattle.app_front.specs.declared.rows.FileRow.{FileRow as AnyRow};
 ghost use Rattle.app_reader.specs.FormedFile.{GivesItsValues, IsFormedFile, tree_row as row_told, tree_rows};
 ghost use Rattle.app_reader.specs.Checked.{IsChecked};
+ghost use Rattle.app_reader.specs.Checks.{SiblingsDiffer};
 
 use crate::{
     are_in_order, are_kinds, are_links, are_short, gives_its_values, greatest, siblings_differ,
@@ -48,7 +49,11 @@ pub fn formed<E: Engine>(
         Ok(lists) => lists,
         Err(refusal) => return Err(refusal),
     };
-    if !is_checked(engine.schema(), file, tree, lists.as_slice()) {
+    let differ = match siblings_differ(alloc, file.rows.as_slice(), lists.as_slice()) {
+        Ok(differ) => differ,
+        Err(_) => return Err(TreeRefusal::Memory),
+    };
+    if !is_checked(engine.schema(), file, tree, lists.as_slice(), differ) {
         return Err(TreeRefusal::NoTree);
     }
     match all_give(alloc, engine, file.rows.as_slice()) {
@@ -62,10 +67,17 @@ pub fn formed<E: Engine>(
     }
 }
 
-// Whether all that is checked of a tree of rows holds.
-fn is_checked(schema: &Schema, file: &FileRows, tree: &[TreeRow], lists: &[Items<usize>]) -> bool
+// Whether all that is checked of a tree of rows holds, where it is known whether siblings differ in name.
+fn is_checked(
+    schema: &Schema,
+    file: &FileRows,
+    tree: &[TreeRow],
+    lists: &[Items<usize>],
+    differ: bool,
+) -> bool
     requires rows { tree.now ≡ tree_rows file.now.rows }
     requires ascend { Ascend tree.now }
+    requires differ { IsTrue differ ↔ SiblingsDiffer file.now.rows lists.now }
     ensures { (m : Meaning) → m.schema ≡ schema.now → (IsTrue result ↔ IsChecked m file.now lists.now) }
 {
     let rows = file.rows.as_slice();
@@ -73,7 +85,7 @@ fn is_checked(schema: &Schema, file: &FileRows, tree: &[TreeRow], lists: &[Items
     if !are_kinds(schema, rows) {
         return false;
     }
-    if !siblings_differ(rows, lists) {
+    if !differ {
         return false;
     }
     if !are_links(schema, rows, tree, links) {

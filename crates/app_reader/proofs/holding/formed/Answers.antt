@@ -1,6 +1,6 @@
 use Rattle.std.proofs.Common.{◌≡◌, ◌∙◌, ℕ, List, Bool, true, false, sym, ap, subst}
 use Rattle.std.proofs.lemmas.List.{length-map}
-use Rattle.std.specs.Prelude.{Err, length, IsTrue}
+use Rattle.std.specs.Prelude.{Err, length, IsTrue, ◌↔◌}
 use Rattle.std.specs.List.{All}
 use Rattle.app_front.specs.TreeRows.{Ascend}
 use Rattle.app_front.specs.Tree.{IsTreeOf, children_in}
@@ -9,6 +9,7 @@ use Rattle.app_front.specs.declared.refusal.TreeRefusal.TheVariants.{NoTree}
 use Rattle.app_front.specs.declared.rows.FileRow.{FileRow}
 use Rattle.app_reader.specs.FormedFile.{GivesItsValues, tree_row, tree_rows}
 use Rattle.app_reader.specs.Checked.{IsChecked}
+use Rattle.app_reader.specs.Checks.{SiblingsDiffer}
 use Rattle.app_reader.proofs.Together.{checked_of, together}
 use Rattle.app_reader.proofs.holding.formed.Goals as goal
 
@@ -27,6 +28,12 @@ returns-in-Err-clause-none g c =
     λ same others is. c.in-Err.ensures.none (ap Err (let refusal : c.in-Err.refusal ≡ NoTree = cc in refusal)) others
     (subst (λ (ts : List TreeRow). IsTreeOf ts others) (sym c.requires.tree) is.tree)
 
+pub is_checked-requires-clause-differ : goal.is_checked-requires-clause-differ
+is_checked-requires-clause-differ g c =
+    let differ = c.in-Ok-siblings_differ.ensures in
+    subst (λ (rows : List FileRow). IsTrue c.in-Ok-siblings_differ.differ ↔ SiblingsDiffer rows c.as_slice-3.result.now) c.as_slice.ensures
+    (subst (λ (lists : List (List ℕ)). IsTrue c.in-Ok-siblings_differ.differ ↔ SiblingsDiffer c.as_slice.result.now lists) (c.as_slice-2.ensures ∙ sym c.as_slice-3.ensures) differ)
+
 pub returns-then-not-is_checked-clause-none : goal.returns-then-not-is_checked-clause-none
 returns-then-not-is_checked-clause-none g c =
     λ same others is.
@@ -36,7 +43,7 @@ returns-then-not-is_checked-clause-none g c =
     let size = same_size f.rows (length lists) (subst (λ (ts : List TreeRow). length lists ≡ length ts) c.requires.tree c.in-Ok.ensures.size) in
     let only = c.in-Ok.ensures.only others (subst (λ (ts : List TreeRow). IsTreeOf ts others) (sym c.requires.tree) is.tree) in
     let checked = checked_of f lists is.ascend size c.in-Ok.ensures.within m others is (λ id. only id ∙ ap (λ (ts : List TreeRow). children_in ts lists id) c.requires.tree) in
-    contradicts c.is_checked.result ((c.is_checked.ensures m (sym c.schema.ensures.same)).1 (subst (IsChecked m f) (sym c.as_slice.ensures) checked)) c.if-not-is_checked.true
+    contradicts c.is_checked.result ((c.is_checked.ensures m (sym c.schema.ensures.same)).1 (subst (IsChecked m f) (sym c.as_slice-3.ensures) checked)) c.if-not-is_checked.true
 
 pub returns-then-give-clause-formed : goal.returns-then-give-clause-formed
 returns-then-give-clause-formed g c =
@@ -46,8 +53,8 @@ returns-then-give-clause-formed g c =
     let ascend = subst Ascend c.requires.tree (c.are_ascending.ensures.0 c.if-not-are_ascending.false) in
     let size = same_size f.rows (length lists) (subst (λ (ts : List TreeRow). length lists ≡ length ts) c.requires.tree c.in-Ok.ensures.size) in
     let tree = subst (λ (ts : List TreeRow). IsTreeOf ts (children_in ts lists)) c.requires.tree c.in-Ok.ensures.tree in
-    let checked = subst (IsChecked m f) c.as_slice.ensures ((c.is_checked.ensures m (sym c.schema.ensures.same)).0 c.if-not-is_checked.false) in
-    let gives = subst (All (GivesItsValues m)) c.as_slice-2.ensures (c.in-Ok-all_give.ensures.0 c.if-give.true) in
+    let checked = subst (IsChecked m f) c.as_slice-3.ensures ((c.is_checked.ensures m (sym c.schema.ensures.same)).0 c.if-not-is_checked.false) in
+    let gives = subst (All (GivesItsValues m)) c.as_slice-4.ensures (c.in-Ok-all_give.ensures.0 c.if-give.true) in
     together f lists ascend size c.in-Ok.ensures.within m tree checked gives
 
 pub returns-then-give-clause-only : goal.returns-then-give-clause-only
@@ -64,4 +71,4 @@ pub returns-in-Ok-all_give-clause-none : goal.returns-in-Ok-all_give-clause-none
 returns-in-Ok-all_give-clause-none g c =
     λ same others is.
     let m = g.E.Engine.meaning c.args.engine.now in
-    contradicts c.in-Ok-all_give.give (c.in-Ok-all_give.ensures.1 (subst (All (GivesItsValues m)) (sym c.as_slice-2.ensures) is.gives)) c.if-give.false
+    contradicts c.in-Ok-all_give.give (c.in-Ok-all_give.ensures.1 (subst (All (GivesItsValues m)) (sym c.as_slice-4.ensures) is.gives)) c.if-give.false

@@ -16,10 +16,9 @@ returns-then-not-are_kinds c =
     λ m same. refuted (AreKinds m c.as_slice-rows.result.now) (IsChecked m c.args.file.now c.args.lists.now) c.are_kinds.result (c.are_kinds.ensures m same) c.if-not-are_kinds.true
     (λ is. subst (AreKinds m) (sym c.as_slice-rows.ensures) is.kinds)
 
-pub returns-then-not-siblings_differ : goal.returns-then-not-siblings_differ
-returns-then-not-siblings_differ c =
-    λ m same. refuted (SiblingsDiffer c.as_slice-rows.result.now c.args.lists.now) (IsChecked m c.args.file.now c.args.lists.now) c.siblings_differ.result c.siblings_differ.ensures c.if-not-siblings_differ.true
-    (λ is. subst (λ (rows : List FileRow). SiblingsDiffer rows c.args.lists.now) (sym c.as_slice-rows.ensures) is.siblings)
+pub returns-then-not-differ : goal.returns-then-not-differ
+returns-then-not-differ c =
+    λ m same. refuted (SiblingsDiffer c.args.file.now.rows c.args.lists.now) (IsChecked m c.args.file.now c.args.lists.now) c.args.differ c.requires.differ c.if-not-differ.true (λ is. is.siblings)
 
 pub are_links-requires-clause-rows : goal.are_links-requires-clause-rows
 are_links-requires-clause-rows c = c.requires.rows ∙ ap (λ (rows : List FileRow). tree_rows rows) (sym c.as_slice-rows.ensures)
@@ -45,7 +44,7 @@ returns c =
     λ m same. (
       λ yes. record {
         kinds = subst (AreKinds m) c.as_slice-rows.ensures ((c.are_kinds.ensures m same).0 c.if-not-are_kinds.false);
-        siblings = subst (λ (rows : List FileRow). SiblingsDiffer rows c.args.lists.now) c.as_slice-rows.ensures (c.siblings_differ.ensures.0 c.if-not-siblings_differ.false);
+        siblings = c.requires.differ.0 c.if-not-differ.false;
         links = subst (λ (links : List Link). All (IsLinkIn m c.args.file.now.rows) links) c.as_slice-links.ensures
             (subst (λ (rows : List FileRow). All (IsLinkIn m rows) c.as_slice-links.result.now) c.as_slice-rows.ensures ((c.are_links.ensures m same).0 c.if-not-are_links.false));
         order = subst AreInOrder c.as_slice-links.ensures (c.are_in_order.ensures.0 c.if-not-are_in_order.false);
