@@ -34,7 +34,7 @@ use Rattle.sed_node.specs.Doing.{Answers, Does}
 use Rattle.sed_node.specs.OnDisk.{OnDisk}
 use Rattle.sed_node.specs.Saving.{begun, mishap_in, reply_to}
 use Rattle.sed_node.specs.Standing.{Holds, code_of, is_fixed, setup_of}
-use Rattle.sed_node.specs.declared.node.Node.{Node as Kept}
+use Rattle.sed_node.specs.declared.kept.Kept.{Kept}
 use Rattle.sed_node.proofs.Saved.{reply_is, wants_none}
 
 -- ---- the node that is held

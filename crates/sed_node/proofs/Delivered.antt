@@ -27,7 +27,7 @@ use Rattle.node_events.specs.Serving.{served}
 use Rattle.sed_node.specs.Doing.{Delivers, Does, delivery_of, is_heard_to_add}
 use Rattle.sed_node.specs.OnDisk.{OnDisk}
 use Rattle.sed_node.specs.Standing.{Holds, IsKept, SameSetup, StandsFor, code_of, is_fixed, setup_of}
-use Rattle.sed_node.specs.declared.node.Node.{Node as Kept}
+use Rattle.sed_node.specs.declared.kept.Kept.{Kept}
 use Rattle.sed_node.proofs.Sending.{at_most, sends_more}
 
 which : Handed → ℕ

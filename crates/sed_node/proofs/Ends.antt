@@ -18,7 +18,7 @@ use Rattle.node_events.specs.Node.{Node, Setup, live_sessions}
 use Rattle.node_events.specs.Running.{Event, run}
 use Rattle.sed_node.specs.Running.{IsEnd, RunsAll, lines_of}
 use Rattle.sed_node.specs.Standing.{StandsFor, code_of}
-use Rattle.sed_node.specs.declared.node.Node.{Node as Kept}
+use Rattle.sed_node.specs.declared.kept.Kept.{Kept}
 use Rattle.sed_node.specs.declared.running.RunEnd.{RunEnd}
 use Rattle.sed_node.specs.Replaying.{Replayed, Stopped, behind_it, end_text}
 

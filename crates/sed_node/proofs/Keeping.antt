@@ -10,7 +10,7 @@ use Rattle.link_prop.specs.Linked.{application_of}
 use Rattle.sub_table.specs.declared.part.Part.{Part}
 use Rattle.sox_events.specs.Due.{MarksAgree, longest, room_for, subscriptions}
 use Rattle.sed_node.specs.Standing.{AreTurns, IsKept, code_of}
-use Rattle.sed_node.specs.declared.node.Node.{Node as Kept}
+use Rattle.sed_node.specs.declared.kept.Kept.{Kept}
 
 pub kept_by : {E : Type 0} (g : Ghosts E) (old new : Kept E) → IsKept g old → code_of g new ≡ code_of g old
     → Whole (code_of g old) (application_of g new.app) → MarksAgree g new.app (subscriptions new.subs)

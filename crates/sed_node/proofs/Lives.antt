@@ -22,7 +22,7 @@ use Rattle.node_events.specs.Running.{Event, followed_by, nothing_yet, one_event
 use Rattle.sed_node.specs.Living.{AreTextsByEvent, Lives, all_sent, offered_at, offers}
 use Rattle.sed_node.specs.Running.{IsEnd, Runs, Steps}
 use Rattle.sed_node.specs.Standing.{StandsFor}
-use Rattle.sed_node.specs.declared.node.Node.{Node as Kept}
+use Rattle.sed_node.specs.declared.kept.Kept.{Kept}
 use Rattle.sed_node.specs.declared.running.RunEnd.{RunEnd}
 use Rattle.sed_node.proofs.Polled.{GoesOn, all_sent_more, counts_so_far, goes_none, goes_one, offers_more, polls_so_far}
 use Rattle.sed_node.proofs.Polled.{sent_more, texts_by_event_more}

@@ -11,7 +11,7 @@ use Rattle.node_events.specs.Node.{Node, OnlyOfTheOpen}
 use Rattle.node_events.specs.Ticking.{at_place, places}
 use Rattle.sed_node.specs.Doing.{IsTold}
 use Rattle.sed_node.specs.Standing.{Holds}
-use Rattle.sed_node.specs.declared.node.Node.{Node as Kept}
+use Rattle.sed_node.specs.declared.kept.Kept.{Kept}
 
 -- the first so many places were visited
 abbrev pub visited : Meaning → Node → ℕ → Telling

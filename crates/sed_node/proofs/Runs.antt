@@ -21,7 +21,7 @@ use Rattle.sed_node.specs.Handling.{AddsAlone, AreFiles, AreSaved}
 use Rattle.sed_node.specs.Running.{AllAddAlone, AreCounted, ComesTo, CountsOne, IsEnd, Runs, RunsAll, RunsUntil}
 use Rattle.sed_node.specs.Running.{Steps, datagrams_in, lines_of, ticks_in}
 use Rattle.sed_node.specs.Standing.{SameSetup, StandsFor, code_of, is_fixed, setup_of}
-use Rattle.sed_node.specs.declared.node.Node.{Node as Kept}
+use Rattle.sed_node.specs.declared.kept.Kept.{Kept}
 use Rattle.sed_node.specs.declared.running.RunEnd.{RunEnd}
 use Rattle.sed_node.proofs.Crashes.{crashes_open}
 use Rattle.sed_node.proofs.Lines.{counted_more, lines_more, with_more, with_none}

@@ -22,7 +22,7 @@ use Rattle.node_events.specs.Events.{parts_of, told, told_all, told_if_due}
 use Rattle.node_events.specs.Node.{Node, OnlyOfTheOpen, is_open}
 use Rattle.sed_node.specs.Doing.{IsTold}
 use Rattle.sed_node.specs.Standing.{Holds, IsKept, SameSetup, code_of}
-use Rattle.sed_node.specs.declared.node.Node.{Node as Kept}
+use Rattle.sed_node.specs.declared.kept.Kept.{Kept}
 use Rattle.sed_node.proofs.Parts.{Split, split_of}
 use Rattle.sed_node.proofs.Sending.{sends_more}
 use Rattle.sed_node.proofs.Telling.{full_told, none_told, told_anew, told_is}

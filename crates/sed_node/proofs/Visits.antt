@@ -16,7 +16,7 @@ use Rattle.dasp_session.specs.Standing.{Leaves, is_ended}
 use Rattle.node_events.specs.Events.{Telling}
 use Rattle.node_events.specs.Ticking.{at_place, kept_up, timed}
 use Rattle.sed_node.specs.Doing.{IsTold}
-use Rattle.sed_node.specs.declared.node.Node.{Node as Kept}
+use Rattle.sed_node.specs.declared.kept.Kept.{Kept}
 use Rattle.sed_node.proofs.Sending.{sends_more, sends_none}
 use Rattle.sed_node.proofs.Visiting.{ended_told, goes_on, nobody_told}
 

@@ -16,7 +16,7 @@ use Rattle.node_events.specs.Serving.{Serving, served}
 use Rattle.node_events.specs.Ticking.{Ticked, ticked}
 use Rattle.sed_node.specs.OnDisk.{OnDisk}
 use Rattle.sed_node.specs.Standing.{Holds, SameSetup, StandsFor, code_of, is_fixed, setup_of}
-use Rattle.sed_node.specs.declared.node.Node.{Node as Kept}
+use Rattle.sed_node.specs.declared.kept.Kept.{Kept}
 
 -- ---- a datagram
 

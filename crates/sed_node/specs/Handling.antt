@@ -17,7 +17,7 @@ use Rattle.node_events.specs.Saving.{Save}
 use Rattle.sed_node.specs.Doing.{is_heard_to_add}
 use Rattle.sed_node.specs.OnDisk.{IsSaved}
 use Rattle.sed_node.specs.Standing.{StandsFor}
-use Rattle.sed_node.specs.declared.node.Node.{Node as Kept}
+use Rattle.sed_node.specs.declared.kept.Kept.{Kept}
 
 -- the saves that began were done on a disk, one after another; where none began it is as it was
 abbrev pub AreSaved : {D : Type 0} → (D → DiskMeaning) → Meaning → ℕ → List Save → D → D → Type 0

@@ -17,7 +17,7 @@ use Rattle.node_events.specs.Node.{Node, Setup}
 use Rattle.node_events.specs.Running.{Event, run, sent_by}
 use Rattle.sed_node.specs.Living.{AreRounds, AreTextsByEvent, all_sent, offers}
 use Rattle.sed_node.specs.Running.{Runs}
-use Rattle.sed_node.specs.declared.node.Node.{Node as Kept}
+use Rattle.sed_node.specs.declared.kept.Kept.{Kept}
 use Rattle.sed_node.specs.Replaying.{end_text}
 
 -- So many cycles were done over these polls and moments, each datagram that was sent was offered, in their order and

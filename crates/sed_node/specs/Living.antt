@@ -19,7 +19,7 @@ use Rattle.node_events.specs.LiveEvents.{entries_in}
 use Rattle.node_events.specs.Node.{Node, Setup}
 use Rattle.node_events.specs.Running.{Event, run, sent_by}
 use Rattle.sed_node.specs.Running.{IsEnd, Runs}
-use Rattle.sed_node.specs.declared.node.Node.{Node as Kept}
+use Rattle.sed_node.specs.declared.kept.Kept.{Kept}
 use Rattle.sed_node.specs.declared.running.RunEnd.{RunEnd}
 
 -- ---- what is heard

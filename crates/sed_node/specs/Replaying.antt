@@ -14,7 +14,7 @@ use Rattle.printed_app.specs.declared.summary.Summary.{Summary}
 use Rattle.node_events.specs.Node.{Node, Setup, live_sessions}
 use Rattle.node_events.specs.Running.{Event, Reached, offered, run}
 use Rattle.sed_node.specs.Running.{Runs, RunsUntil, lines_of}
-use Rattle.sed_node.specs.declared.node.Node.{Node as Kept}
+use Rattle.sed_node.specs.declared.kept.Kept.{Kept}
 
 -- ---- the text
 

@@ -21,7 +21,7 @@ use Rattle.node_events.specs.Running.{Event, Reached, offered, run, saves_of}
 use Rattle.node_events.specs.Saving.{Save}
 use Rattle.sed_node.specs.Handling.{AddsAlone, AreFiles, AreSaved, Handles}
 use Rattle.sed_node.specs.Standing.{StandsFor}
-use Rattle.sed_node.specs.declared.node.Node.{Node as Kept}
+use Rattle.sed_node.specs.declared.kept.Kept.{Kept}
 use Rattle.sed_node.specs.declared.running.RunEnd.{RunEnd}
 
 -- ---- lines

@@ -8,7 +8,7 @@ use Rattle.link_prop.specs.Linked.{application_of}
 use Rattle.sox_events.specs.Due.{HasRoom, MarksAgree, subscriptions}
 use Rattle.dasp_session.specs.Standing.{StandsFor as SessionsStandFor}
 use Rattle.node_events.specs.Node.{KeepsWindows, Node, OnlyOfTheOpen, Setup}
-use Rattle.sed_node.specs.declared.node.Node.{Node as Kept}
+use Rattle.sed_node.specs.declared.kept.Kept.{Kept}
 
 -- ---- what no event changes
 

@@ -1,5 +1,6 @@
 //! What stands at the end of a run.
-ghost use Rattle.std.specs.Prelude.{◌++◌};
+ghost use Rattle.std.specs.Prelude.{◌++◌, IsErr};
+ghost use Rattle.sed_outside.specs.Cause.{HasCause};
 ghost use Rattle.printed_app.specs.Puts.{Puts};
 ghost use Rattle.printed_app.specs.Application.{application_text};
 ghost use Rattle.printed_app.specs.Summary.{summary_text};
@@ -17,7 +18,7 @@ pub fn put_end<E: Engine, O: Sink>(
     ended: RunEnd,
     out: &mut O,
 ) -> Result<(), SinkFault>
-    ensures { (n : State) → StandsFor E.Engine node.now n
+    ensures puts { (n : State) → StandsFor E.Engine node.now n
         → Puts O.Sink out.old out.new (application_text (code_of E.Engine node.now) n.application
         ++ summary_text (record {
           cycles = ended.cycles;
@@ -26,6 +27,7 @@ pub fn put_end<E: Engine, O: Sink>(
           traps = ended.traps;
           sessions = live_sessions n;
         })) result }
+    ensures cause { HasCause (O.faults out.old) (O.faults out.new) (IsErr result) }
 {
     put_application(node.app(), out)?;
     put_counts(ended, node.sessions(), out)

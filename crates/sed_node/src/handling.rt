@@ -10,19 +10,24 @@ ghost use Rattle.node_events.specs.Saving.{Save};
 ghost use Rattle.sed_node.specs.Handling.{AreSaved, Handles, texts_of};
 ghost use Rattle.sed_node.specs.Standing.{SameSetup, StandsFor, code_of, is_fixed, setup_of};
 
-use crate::node::Node;
+use crate::kept::Kept;
 use app_file::texts_are_files_of_what_is_kept;
 use dasp_session::Outbox;
 use disk_model::Disk;
-use node_events::{bytes_are_heard, saves_are_of_what_was_reached};
+use node_events::saves_are_of_what_was_reached;
 use replay_log::Event;
 use sed_engine::Engine;
 
-impl<E: Engine> Node<E> {
-    /// Handles an entry of a record, a datagram or a tick, and puts what is sent into an outbox, which is empty: at
-    /// most 496 messages. What it makes of the node and the disk, and what is sent, is that of the event that the entry
-    /// comes to. It gives how many root calls of the cycle trapped, which is 0 for a datagram.
-    pub fn handle<D: Disk>(&mut self, disk: &mut D, event: Event<'_>, out: &mut Outbox) -> u32
+impl<E: Engine> Kept<E> {
+    // Handles an entry of a record, a datagram or a tick, and puts what is sent into an outbox, which is empty: at most
+    // 496 messages. What it makes of the node and the disk, and what is sent, is that of the event that the entry comes
+    // to. It gives how many root calls of the cycle trapped, which is 0 for a datagram.
+    pub(crate) fn handle<D: Disk>(
+        &mut self,
+        disk: &mut D,
+        event: Event<'_>,
+        out: &mut Outbox,
+    ) -> u32
         requires stands { (n : State) × StandsFor E.Engine self.old n }
         requires empty { out.old ≡ [] }
         requires stores { IsTrue (D.meaning disk.old).tells → AllStores (setup_of self.old).slot (D.meaning disk.old) }
@@ -39,7 +44,6 @@ impl<E: Engine> Node<E> {
         texts_are_files_of_what_is_kept();
         match event {
             Event::Datagram { from, bytes } => {
-                bytes_are_heard(bytes);
                 self.datagram(disk, from, bytes, out);
                 0
             }

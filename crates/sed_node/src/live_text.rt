@@ -10,7 +10,6 @@ ghost use Rattle.sed_node.specs.LiveText.{LivedThrough};
 
 use crate::Node;
 use crate::ending::put_end;
-use dasp_session::Outbox;
 use disk_model::Disk;
 use sed_engine::Engine;
 use sed_outside::{Clock, Link, Sink, SinkFault};
@@ -24,11 +23,9 @@ use sed_outside::{Clock, Link, Sink, SinkFault};
 /// behind them are still to come. All cycles are done before anything is put; where the sink fails, which is told by
 /// its count of faults, a front of the text was put.
 ///
-/// Of the disk, the file that is attached and the outbox the same is said as by `replay`. No memory is taken but by
-/// adds.
+/// Of the disk and the file that is attached the same is said as by `replay`. No memory is taken but by adds.
 pub fn live<E: Engine, D: Disk, L: Link, C: Clock, O: Sink>(
     node: &mut Node<E>,
-    outbox: &mut Outbox,
     disk: &mut D,
     link: &mut L,
     clock: &mut C,
@@ -36,7 +33,6 @@ pub fn live<E: Engine, D: Disk, L: Link, C: Clock, O: Sink>(
     period: u32,
     out: &mut O,
 ) -> Result<(), SinkFault>
-    requires stands { (n : State) × StandsFor E.Engine node.old n }
     requires stores { IsTrue (D.meaning disk.old).tells → AllStores (setup_of node.old).slot (D.meaning disk.old) }
     ensures lived { (n : State) → StandsFor E.Engine node.old n
         → LivedThrough E.Engine O.Sink D.meaning (is_fixed E.Engine node.old) (code_of E.Engine node.old)
@@ -52,6 +48,6 @@ pub fn live<E: Engine, D: Disk, L: Link, C: Clock, O: Sink>(
     ensures time { Elapses (D.meaning disk.old) (D.meaning disk.new) }
     ensures cause { HasCause (O.faults out.old) (O.faults out.new) (IsErr result) }
 {
-    let ended = node.live(disk, link, clock, cycles, period, outbox);
+    let ended = node.live(disk, link, clock, cycles, period);
     put_end(node, ended, out)
 }

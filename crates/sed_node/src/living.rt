@@ -10,6 +10,7 @@ ghost use Rattle.sed_node.specs.Living.{IsLeft, Lives, Sleeps, offered_at};
 ghost use Rattle.sed_node.specs.Running.{Steps};
 ghost use Rattle.sed_node.specs.Standing.{SameSetup, StandsFor, code_of, is_fixed, setup_of};
 
+use crate::kept::Kept;
 use crate::node::Node;
 use crate::running::RunEnd;
 use dasp_session::Outbox;
@@ -38,9 +39,7 @@ impl<E: Engine> Node<E> {
         clock: &mut C,
         cycles: u32,
         period: u32,
-        outbox: &mut Outbox,
     ) -> RunEnd
-        requires stands { (n : State) × StandsFor E.Engine self.old n }
         requires stores { IsTrue (D.meaning disk.old).tells → AllStores (setup_of self.old).slot (D.meaning disk.old) }
         ensures lives { (n : State) → StandsFor E.Engine self.old n
             → Lives E.Engine D.meaning (is_fixed E.Engine self.old) (code_of E.Engine self.old) (setup_of self.old)
@@ -69,12 +68,20 @@ impl<E: Engine> Node<E> {
         'events: while done < cycles {
             match round.next(link, &mut bytes) {
                 Some((from, len)) => {
-                    self.hear(disk, from, &bytes[..len], link, outbox, &mut ended);
+                    self.kept.hear(
+                        disk,
+                        from,
+                        &bytes[..len],
+                        link,
+                        &mut self.outbox,
+                        &mut ended,
+                    );
                 }
                 None => {
                     let ticks = clock.now();
                     first = first_of(done, first, ticks);
-                    self.pass(disk, ticks, link, outbox, &mut ended);
+                    self.kept
+                        .pass(disk, ticks, link, &mut self.outbox, &mut ended);
                     done += 1;
                     clock.sleep_until(wake(first, done, period));
                     round = Round::new();
@@ -83,7 +90,9 @@ impl<E: Engine> Node<E> {
         }
         ended
     }
+}
 
+impl<E: Engine> Kept<E> {
     // Handles a datagram that came, counts it, and offers what is sent.
     fn hear<D: Disk, L: Link>(
         &mut self,

@@ -9,7 +9,6 @@ ghost use Rattle.sed_node.specs.Replaying.{Replayed, Stopped};
 
 use crate::Node;
 use crate::ending::put_end;
-use dasp_session::Outbox;
 use disk_model::Disk;
 use replay_log::Records;
 use sed_engine::Engine;
@@ -26,16 +25,13 @@ use sed_outside::{Sink, SinkFault};
 /// The disk holds the store: every image that a crash now may leave is a whole one, before and after. Where the store
 /// was opened to an application, and nothing was saved since, a crash at any moment from then on leaves an image that
 /// opens to an application that was opened or saved, and to none before the last one acknowledged by then. The file
-/// that is attached stays. The outbox holds what one event sends; what it held is forgotten. No memory is taken but
-/// by adds.
+/// that is attached stays. No memory is taken but by adds.
 pub fn replay<E: Engine, D: Disk, O: Sink>(
     node: &mut Node<E>,
     records: Records<'_>,
-    outbox: &mut Outbox,
     disk: &mut D,
     out: &mut O,
 ) -> Result<(), SinkFault>
-    requires stands { (n : State) × StandsFor E.Engine node.old n }
     requires stores { IsTrue (D.meaning disk.old).tells → AllStores (setup_of node.old).slot (D.meaning disk.old) }
     ensures replayed { (n : State) → StandsFor E.Engine node.old n
         → OnOk result (Replayed E.Engine D.meaning (is_fixed E.Engine node.old) (code_of E.Engine node.old)
@@ -49,6 +45,6 @@ pub fn replay<E: Engine, D: Disk, O: Sink>(
     ensures time { Elapses (D.meaning disk.old) (D.meaning disk.new) }
     ensures cause { HasCause (O.faults out.old) (O.faults out.new) (IsErr result) }
 {
-    let ended = node.run(disk, records, outbox, out)?;
+    let ended = node.run(disk, records, out)?;
     put_end(node, ended, out)
 }

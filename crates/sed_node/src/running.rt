@@ -10,6 +10,7 @@ ghost use Rattle.node_events.specs.Node.{Node as State};
 ghost use Rattle.sed_node.specs.Running.{CountsOne, RunsAll, RunsUntil, Steps, line_of, lines_of};
 ghost use Rattle.sed_node.specs.Standing.{SameSetup, StandsFor, code_of, is_fixed, setup_of};
 
+use crate::kept::Kept;
 use crate::node::Node;
 use dasp_session::Outbox;
 use disk_model::Disk;
@@ -59,16 +60,13 @@ impl<E: Engine> Node<E> {
     /// The disk holds the store: every image that a crash now may leave is a whole one, before and after. Where the
     /// store was opened to an application, and nothing was saved since, a crash at any moment from then on leaves an
     /// image that opens to an application that was opened or saved, and to none before the last one acknowledged by
-    /// then. The file that is attached stays. The outbox holds what one event sends; what it held is forgotten. No
-    /// memory is taken but by adds.
+    /// then. The file that is attached stays. No memory is taken but by adds.
     pub fn run<D: Disk, S: Sink>(
         &mut self,
         disk: &mut D,
         records: Records<'_>,
-        outbox: &mut Outbox,
         out: &mut S,
     ) -> Result<RunEnd, SinkFault>
-        requires stands { (n : State) × StandsFor E.Engine self.old n }
         requires stores { IsTrue (D.meaning disk.old).tells → AllStores (setup_of self.old).slot (D.meaning disk.old) }
         ensures runs { (n : State) → StandsFor E.Engine self.old n
             → IfOk result (λ ended. RunsAll E.Engine D.meaning (is_fixed E.Engine self.old) (code_of E.Engine self.old)
@@ -92,7 +90,10 @@ impl<E: Engine> Node<E> {
         };
         'entries: loop {
             match left.next() {
-                Some(event) => match self.step(disk, event, outbox, out, &mut ended) {
+                Some(event) => match self
+                    .kept
+                    .step(disk, event, &mut self.outbox, out, &mut ended)
+                {
                     Ok(()) => {}
                     Err(fault) => return Err(fault),
                 },
@@ -100,7 +101,9 @@ impl<E: Engine> Node<E> {
             }
         }
     }
+}
 
+impl<E: Engine> Kept<E> {
     // Handles an entry, counts it, and puts the lines of what is sent.
     fn step<D: Disk, S: Sink>(
         &mut self,

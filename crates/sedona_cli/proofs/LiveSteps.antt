@@ -32,7 +32,7 @@ use Rattle.sed_engine.specs.declared.engine.Engine.{Ghosts}
 use Rattle.sed_engine.specs.Code.{Meaning as Code}
 use Rattle.sed_node.specs.Living.{AreRounds, IsLeft, Sleeps, offers}
 use Rattle.sed_node.specs.Standing.{code_of, is_fixed, setup_of}
-use Rattle.sed_node.specs.declared.node.Node.{Node as Kept}
+use Rattle.sed_node.specs.declared.kept.Kept.{Kept}
 use Rattle.sedona_cli.specs.Given.{Given}
 use Rattle.sedona_cli.specs.declared.refusal.Refusal.{Refusal}
 use Rattle.sedona_cli.specs.declared.refusal.Refusal.TheVariants.{FileFault, ImageBroken, ImageRefused, MethodTooLong, Refused, Rule, SlotTooSmall, DeviceFault, StoreExists, NoStore, NoApplication, WrongKits, OverLimit, BadUsers, ShortSecret, BadRecord, LinkFault, Memory}

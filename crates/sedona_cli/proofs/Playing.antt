@@ -18,7 +18,7 @@ use Rattle.sed_engine.specs.declared.engine.Engine.{Ghosts}
 use Rattle.sed_engine.specs.Code.{Meaning as Code}
 use Rattle.sed_node.specs.Running.{Runs as NodeRuns, lines_of}
 use Rattle.sed_node.specs.Standing.{code_of, is_fixed, setup_of}
-use Rattle.sed_node.specs.declared.node.Node.{Node as Kept}
+use Rattle.sed_node.specs.declared.kept.Kept.{Kept}
 use Rattle.sedona_cli.specs.Given.{GivenRecord}
 use Rattle.sedona_words.specs.Command.{NodeAsked}
 use Rattle.sedona_cli.specs.Outside.{Ask, Runs, Ran, AsksDisk, IsRan}

@@ -22,7 +22,7 @@ use Rattle.sed_engine.specs.Code.{Meaning as Code}
 use Rattle.sed_engine.specs.Whole.{HasTables}
 use Rattle.sed_check.specs.Loading.{Told}
 use Rattle.sed_node.specs.Standing.{StandsFor, code_of, is_fixed, setup_of}
-use Rattle.sed_node.specs.declared.node.Node.{Node as Kept}
+use Rattle.sed_node.specs.declared.kept.Kept.{Kept}
 use Rattle.sedona_cli.specs.Given.{GivenRecord, ended_as}
 use Rattle.sedona_cli.specs.declared.refusal.Refusal.{Refusal}
 use Rattle.sedona_cli.specs.declared.refusal.Refusal.TheVariants.{Memory}
@@ -338,15 +338,15 @@ is_ready g given moment turns slot code users secret a node same is_code setup f
       (subst (λ (s : Setup). StandsFor g node (opened code s a users secret given)) (sym setup) stands);
 }
 
-pub ready_of : {T E B : Type 0} (D : DiskGhosts T) (d e : T) (g : Ghosts E) (moment : ℤ) (store : List ℕ) (limit : ℕ) (given : Code) (turns : ℕ) (code : Code) (users : List User) (secret : List ℕ) (a : Application)
-    (r : Result (Kept E × B) Refusal) → AsksDisk D d e (λ asks. Opened store limit given asks (Ok a)) → code ≡ given → IfOk r (λ ready. IsReady g moment turns code users secret a ready.0)
-    → IfOk r (λ ready. AsksDisk D d e (λ asks. (x : Application) × Opened store limit given asks (Ok x) × IsReady g moment turns given users secret x ready.0))
+pub ready_of : {T E : Type 0} (D : DiskGhosts T) (d e : T) (g : Ghosts E) (moment : ℤ) (store : List ℕ) (limit : ℕ) (given : Code) (turns : ℕ) (code : Code) (users : List User) (secret : List ℕ) (a : Application)
+    (r : Result (Kept E) Refusal) → AsksDisk D d e (λ asks. Opened store limit given asks (Ok a)) → code ≡ given → IfOk r (λ ready. IsReady g moment turns code users secret a ready)
+    → IfOk r (λ ready. AsksDisk D d e (λ asks. (x : Application) × Opened store limit given asks (Ok x) × IsReady g moment turns given users secret x ready))
 ready_of D d e g moment store limit given turns code users secret a (Ok ready) opened is_code held =
-    same_disk D d e (λ asks. Opened store limit given asks (Ok a)) (λ asks. (x : Application) × Opened store limit given asks (Ok x) × IsReady g moment turns given users secret x ready.0)
-    (λ asks opens. (a, opens, subst (λ (m : Code). IsReady g moment turns m users secret a ready.0) is_code held)) opened
+    same_disk D d e (λ asks. Opened store limit given asks (Ok a)) (λ asks. (x : Application) × Opened store limit given asks (Ok x) × IsReady g moment turns given users secret x ready)
+    (λ asks opens. (a, opens, subst (λ (m : Code). IsReady g moment turns m users secret a ready) is_code held)) opened
 ready_of D d e g moment store limit given turns code users secret a (Err refusal) opened is_code held = tt
 
-pub ready_stores : {E B : Type 0} (r : Result (Kept E × B) Refusal) (slot : ℕ) (m : Meaning) → AllStores slot m → IfOk r (λ ready. (setup_of ready.0).slot ≡ slot) → IfOk r (λ ready. AllStores (setup_of ready.0).slot m)
+pub ready_stores : {E : Type 0} (r : Result (Kept E) Refusal) (slot : ℕ) (m : Meaning) → AllStores slot m → IfOk r (λ ready. (setup_of ready).slot ≡ slot) → IfOk r (λ ready. AllStores (setup_of ready).slot m)
 ready_stores (Ok ready) slot m stores same = subst (λ (n : ℕ). AllStores n m) (sym same) stores
 ready_stores (Err refusal) slot m stores same = tt
 

@@ -10,7 +10,7 @@ use Rattle.dasp_session.specs.declared.user.User.{User}
 use Rattle.node_events.specs.Node.{opened}
 use Rattle.sed_node.specs.Running.{ComesTo, OpensSince, acknowledged_in}
 use Rattle.sed_node.specs.Standing.{StandsFor, code_of, is_fixed, setup_of}
-use Rattle.sed_node.specs.declared.node.Node.{Node as Kept}
+use Rattle.sed_node.specs.declared.kept.Kept.{Kept}
 use Rattle.sed_outside.specs.Steps.{AndThen}
 use Rattle.sedona_cli.specs.declared.refusal.Refusal.{Refusal}
 use Rattle.sedona_cli.specs.Outside.{Ask, Ran, saves_in}

@@ -6,10 +6,9 @@ ghost use Rattle.comp_tree.specs.Whole.{Whole};
 ghost use Rattle.dasp_session.specs.declared.user.User.{User};
 ghost use Rattle.sed_outside.specs.Steps.{Read};
 ghost use Rattle.link_prop.specs.Linked.{application_of};
-ghost use Rattle.node_events.specs.Node.{Node as State};
 ghost use Rattle.sed_engine.specs.Code.{Meaning as Code};
 ghost use Rattle.sed_node.specs.Living.{IsLeft, Sleeps};
-ghost use Rattle.sed_node.specs.Standing.{StandsFor, setup_of};
+ghost use Rattle.sed_node.specs.Standing.{setup_of};
 ghost use Rattle.sedona_words.specs.Asked.{asked_node, asked_run, IsMeantNode, IsMeantRun};
 ghost use Rattle.sedona_words.specs.Command as words_of;
 ghost use Rattle.sedona_cli.specs.Given.{Given, given_of};
@@ -25,7 +24,7 @@ use crate::putting::refuse;
 use crate::refusal::Refusal;
 use crate::status::Status;
 use app_save::{Store, stores_open_to_one};
-use dasp_session::{Outbox, Users};
+use dasp_session::Users;
 use disk_model::Disk;
 use link_prop::App;
 use scode_engine::Machine;
@@ -38,7 +37,7 @@ use std::alloc::Global;
 // Runs a node so many cycles, with a period in milliseconds, and puts what stands at the end of its run. It takes no
 // memory.
 fn run_ready<E: Engine, L: Link, C: Clock, D: Disk, O: Sink>(
-    ready: (Node<E>, Outbox),
+    node: Node<E>,
     cycles: u32,
     period: u32,
     link: &mut L,
@@ -46,10 +45,9 @@ fn run_ready<E: Engine, L: Link, C: Clock, D: Disk, O: Sink>(
     disk: &mut D,
     out: &mut O,
 ) -> Status
-    requires stands { (n : State) × StandsFor E.Engine ready.0 n }
-    requires stores { IsTrue (D.meaning disk.old).tells → AllStores (setup_of ready.0).slot (D.meaning disk.old) }
+    requires stores { IsTrue (D.meaning disk.old).tells → AllStores (setup_of node).slot (D.meaning disk.old) }
     ensures ran { (moment : ℤ) (turns : ℕ) (code : Code) (users : List User) (secret : List ℕ) (a : Application)
-        → IsReady E.Engine moment turns code users secret a ready.0
+        → IsReady E.Engine moment turns code users secret a node
         → RunsReady D.Disk L.Link C.Clock moment turns code users secret a cycles (O.text out.old) (O.text out.new)
         (O.faults out.old) (O.faults out.new) (number_of result) link.old link.new clock.old disk.old disk.new }
     ensures sleeps { Sleeps (C.moments clock.old) (C.given clock.old) cycles period (C.asked clock.old)
@@ -57,17 +55,8 @@ fn run_ready<E: Engine, L: Link, C: Clock, D: Disk, O: Sink>(
     ensures left { IsLeft cycles (L.polls link.old) (L.polls link.new) (C.moments clock.old) (C.moments clock.new) }
     ensures bound { L.bound link.new ≡ L.bound link.old }
 {
-    let (mut node, mut outbox) = ready;
-    match live(
-        &mut node,
-        &mut outbox,
-        disk,
-        link,
-        clock,
-        cycles,
-        period,
-        out,
-    ) {
+    let mut node = node;
+    match live(&mut node, disk, link, clock, cycles, period, out) {
         Ok(()) => Status::Done,
         Err(_) => Status::SinkFault,
     }
@@ -107,7 +96,7 @@ fn run_app<L: Link, C: Clock, D: Disk, O: Sink>(
     }
     let moment = clock.now();
     match node_of(alloc, words.node, app, store, users, secret, moment) {
-        Ok(ready) => run_ready(ready, words.cycles, words.period, link, clock, disk, out),
+        Ok(node) => run_ready(node, words.cycles, words.period, link, clock, disk, out),
         Err(refusal) => refuse(alloc, &refusal, out),
     }
 }

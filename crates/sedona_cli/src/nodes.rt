@@ -16,7 +16,7 @@ use crate::refusal::{Refusal, of_app};
 use crate::store::{attach_store, open_with_slot};
 use app_reader::{read_app, schema_can_be_told};
 use app_save::Store;
-use dasp_session::{Outbox, Users};
+use dasp_session::Users;
 use disk_model::Disk;
 use link_prop::App;
 use scode_engine::Machine;
@@ -110,7 +110,7 @@ pub fn open_app<D: Disk>(
     }
 }
 
-/// The node of an application that begins at a moment, with all memory that its events need; and the outbox of its run.
+/// The node of an application that begins at a moment, with all memory that its events need.
 pub fn node_of(
     alloc: Global,
     words: NodeWords<'_>,
@@ -119,21 +119,17 @@ pub fn node_of(
     users: Users,
     secret: [u8; 20],
     moment: i64,
-) -> Result<(Node<Machine>, Outbox), Refusal>
+) -> Result<Node<Machine>, Refusal>
     requires meant { IsMeantNode words }
     requires whole { Whole (⟦<Machine as Engine>⟧.meaning app.tree.engine) (application_of ⟦<Machine as Engine>⟧ app) }
-    ensures ready { IfOk result (λ ready. IsReady ⟦<Machine as Engine>⟧ moment words.entry.turns
+    ensures ready { IfOk result (λ node. IsReady ⟦<Machine as Engine>⟧ moment words.entry.turns
         (⟦<Machine as Engine>⟧.meaning app.tree.engine) users secret
-        (application_of ⟦<Machine as Engine>⟧ app) ready.0) }
-    ensures slot { IfOk result (λ ready. (setup_of ready.0).slot ≡ store) }
+        (application_of ⟦<Machine as Engine>⟧ app) node) }
+    ensures slot { IfOk result (λ node. (setup_of node).slot ≡ store) }
     ensures refused { IfErr result (λ refusal. refusal ≡ Refusal.Memory) }
 {
-    let outbox = match Outbox::new(alloc) {
-        Ok(outbox) => outbox,
-        Err(Memory) => return Err(Refusal::Memory),
-    };
     match Node::open(alloc, app, store, users, secret, words.turns, moment) {
-        Ok(node) => Ok((node, outbox)),
+        Ok(node) => Ok(node),
         Err(Memory) => Err(Refusal::Memory),
     }
 }

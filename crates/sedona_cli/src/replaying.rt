@@ -5,8 +5,7 @@ ghost use Rattle.comp_tree.specs.Application.{Application};
 ghost use Rattle.sed_outside.specs.Steps.{Read};
 ghost use Rattle.input_files.specs.Inputs.{HasEntries};
 ghost use Rattle.scode_code.specs.Image.{meaning_of};
-ghost use Rattle.node_events.specs.Node.{Node as State};
-ghost use Rattle.sed_node.specs.Standing.{StandsFor, setup_of};
+ghost use Rattle.sed_node.specs.Standing.{setup_of};
 ghost use Rattle.sedona_words.specs.Asked.{asked_node, IsMeantNode};
 ghost use Rattle.sedona_words.specs.Command as words_of;
 ghost use Rattle.sedona_cli.specs.Given.{GivenRecord, given_record};
@@ -21,7 +20,7 @@ use crate::nodes::{node_of, open_app};
 use crate::putting::refuse;
 use crate::refusal::Refusal;
 use crate::status::Status;
-use dasp_session::{Outbox, Users};
+use dasp_session::Users;
 use disk_model::Disk;
 use replay_log::Records;
 use scode_engine::Machine;
@@ -40,13 +39,13 @@ fn ready<D: Disk>(
     users: Users,
     secret: [u8; 20],
     disk: &mut D,
-) -> Result<(Node<Machine>, Outbox), Refusal>
+) -> Result<Node<Machine>, Refusal>
     requires { IsMeantNode words }
-    ensures opened { IfOk result (λ ready. AsksDisk D.Disk disk.old disk.new (λ asks. (a : Application)
+    ensures opened { IfOk result (λ node. AsksDisk D.Disk disk.old disk.new (λ asks. (a : Application)
         × Opened words.entry.store.now words.entry.limit (meaning_of code) asks (Ok a)
-        × IsReady ⟦<Machine as Engine>⟧ (pos 0) words.entry.turns (meaning_of code) users secret a ready.0)) }
+        × IsReady ⟦<Machine as Engine>⟧ (pos 0) words.entry.turns (meaning_of code) users secret a node)) }
     ensures stores { IsTrue (D.meaning disk.new).tells
-        → IfOk result (λ ready. AllStores (setup_of ready.0).slot (D.meaning disk.new)) }
+        → IfOk result (λ node. AllStores (setup_of node).slot (D.meaning disk.new)) }
     ensures refused { IfErr result (λ refusal. AsksDisk D.Disk disk.old disk.new (λ asks. OrWants
         (Some words.entry.store.now) (Opened words.entry.store.now words.entry.limit (meaning_of code)) asks
         (Err refusal))) }
@@ -59,22 +58,21 @@ fn ready<D: Disk>(
 
 // Runs a node over the entries of a record, and puts what is told of it. It takes no memory.
 fn play<E: Engine, D: Disk, O: Sink>(
-    ready: (Node<E>, Outbox),
+    node: Node<E>,
     text: &[u8],
     disk: &mut D,
     out: &mut O,
 ) -> Status
-    requires stands { (n : State) × StandsFor E.Engine ready.0 n }
-    requires stores { IsTrue (D.meaning disk.old).tells → AllStores (setup_of ready.0).slot (D.meaning disk.old) }
+    requires stores { IsTrue (D.meaning disk.old).tells → AllStores (setup_of node).slot (D.meaning disk.old) }
     requires entries { HasEntries text.now }
     ensures { (asked : words_of.NodeAsked) (given : GivenRecord) (a : Application) → given.text ≡ text.now
-        → IsReady E.Engine (pos 0) asked.turns given.code given.users given.secret a ready.0
+        → IsReady E.Engine (pos 0) asked.turns given.code given.users given.secret a node
         → AsksDisk D.Disk disk.old disk.new (λ asks. Plays asked given a asks (O.text out.old) (O.text out.new)
         (O.faults out.old) (O.faults out.new) (number_of result)) }
 {
-    let (mut node, mut outbox) = ready;
+    let mut node = node;
     match Records::open(text) {
-        Ok(records) => match replay(&mut node, records, &mut outbox, disk, out) {
+        Ok(records) => match replay(&mut node, records, disk, out) {
             Ok(()) => Status::Done,
             Err(_) => Status::SinkFault,
         },
@@ -105,7 +103,7 @@ fn replayed_from<D: Disk, O: Sink>(
         text,
     } = inputs;
     match ready(alloc, words, code, users, secret, disk) {
-        Ok(begun) => play(begun, text.as_slice(), disk, out),
+        Ok(node) => play(node, text.as_slice(), disk, out),
         Err(refusal) => refuse(alloc, &refusal, out),
     }
 }

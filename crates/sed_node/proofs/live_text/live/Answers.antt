@@ -14,5 +14,5 @@ returns-clause-lived g c = λ n stands.
       runs = all.runs;
       offered_are = all.offered_are;
       puts = put_behind g.E.Engine g.O.Sink _ _ c.live-ended.new.self n all.events c.live-ended.result c.args.out.now
-          c.put_end.new.out c.put_end.result all.runs.stands all.ends c.live-ended.ensures.same.code c.put_end.ensures;
+          c.put_end.new.out c.put_end.result all.runs.stands all.ends c.live-ended.ensures.same.code c.put_end.ensures.puts;
     }

@@ -8,11 +8,11 @@ use Rattle.sedona_cli.specs.Run.{unbound, unready}
 use Rattle.sedona_cli.proofs.LiveSteps.{answers_run, answers_unbound, answers_unready, as_memory, asks_run, so_taken}
 use Rattle.sedona_cli.proofs.living.run_app.Goals as goal
 
-pub run_ready-requires-clause-stands : goal.run_ready-requires-clause-stands
-run_ready-requires-clause-stands g c = (_, c.in-Ok-node_of.ensures.ready.stands)
-
-pub run_ready-requires-clause-stores : goal.run_ready-requires-clause-stores
-run_ready-requires-clause-stores g c = λ told. subst (λ (n : ℕ). AllStores n (g.D.Disk.meaning c.args.disk.now)) (sym c.in-Ok-node_of.ensures.slot) (c.requires.stores told)
+pub run_ready-requires : goal.run_ready-requires
+run_ready-requires g c = record {
+  stores = λ told. subst (λ (n : ℕ). AllStores n (g.D.Disk.meaning c.args.disk.now)) (sym c.in-Ok-node_of.ensures.slot)
+      (c.requires.stores told);
+}
 
 pub returns-in-Err-clause-answered : goal.returns-in-Err-clause-answered
 returns-in-Err-clause-answered g c = λ inputs is_code are_users is_secret.

@@ -29,7 +29,7 @@ pub events-init : goal.events-init
 events-init g c = record {
   most = omega arith;
   same = record { code = refl; setup = refl; fixed = refl };
-  stores = c.requires.stores;
+  stores = rw c.self.view_is c.requires.stores;
   attached = refl;
   time = no_time (g.D.Disk.meaning c.args.disk.now);
   bound = refl;
@@ -38,8 +38,8 @@ events-init g c = record {
   left = leaves_first c.args.cycles (g.L.Link.polls c.args.link.now) (g.C.Clock.moments c.args.clock.now)
       c.new-round.result (c.args.cycles - 0) c.new-round.ensures (omega arith);
   so_far = λ n stands.
-      lives_first g.E.Engine g.D.Disk.meaning (is_fixed g.E.Engine c.args.self.now) (code_of g.E.Engine c.args.self.now)
-      (setup_of c.args.self.now) c.args.self.now n (g.L.Link.polls c.args.link.now)
+      lives_first g.E.Engine g.D.Disk.meaning (is_fixed g.E.Engine c.self.inside.kept) (code_of g.E.Engine c.self.inside.kept)
+      (setup_of c.self.inside.kept) c.self.inside.kept n (g.L.Link.polls c.args.link.now)
       (g.C.Clock.moments c.args.clock.now) c.args.cycles c.new-round.result (c.args.cycles - 0) _
       (g.L.Link.polled c.args.link.now) (g.L.Link.offered c.args.link.now) c.args.disk.now c.new-round.ensures (omega arith) stands
       (record { cycles = refl; taken = refl; offered_are = refl; traps = refl });
@@ -47,7 +47,7 @@ events-init g c = record {
 
 pub hear-requires-clause-stands : goal.hear-requires-clause-stands
 hear-requires-clause-stands g c =
-    (_, (c.events.invariant.so_far c.requires.stands.0 c.requires.stands.1).runs.stands)
+    (_, (c.events.invariant.so_far c.self.invariant.0 c.self.invariant.1).runs.stands)
 
 pub hear-requires-clause-stores : goal.hear-requires-clause-stores
 hear-requires-clause-stores g c = λ told.
@@ -57,7 +57,7 @@ hear-requires-clause-stores g c = λ told.
 
 pub pass-requires-clause-stands : goal.pass-requires-clause-stands
 pass-requires-clause-stands g c =
-    (_, (c.events.invariant.so_far c.requires.stands.0 c.requires.stands.1).runs.stands)
+    (_, (c.events.invariant.so_far c.self.invariant.0 c.self.invariant.1).runs.stands)
 
 pub pass-requires-clause-stores : goal.pass-requires-clause-stores
 pass-requires-clause-stores g c = λ told.
@@ -65,18 +65,21 @@ pass-requires-clause-stores g c = λ told.
     subst (λ (s : Setup). AllStores s.slot (g.D.Disk.meaning c.events.disk)) (sym before.same.setup)
     (before.stores (sym before.time.told ∙ told))
 
+pub invariant_of-self : goal.invariant_of-self
+invariant_of-self g c = (_, (c.events.invariant.so_far c.self.invariant.0 c.self.invariant.1).runs.stands)
+
 pub returns-clause-lives : goal.returns-clause-lives
-returns-clause-lives g c = λ n stands.
+returns-clause-lives g c = rw (← c.self.view_is) (λ n stands.
     let before = c.events.invariant in
     let most = before.most in
     let over = c.events-test.false in
     let none : c.args.cycles - c.events.done ≡ 0 = omega (arith, most, over) in
-    lives_all g.E.Engine g.D.Disk.meaning (is_fixed g.E.Engine c.args.self.now) (code_of g.E.Engine c.args.self.now)
-    (setup_of c.args.self.now) c.events.self n (g.L.Link.polls c.args.link.now) (g.C.Clock.moments c.args.clock.now)
+    lives_all g.E.Engine g.D.Disk.meaning (is_fixed g.E.Engine c.self.inside.kept) (code_of g.E.Engine c.self.inside.kept)
+    (setup_of c.self.inside.kept) c.events.self-inside.kept n (g.L.Link.polls c.args.link.now) (g.C.Clock.moments c.args.clock.now)
     c.args.cycles c.events.round (g.L.Link.polls c.events.link) (g.C.Clock.moments c.events.clock)
     (c.args.cycles - c.events.done) c.events.ended (g.L.Link.polled c.args.link.now) (g.L.Link.polled c.events.link)
     (g.L.Link.offered c.args.link.now) (g.L.Link.offered c.events.link) c.args.disk.now c.events.disk none
-    (before.so_far n stands)
+    (before.so_far n stands))
 
 pub returns-clause-sleeps : goal.returns-clause-sleeps
 returns-clause-sleeps g c =
@@ -104,10 +107,10 @@ pub returns-clause-bound : goal.returns-clause-bound
 returns-clause-bound g c = c.events.invariant.bound
 
 pub returns-clause-same : goal.returns-clause-same
-returns-clause-same g c = c.events.invariant.same
+returns-clause-same g c = rw (← c.self.view_is) c.events.invariant.same
 
 pub returns-clause-stores : goal.returns-clause-stores
-returns-clause-stores g c = c.events.invariant.stores
+returns-clause-stores g c = rw (← c.self.view_is) c.events.invariant.stores
 
 pub returns-clause-attached : goal.returns-clause-attached
 returns-clause-attached g c = c.events.invariant.attached
@@ -121,7 +124,7 @@ events-smaller-in-Some g c = let one = c.in-Some.ensures.left in omega (arith, o
 pub events-preserved-in-Some : goal.events-preserved-in-Some
 events-preserved-in-Some g c =
     let before = c.events.invariant in
-    let old = c.args.self.now in
+    let old = c.self.inside.kept in
     let m = code_of g.E.Engine old in
     let s = setup_of old in
     let same = c.hear.ensures.same in
@@ -166,12 +169,12 @@ events-preserved-in-Some g c =
           let polled_is : g.L.Link.polled c.hear.new.link ≡ one_more polled =
           c.hear.ensures.polled ∙ c.next.ensures.polled some in
           lives_on c.runs_follow_one_another.ensures g.E.Engine g.D.Disk.meaning (is_fixed g.E.Engine old) m s
-          c.events.self c.hear.new.self n polls moments c.args.cycles c.events.round c.next.new.self
+          c.events.self-inside.kept c.hear.new.self n polls moments c.args.cycles c.events.round c.next.new.self
           (g.L.Link.polls c.events.link) (g.L.Link.polls c.hear.new.link) now now (c.args.cycles - c.events.done)
           (c.args.cycles - c.events.done) c.events.ended c.hear.new.ended at polled (g.L.Link.polled c.hear.new.link)
           (g.L.Link.offered c.args.link.now) (g.L.Link.offered c.events.link) (g.L.Link.offered c.hear.new.link)
           c.args.disk.now c.events.disk c.hear.new.disk (datagram c.in-Some.from bytes) c.hear.new.outbox ran
-          (steps_from g.E.Engine g.D.Disk.meaning old c.events.self c.hear.new.self (run m s n ran.events).node
+          (steps_from g.E.Engine g.D.Disk.meaning old c.events.self-inside.kept c.hear.new.self (run m s n ran.events).node
           (datagram c.in-Some.from bytes) c.hear.new.outbox c.events.ended c.hear.new.ended c.events.disk
           c.hear.new.disk before.same (c.hear.ensures.steps (run m s n ran.events).node ran.runs.stands))
           c.hear.ensures.faults
@@ -206,7 +209,7 @@ events-preserved-in-Some g c =
 pub events-preserved : goal.events-preserved
 events-preserved g c =
     let before = c.events.invariant in
-    let old = c.args.self.now in
+    let old = c.self.inside.kept in
     let m = code_of g.E.Engine old in
     let s = setup_of old in
     let same = c.pass.ensures.same in
@@ -278,12 +281,12 @@ events-preserved g c =
           let polled_then = g.L.Link.polled c.pass.new.link in
           let moments_then = g.C.Clock.moments c.sleep_until.new.self in
           lives_on c.runs_follow_one_another.ensures g.E.Engine g.D.Disk.meaning (is_fixed g.E.Engine old) m s
-          c.events.self c.pass.new.self n polls moments c.args.cycles c.events.round c.new-round-in-None.result
+          c.events.self-inside.kept c.pass.new.self n polls moments c.args.cycles c.events.round c.new-round-in-None.result
           (g.L.Link.polls c.events.link) (g.L.Link.polls c.pass.new.link) now moments_then (c.args.cycles - done) k
           c.events.ended c.pass.new.ended at polled polled_then
           (g.L.Link.offered c.args.link.now) (g.L.Link.offered c.events.link) (g.L.Link.offered c.pass.new.link)
           c.args.disk.now c.events.disk c.pass.new.disk (tick ticks) c.pass.new.outbox ran
-          (steps_from g.E.Engine g.D.Disk.meaning old c.events.self c.pass.new.self (run m s n ran.events).node
+          (steps_from g.E.Engine g.D.Disk.meaning old c.events.self-inside.kept c.pass.new.self (run m s n ran.events).node
           (tick ticks) c.pass.new.outbox c.events.ended c.pass.new.ended c.events.disk c.pass.new.disk before.same
           (c.pass.ensures.steps (run m s n ran.events).node ran.runs.stands))
           c.pass.ensures.faults

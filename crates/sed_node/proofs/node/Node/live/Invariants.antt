@@ -12,9 +12,9 @@ use Rattle.sed_node.proofs.node.Node.live.Given as goal
 abbrev pub invariant-events : goal.invariant-events
 invariant-events g l = record {
   most : l.done ≤ l.fn.cycles;
-  same : SameSetup g.E.Engine l.fn.self l.self;
+  same : SameSetup g.E.Engine l.initial.self-inside.kept l.self-inside.kept;
   stores : IsTrue (g.D.Disk.meaning l.fn.disk).tells
-      → AllStores (setup_of l.fn.self).slot (g.D.Disk.meaning l.disk);
+      → AllStores (setup_of l.initial.self-inside.kept).slot (g.D.Disk.meaning l.disk);
   attached : (g.D.Disk.meaning l.disk).attached ≡ (g.D.Disk.meaning l.fn.disk).attached;
   time : Elapses (g.D.Disk.meaning l.fn.disk) (g.D.Disk.meaning l.disk);
   bound : g.L.Link.bound l.link ≡ g.L.Link.bound l.fn.link;
@@ -22,9 +22,9 @@ invariant-events g l = record {
       (g.C.Clock.given l.clock) l.done l.fn.period l.first (g.C.Clock.asked l.fn.clock) (g.C.Clock.asked l.clock);
   left : IsLeaving l.fn.cycles (g.L.Link.polls l.fn.link) (g.L.Link.polls l.link) (g.C.Clock.moments l.fn.clock)
       (g.C.Clock.moments l.clock) l.round (l.fn.cycles - l.done);
-  so_far : (n : Node) → StandsFor g.E.Engine l.fn.self n
-      → RanLive g.E.Engine g.D.Disk.meaning (is_fixed g.E.Engine l.fn.self) (code_of g.E.Engine l.fn.self)
-      (setup_of l.fn.self) l.self n (g.L.Link.polls l.fn.link) (g.C.Clock.moments l.fn.clock) l.fn.cycles l.round
+  so_far : (n : Node) → StandsFor g.E.Engine l.initial.self-inside.kept n
+      → RanLive g.E.Engine g.D.Disk.meaning (is_fixed g.E.Engine l.initial.self-inside.kept) (code_of g.E.Engine l.initial.self-inside.kept)
+      (setup_of l.initial.self-inside.kept) l.self-inside.kept n (g.L.Link.polls l.fn.link) (g.C.Clock.moments l.fn.clock) l.fn.cycles l.round
       (g.L.Link.polls l.link) (g.C.Clock.moments l.clock) (l.fn.cycles - l.done) l.ended
       (g.L.Link.polled l.fn.link) (g.L.Link.polled l.link) (g.L.Link.offered l.fn.link) (g.L.Link.offered l.link) l.fn.disk l.disk;
 }

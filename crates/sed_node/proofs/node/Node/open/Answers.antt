@@ -11,7 +11,9 @@ use Rattle.comp_tree.specs.Whole.{Whole}
 use Rattle.link_prop.specs.Linked.{application_of}
 use Rattle.sed_typed.specs.declared.schema.Schema.{Schema}
 use Rattle.sox_events.specs.Due.{longest, room_for}
-use Rattle.node_events.specs.Node.{Setup}
+use Rattle.node_events.specs.Node.{Setup, opened}
+use Rattle.sed_node.specs.Standing.{StandsFor}
+use Rattle.sed_node.proofs.node.Node.open.Goals.{After-begin}
 use Rattle.sed_node.proofs.node.Node.open.Goals as goal
 
 pub begin-requires-clause-some_turns : goal.begin-requires-clause-some_turns
@@ -20,8 +22,17 @@ begin-requires-clause-some_turns g c = c.requires.turns.some
 pub begin-requires-clause-most_turns : goal.begin-requires-clause-most_turns
 begin-requires-clause-most_turns g c = c.requires.turns.most
 
-pub returns-clause-opened : goal.returns-clause-opened
-returns-clause-opened g c =
+-- the node that has begun stands for the one that is opened
+begun : (g : _) (c : After-begin g) → StandsFor g.E.Engine (record {
+  app = c.begin.new.app;
+  sessions = c.in_ok-sessions.sessions;
+  subs = c.in_ok-subs.subs;
+  saver = c.in_ok-saver.saver;
+  turns = c.args.turns;
+})
+    (opened (g.E.Engine.meaning c.args.app.tree.engine) (record { turns = c.args.turns; slot = c.args.store })
+    (application_of g.E.Engine c.args.app) c.args.users c.args.secret c.args.moment)
+begun g c =
     let m = g.E.Engine.meaning c.args.app.tree.engine in
     let a = application_of g.E.Engine c.args.app in
     let s : Setup = record { turns = c.args.turns; slot = c.args.store } in
@@ -54,3 +65,9 @@ returns-clause-opened g c =
       only_open = c.only_open_sessions_have_subscribed.ensures.opened m s a c.args.users c.args.secret c.args.moment;
       windows = c.few_messages_are_sent.ensures.opened m s a c.args.users c.args.secret c.args.moment;
     }
+
+pub invariant_of-result : goal.invariant_of-result
+invariant_of-result g c = (_, begun g (goal.at.invariant_of-result g c).After-begin)
+
+pub returns-clause-opened : goal.returns-clause-opened
+returns-clause-opened g c = begun g (goal.at.returns-clause-opened g c).After-begin

@@ -3,7 +3,7 @@ use Rattle.sed_outside.specs.Cause.{Rose}
 use Rattle.app_save.specs.Saving.{AllStores}
 use Rattle.replay_log.specs.View.{entry_of}
 use Rattle.node_events.specs.Node.{Setup}
-use Rattle.node_events.specs.Running.{run}
+use Rattle.node_events.specs.Running.{one_event, run}
 use Rattle.sed_node.specs.Standing.{code_of, is_fixed, setup_of}
 use Rattle.sed_node.proofs.Keeping.{no_time}
 use Rattle.sed_node.proofs.Runs.{elapses_both, goes_on, nothing_ran, runs_whole, steps_from, stops_here}
@@ -12,19 +12,19 @@ use Rattle.sed_node.proofs.node.Node.run.Goals as goal
 pub entries-init : goal.entries-init
 entries-init g c = record {
   same = record { code = refl; setup = refl; fixed = refl };
-  stores = c.requires.stores;
+  stores = rw c.self.view_is c.requires.stores;
   attached = refl;
   time = no_time (g.D.Disk.meaning c.args.disk.now);
   faults = refl;
   so_far = λ n stands.
-      nothing_ran g.E.Engine g.D.Disk.meaning (is_fixed g.E.Engine c.args.self.now) (code_of g.E.Engine c.args.self.now)
-      (setup_of c.args.self.now) c.args.self.now n c.args.records _ (g.S.Sink.text c.args.out.now) c.args.disk.now
+      nothing_ran g.E.Engine g.D.Disk.meaning (is_fixed g.E.Engine c.self.inside.kept) (code_of g.E.Engine c.self.inside.kept)
+      (setup_of c.self.inside.kept) c.self.inside.kept n c.args.records _ (g.S.Sink.text c.args.out.now) c.args.disk.now
       stands (record { cycles = refl; taken = refl; offered_are = refl; traps = refl });
 }
 
 pub step-requires-clause-stands : goal.step-requires-clause-stands
 step-requires-clause-stands g c =
-    (_, (c.entries.invariant.so_far c.requires.stands.0 c.requires.stands.1).all.runs.stands)
+    (_, (c.entries.invariant.so_far c.self.invariant.0 c.self.invariant.1).all.runs.stands)
 
 pub step-requires-clause-stores : goal.step-requires-clause-stores
 step-requires-clause-stores g c = λ told.
@@ -38,7 +38,7 @@ entries-smaller g c = let one_less = ap length c.in-Some.ensures.given in omega 
 pub entries-preserved : goal.entries-preserved
 entries-preserved g c =
     let before = c.entries.invariant in
-    let old = c.args.self.now in
+    let old = c.self.inside.kept in
     let m = code_of g.E.Engine old in
     let s = setup_of old in
     let same = c.step.ensures.same in
@@ -57,48 +57,60 @@ entries-preserved g c =
       so_far = λ n stands.
           let ran = before.so_far n stands in
           goes_on c.runs_follow_one_another.ensures g.E.Engine g.D.Disk.meaning (is_fixed g.E.Engine old) m s
-          c.entries.self c.step.new.self n c.args.records c.entries.left c.next.new.self (entry_of c.in-Some.event)
+          c.entries.self-inside.kept c.step.new.self n c.args.records c.entries.left c.next.new.self (entry_of c.in-Some.event)
           c.step.new.outbox c.entries.ended c.step.new.ended (g.S.Sink.text c.args.out.now)
           (g.S.Sink.text c.entries.out) (g.S.Sink.text c.step.new.out) c.args.disk.now c.entries.disk c.step.new.disk
           ran c.in-Some.ensures.given
-          (steps_from g.E.Engine g.D.Disk.meaning old c.entries.self c.step.new.self (run m s n ran.all.events).node
+          (steps_from g.E.Engine g.D.Disk.meaning old c.entries.self-inside.kept c.step.new.self (run m s n ran.all.events).node
           (entry_of c.in-Some.event) c.step.new.outbox c.entries.ended c.step.new.ended c.entries.disk c.step.new.disk
           before.same (c.step.ensures.steps (run m s n ran.all.events).node ran.all.runs.stands))
           c.step.ensures.faults c.in-Ok.ensures.done;
     }
 
+pub invariant_of-self : goal.invariant_of-self
+invariant_of-self g c =
+    let ran = c.entries.invariant.so_far c.self.invariant.0 c.self.invariant.1 in
+    let old = c.self.inside.kept in
+    let n = (run (code_of g.E.Engine old) (setup_of old) c.self.invariant.0 ran.all.events).node in
+    let now = c.entries.self-inside.kept in
+    let handles = (c.step.ensures.steps n ran.all.runs.stands).handles in
+    ((one_event (code_of g.E.Engine now) (setup_of now) n handles.event).node, handles.stands)
+
+pub invariant_of-self-in-None : goal.invariant_of-self-in-None
+invariant_of-self-in-None g c = (_, (c.entries.invariant.so_far c.self.invariant.0 c.self.invariant.1).all.runs.stands)
+
 pub returns-in-Err-clause-stops : goal.returns-in-Err-clause-stops
-returns-in-Err-clause-stops g c = λ n stands.
+returns-in-Err-clause-stops g c = rw (← c.self.view_is) (λ n stands.
     let before = c.entries.invariant in
-    let old = c.args.self.now in
+    let old = c.self.inside.kept in
     let m = code_of g.E.Engine old in
     let s = setup_of old in
     let ran = before.so_far n stands in
     stops_here c.runs_follow_one_another.ensures g.E.Engine g.D.Disk.meaning (is_fixed g.E.Engine old) m s
-    c.entries.self c.step.new.self n c.args.records c.entries.left c.next.new.self (entry_of c.in-Some.event)
+    c.entries.self-inside.kept c.step.new.self n c.args.records c.entries.left c.next.new.self (entry_of c.in-Some.event)
     c.step.new.outbox c.entries.ended c.step.new.ended (g.S.Sink.text c.args.out.now)
     (g.S.Sink.text c.entries.out) (g.S.Sink.text c.step.new.out) c.args.disk.now c.entries.disk c.step.new.disk
     ran c.in-Some.ensures.given
-    (steps_from g.E.Engine g.D.Disk.meaning old c.entries.self c.step.new.self (run m s n ran.all.events).node
+    (steps_from g.E.Engine g.D.Disk.meaning old c.entries.self-inside.kept c.step.new.self (run m s n ran.all.events).node
     (entry_of c.in-Some.event) c.step.new.outbox c.entries.ended c.step.new.ended c.entries.disk c.step.new.disk
     before.same (c.step.ensures.steps (run m s n ran.all.events).node ran.all.runs.stands))
-    c.step.ensures.faults c.in-Err.ensures.failed
+    c.step.ensures.faults c.in-Err.ensures.failed)
 
 pub returns-in-Err-clause-same : goal.returns-in-Err-clause-same
-returns-in-Err-clause-same g c =
-    let before = c.entries.invariant in
+returns-in-Err-clause-same g c = rw (← c.self.view_is)
+    (let before = c.entries.invariant in
     let same = c.step.ensures.same in
     record {
       code = same.code ∙ before.same.code;
       setup = same.setup ∙ before.same.setup;
       fixed = same.fixed ∙ before.same.fixed;
-    }
+    })
 
 pub returns-in-Err-clause-stores : goal.returns-in-Err-clause-stores
-returns-in-Err-clause-stores g c = λ told.
+returns-in-Err-clause-stores g c = rw (← c.self.view_is) (λ told.
     let before = c.entries.invariant in
     subst (λ (s : Setup). AllStores s.slot (g.D.Disk.meaning c.step.new.disk)) before.same.setup
-    (c.step.ensures.stores (before.time.told ∙ told))
+    (c.step.ensures.stores (before.time.told ∙ told)))
 
 pub returns-in-Err-clause-attached : goal.returns-in-Err-clause-attached
 returns-in-Err-clause-attached g c = c.step.ensures.attached ∙ c.entries.invariant.attached
@@ -119,18 +131,18 @@ returns-in-Err-clause-cause g c =
     }
 
 pub returns-in-None-clause-runs : goal.returns-in-None-clause-runs
-returns-in-None-clause-runs g c = λ n stands.
-    let old = c.args.self.now in
+returns-in-None-clause-runs g c = rw (← c.self.view_is) (λ n stands.
+    let old = c.self.inside.kept in
     runs_whole g.E.Engine g.D.Disk.meaning (is_fixed g.E.Engine old) (code_of g.E.Engine old) (setup_of old)
-    c.entries.self n c.args.records c.entries.left c.entries.ended (g.S.Sink.text c.args.out.now)
+    c.entries.self-inside.kept n c.args.records c.entries.left c.entries.ended (g.S.Sink.text c.args.out.now)
     (g.S.Sink.text c.entries.out) c.args.disk.now c.entries.disk (c.entries.invariant.so_far n stands)
-    (c.in-None.ensures.none.0 refl)
+    (c.in-None.ensures.none.0 refl))
 
 pub returns-in-None-clause-same : goal.returns-in-None-clause-same
-returns-in-None-clause-same g c = c.entries.invariant.same
+returns-in-None-clause-same g c = rw (← c.self.view_is) c.entries.invariant.same
 
 pub returns-in-None-clause-stores : goal.returns-in-None-clause-stores
-returns-in-None-clause-stores g c = c.entries.invariant.stores
+returns-in-None-clause-stores g c = rw (← c.self.view_is) c.entries.invariant.stores
 
 pub returns-in-None-clause-attached : goal.returns-in-None-clause-attached
 returns-in-None-clause-attached g c = c.entries.invariant.attached

@@ -10,15 +10,15 @@ use Rattle.sed_node.proofs.node.Node.run.Given as goal
 -- the entries before those that are left were handled
 abbrev pub invariant-entries : goal.invariant-entries
 invariant-entries g l = record {
-  same : SameSetup g.E.Engine l.fn.self l.self;
+  same : SameSetup g.E.Engine l.initial.self-inside.kept l.self-inside.kept;
   stores : IsTrue (g.D.Disk.meaning l.fn.disk).tells
-      → AllStores (setup_of l.fn.self).slot (g.D.Disk.meaning l.disk);
+      → AllStores (setup_of l.initial.self-inside.kept).slot (g.D.Disk.meaning l.disk);
   attached : (g.D.Disk.meaning l.disk).attached ≡ (g.D.Disk.meaning l.fn.disk).attached;
   time : Elapses (g.D.Disk.meaning l.fn.disk) (g.D.Disk.meaning l.disk);
   faults : g.S.Sink.faults l.out ≡ g.S.Sink.faults l.fn.out;
-  so_far : (n : Node) → StandsFor g.E.Engine l.fn.self n
-      → Ran g.E.Engine g.D.Disk.meaning (is_fixed g.E.Engine l.fn.self) (code_of g.E.Engine l.fn.self)
-      (setup_of l.fn.self) l.self n l.fn.records l.left l.ended (g.S.Sink.text l.fn.out) (g.S.Sink.text l.out)
+  so_far : (n : Node) → StandsFor g.E.Engine l.initial.self-inside.kept n
+      → Ran g.E.Engine g.D.Disk.meaning (is_fixed g.E.Engine l.initial.self-inside.kept) (code_of g.E.Engine l.initial.self-inside.kept)
+      (setup_of l.initial.self-inside.kept) l.self-inside.kept n l.fn.records l.left l.ended (g.S.Sink.text l.fn.out) (g.S.Sink.text l.out)
       l.fn.disk l.disk;
 }
 

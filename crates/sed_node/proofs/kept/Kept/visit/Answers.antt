@@ -4,10 +4,10 @@ use Rattle.dasp_session.specs.Looking.{session_at}
 use Rattle.node_events.specs.Events.{told_all}
 use Rattle.node_events.specs.Ticking.{timed}
 use Rattle.sed_node.specs.Standing.{code_of}
-use Rattle.sed_node.specs.declared.node.Node.{Node as Kept}
+use Rattle.sed_node.specs.declared.kept.Kept.{Kept}
 use Rattle.sed_node.proofs.Keeping.{kept_by}
 use Rattle.sed_node.proofs.Visits.{ended_by, goes_by, nobody_in, visit_ended, visit_kept, visit_nobody, visit_timed}
-use Rattle.sed_node.proofs.node.Node.visit.Goals as goal
+use Rattle.sed_node.proofs.kept.Kept.visit.Goals as goal
 
 pub returns-then-not-is_live-clause-told : goal.returns-then-not-is_live-clause-told
 returns-then-not-is_live-clause-told g c = λ t is only.

@@ -1,7 +1,7 @@
 use Rattle.std.proofs.Common.{◌-◌, length}
 use Rattle.sed_node.specs.Standing.{code_of}
 use Rattle.sed_node.proofs.Turns.{Turn}
-use Rattle.sed_node.proofs.node.Node.tell.Given as goal
+use Rattle.sed_node.proofs.kept.Kept.tell.Given as goal
 
 -- to go on from what was told so far comes to all that is told
 abbrev pub invariant-events : goal.invariant-events

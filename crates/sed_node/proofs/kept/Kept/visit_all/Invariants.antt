@@ -1,7 +1,7 @@
 use Rattle.std.proofs.Common.{◌≤◌, ◌*◌, length}
 use Rattle.sed_node.specs.Standing.{IsKept, SameSetup, code_of}
 use Rattle.sed_node.proofs.Places.{Visited}
-use Rattle.sed_node.proofs.node.Node.visit_all.Given as goal
+use Rattle.sed_node.proofs.kept.Kept.visit_all.Given as goal
 
 -- the places before this one have been visited
 abbrev pub invariant-loop-place : goal.invariant-loop-place

@@ -5,12 +5,12 @@ use Rattle.sox_events.specs.Due.{MarksAgree, all_of_them, before_it, subscriptio
 use Rattle.node_events.specs.Events.{Telling, bytes_of, told}
 use Rattle.sed_node.specs.Doing.{IsTold}
 use Rattle.sed_node.specs.Standing.{code_of}
-use Rattle.sed_node.specs.declared.node.Node.{Node as Kept}
+use Rattle.sed_node.specs.declared.kept.Kept.{Kept}
 use Rattle.sed_node.proofs.Keeping.{kept_by}
 use Rattle.sed_wire.proofs.WritingLemmas.{puts-taken}
 use Rattle.sed_node.proofs.Turns.{all_told_by_none, all_told_by_room, event_told, first_reached, lives_of, next_reached}
 use Rattle.sed_node.proofs.Turns.{second_true}
-use Rattle.sed_node.proofs.node.Node.tell.Goals as goal
+use Rattle.sed_node.proofs.kept.Kept.tell.Goals as goal
 
 pub events-init : goal.events-init
 events-init g c = record {

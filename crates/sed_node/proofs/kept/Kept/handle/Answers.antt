@@ -8,11 +8,11 @@ use Rattle.sed_node.specs.Standing.{code_of, setup_of}
 use Rattle.std.proofs.lemmas.Int.{to_z-of_z}
 use Rattle.sed_node.proofs.Handled.{attached_stays, faults_later, files_of_one, listed_saved}
 use Rattle.sed_node.proofs.Keeping.{no_time}
-use Rattle.sed_node.proofs.node.Node.handle.Goals as goal
+use Rattle.sed_node.proofs.kept.Kept.handle.Goals as goal
 
 pub returns-in-Datagram-clause-handles : goal.returns-in-Datagram-clause-handles
 returns-in-Datagram-clause-handles g c = λ n stands.
-    let heard = c.bytes_are_heard.ensures in
+    let heard = c.datagram.ensures.heard in
     let d = c.datagram.ensures.delivers n heard.0 stands heard.1 in
     let m = code_of g.E.Engine c.args.self.now in
     let s = setup_of c.args.self.now in
@@ -58,19 +58,19 @@ returns-in-Tick-clause-same g c = (c.tick-end.ensures.ticks c.requires.stands.0 
 
 pub returns-in-Datagram-clause-same : goal.returns-in-Datagram-clause-same
 returns-in-Datagram-clause-same g c =
-    let heard = c.bytes_are_heard.ensures in
+    let heard = c.datagram.ensures.heard in
     (c.datagram.ensures.delivers c.requires.stands.0 heard.0 c.requires.stands.1 heard.1).same
 
 pub returns-in-Datagram-clause-faults : goal.returns-in-Datagram-clause-faults
 returns-in-Datagram-clause-faults g c =
-    let heard = c.bytes_are_heard.ensures in
+    let heard = c.datagram.ensures.heard in
     let d = c.datagram.ensures.delivers c.requires.stands.0 heard.0 c.requires.stands.1 heard.1 in
     faults_later g.D.Disk.meaning (code_of g.E.Engine c.args.self.now) (setup_of c.args.self.now).slot _ c.args.disk.now
     c.datagram.new.disk d.disk
 
 pub returns-in-Datagram-clause-attached : goal.returns-in-Datagram-clause-attached
 returns-in-Datagram-clause-attached g c =
-    let heard = c.bytes_are_heard.ensures in
+    let heard = c.datagram.ensures.heard in
     let d = c.datagram.ensures.delivers c.requires.stands.0 heard.0 c.requires.stands.1 heard.1 in
     attached_stays g.D.Disk.meaning (code_of g.E.Engine c.args.self.now) (setup_of c.args.self.now).slot _
     c.args.disk.now c.datagram.new.disk d.disk

@@ -7,7 +7,7 @@ use Rattle.sed_node.specs.Doing.{IsTold}
 use Rattle.sed_node.specs.Standing.{code_of}
 use Rattle.sed_node.proofs.Places.{WasAt, visited, visited_next}
 use Rattle.sed_node.proofs.Sending.{nothing_sent}
-use Rattle.sed_node.proofs.node.Node.visit_all.Goals as goal
+use Rattle.sed_node.proofs.kept.Kept.visit_all.Goals as goal
 
 pub loop-place-init : goal.loop-place-init
 loop-place-init g c = record {

@@ -9,12 +9,12 @@ use Rattle.dasp_session.specs.Standing.{Leaves}
 use Rattle.node_events.specs.Heard.{Wish, is_refused}
 use Rattle.node_events.specs.Node.{Node}
 use Rattle.sed_node.specs.Doing.{Answers}
-use Rattle.sed_node.specs.declared.node.Node.{Node as Kept}
+use Rattle.sed_node.specs.declared.kept.Kept.{Kept}
 use Rattle.sed_node.proofs.Commanded.{by_held, refused_done}
 use Rattle.sed_node.proofs.Given.{bytes_fit, of_request}
 use Rattle.sed_node.proofs.Keeping.{kept_by, no_time}
 use Rattle.sed_node.proofs.Wishes.{IsReadAs, wish_read}
-use Rattle.sed_node.proofs.node.Node.answer.Goals as goal
+use Rattle.sed_node.proofs.kept.Kept.answer.Goals as goal
 
 pub command-requires-clause-can : goal.command-requires-clause-can
 command-requires-clause-can g c = c.in-Ok.ensures.found.can

@@ -18,13 +18,13 @@ use Rattle.sed_node.specs.Doing.{Answers}
 use Rattle.sed_node.specs.OnDisk.{OnDisk}
 use Rattle.sed_node.specs.Saving.{begun}
 use Rattle.sed_node.specs.Standing.{is_fixed, setup_of}
-use Rattle.sed_node.specs.declared.node.Node.{Node as Kept}
+use Rattle.sed_node.specs.declared.kept.Kept.{Kept}
 use Rattle.std.proofs.lemmas.Int.{to_z-of_z}
 use Rattle.sed_node.proofs.Commanded.{by_held, command_done, node_of, save_done, served_whole}
 use Rattle.sed_node.proofs.Keeping.{at_same, kept_by, no_time}
 use Rattle.sed_node.proofs.Saved.{begun_is, may_happen}
 use Rattle.sed_node.proofs.Small.{served_small}
-use Rattle.sed_node.proofs.node.Node.command.Goals as goal
+use Rattle.sed_node.proofs.kept.Kept.command.Goals as goal
 
 pub serve-asked-requires-clause-some_turns : goal.serve-asked-requires-clause-some_turns
 serve-asked-requires-clause-some_turns g c = c.requires.is_kept.turns.some
