@@ -7,6 +7,8 @@ ghost use Rattle.sed_typed.specs.Typed.{Typed};
 use rows::{Case, CaseFault};
 use scode_compile::compile;
 use scode_engine::Machine;
+use scode_image::read_image;
+use scode_verify::verify;
 use sed_check::load_kits;
 use sed_engine::Engine;
 use sed_outside::MemFiles;
@@ -140,4 +142,43 @@ pub fn machine_of(case: &mut Case, program: Program, limit: u32) -> Option<Machi
             None
         }
     }
+}
+
+/// The machine over the image of the program of kits, which is written, read and verified for it, without a component.
+pub fn read_machine<R: Files + AllocGlobal>(rt: &R, case: &mut Case, kits: &Kits) -> Option<Machine>
+    ensures bare { IfSome result (λ m. ⟦<Machine as Engine>⟧.live m ≡ map.empty) }
+    ensures statics { IfSome result
+        (λ m. ⟦<Machine as Engine>⟧.statics m ≡ (⟦<Machine as Engine>⟧.meaning m).initial_statics) }
+    ensures limit { IfSome result (λ m. ⟦<Machine as Engine>⟧.limit m ≡ kits.now.limit) }
+{
+    let text = image_text(rt, case, kits);
+    let Ok(image) = read_image(case.alloc(), text.as_slice()) else {
+        case.fail(CaseFault::BadInput);
+        return None;
+    };
+    let Ok(code) = verify(case.alloc(), image) else {
+        case.fail(CaseFault::BadInput);
+        return None;
+    };
+    match Machine::new(case.alloc(), code, kits.limit) {
+        Ok(machine) => Some(machine),
+        Err(_) => {
+            case.fail(CaseFault::Memory);
+            None
+        }
+    }
+}
+
+// The text of the image of the program of kits.
+fn image_text<R: Files + AllocGlobal>(rt: &R, case: &mut Case, kits: &Kits) -> Vec<u8> {
+    let mut text = Vec::new(case.alloc());
+    let Ok(program) = program(rt, kits.names.as_str()) else {
+        case.fail(CaseFault::BadInput);
+        return text;
+    };
+    match compile(case.alloc(), program) {
+        Ok(compiled) if compiled.write(&mut text).is_ok() => {}
+        _ => case.fail(CaseFault::BadInput),
+    }
+    text
 }

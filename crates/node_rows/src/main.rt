@@ -1,10 +1,11 @@
 //! The rows of applications and of what keeps them: requests, cycles, marks and events on real kits, over the walker
-//! and over the machine, and over an engine that wants memory; what is printed; the bytes of files; and the store on a
-//! disk.
+//! and over the machine, and over an engine that wants memory; what is printed; the bytes of files; the store on a
+//! disk; and a node, over the walker and over the machine of an image.
 #![tactic(auto)]
 
 mod files;
 mod kits;
+mod nodes;
 mod programs;
 mod scripts;
 mod stores;
@@ -13,7 +14,7 @@ use rows::{Case, CaseFault, run};
 use std::io;
 
 // The tables, in the order in which they run.
-const TABLES: [&str; 18] = [
+const TABLES: [&str; 19] = [
     "scripts",
     "tiny",
     "requests",
@@ -32,6 +33,7 @@ const TABLES: [&str; 18] = [
     "saves",
     "news",
     "system",
+    "nodes",
 ];
 
 fn main(rt: HostRuntime) -> io::Result<()> {
@@ -57,6 +59,7 @@ fn of_scripts(rt: &HostRuntime, name: &str, case: &mut Case) {
         "places" => files::places(case, rt),
         "prefixes" => files::prefixes(case, rt),
         "changes" => files::changes(case, rt),
+        "nodes" => nodes::nodes(case, rt),
         _ => of_stores(rt, name, case),
     }
 }
