@@ -2,6 +2,7 @@ pub mod Rows
 pub mod Told
 pub mod Grown
 pub mod ElaboratedFaultless
+pub mod Later
 pub mod Made
 mod Kept
 mod Spelled

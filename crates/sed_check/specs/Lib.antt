@@ -1,6 +1,7 @@
 pub mod Bodies
 pub mod Judgements
 pub mod Checked
+pub mod Settled
 pub mod Parts
 pub mod Read
 pub mod Means

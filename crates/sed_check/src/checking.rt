@@ -16,8 +16,8 @@ use std::alloc::Global;
 ///
 /// It asks for at most 15 kits whose names are names of kits, none twice and none `sys`, and units as the lexer and the
 /// grammar leave them. A fault is the first one of all: its rule, the number of its text among the texts of all kits,
-/// and its byte place there. Want of memory comes too where the number of a text or a place is 2^32 or more, or where
-/// there are more than 65,536 classes.
+/// and its byte place there. Want of memory comes too where the number of a text or a place is 2^32 or more, and where
+/// bodies have to be judged in units with more classes or members than 16 bits number.
 pub fn check(alloc: Global, units: &[KitUnits], cycles: bool) -> Result<Program, CheckRefusal>
     requires kits { length units.now ≤ 15 }
     requires named { KitsNamed units.now }

@@ -38,8 +38,8 @@ fn refusal_of(units: &[KitUnits], fault: PlacedFault) -> CheckRefusal
 
 /// The program that the units of kits spell; with `cycles` the first class must be a component that may have objects.
 ///
-/// A fault is the first one of all. Want of memory comes too where the number of a text or a place is 2^32 or more, or
-/// where there are more than 65,536 classes.
+/// A fault is the first one of all. Want of memory comes too where the number of a text or a place is 2^32 or more, and
+/// where bodies have to be judged in units with more classes or members than 16 bits number.
 pub fn elaborate(alloc: Global, units: &[KitUnits], cycles: bool) -> Result<Program, CheckRefusal>
     requires kits { length units.now ≤ 15 }
     requires spelled { All Spelled (declared_in units.now) }

@@ -30,6 +30,7 @@ mod outcomes;
 mod read_laws;
 mod refusal;
 mod runnable_laws;
+mod settling;
 mod statement_heights;
 mod typed_laws;
 

@@ -5,18 +5,20 @@ ghost use Rattle.sed_classes.specs.Declarations.{declared_in};
 ghost use Rattle.sed_classes.specs.Faults.{first_of};
 ghost use Rattle.sed_outline.specs.Fits.{Spelled as AreSpelled, Unbroken};
 ghost use Rattle.sed_program.specs.Methods.{methods_of};
+ghost use Rattle.sed_program.specs.Texts.{program_texts};
 ghost use Rattle.sed_first_fault.specs.Faults.{cycle_faults, declared_faults};
 ghost use Rattle.sed_check.specs.Bodies.{AreBodies, body_faults};
 ghost use Rattle.sed_check.specs.Checked.{IsSpelled, first_fault};
 ghost use Rattle.sed_check.specs.Parts.{IsOutcome};
 
 use crate::heads::methods;
+use crate::settling::settled;
 use crate::{Bodies, judged_bodies};
 use sed_classes::{Based, Classes, KitUnits, PlacedFault, sys_classes};
 use sed_first_fault::{cycle_fault, declared_fault, first};
 use sed_outline::{Measured, classes};
 use sed_program::{Spelled, Tables, note_bodies};
-use sed_typed::Program;
+use sed_typed::{Bytes255, Program};
 use sed_value::{Items, Memory};
 use std::alloc::Global;
 
@@ -69,8 +71,38 @@ fn earliest(
     first(first(declared, bodies), cycle)
 }
 
-// What units come to whose classes these are.
+// What units come to whose bodies have to be judged, where these are their texts, the first fault of what they declare,
+// and that of what `cycles` asks.
 fn judged(
+    alloc: Global,
+    units: &[KitUnits],
+    based: &Based<'_>,
+    texts: Vec<Bytes255>,
+    declared: Option<PlacedFault>,
+    cycle: Option<PlacedFault>,
+) -> Result<Outcome, Memory>
+    requires same { based.now ≡ units.now }
+    requires kits { length units.now ≤ 15 }
+    requires spelled { All AreSpelled (declared_in units.now) }
+    requires texts { texts.items ≡ program_texts based.now }
+    requires declared { declared ≡ first_of (declared_faults units.now) }
+    requires asked { (cycles : Bool) × (cycle ≡ first_of (cycle_faults units.now cycles)) }
+    ensures { (cycles : Bool) → cycle ≡ first_of (cycle_faults units.now cycles) →
+        IfOk result (IsOutcome units.now cycles) }
+{
+    let tables = Tables::new(alloc, based, texts)?;
+    let bodies = judged_bodies(alloc, &tables)?;
+    match earliest(declared, bodies.first, cycle) {
+        Some(fault) => Ok(Outcome::Broken(fault)),
+        None => {
+            let program = program(alloc, units, &tables, bodies)?;
+            Ok(Outcome::Program(program))
+        }
+    }
+}
+
+// What units come to whose classes these are.
+fn found(
     alloc: Global,
     units: &[KitUnits],
     measured: &Measured<'_>,
@@ -81,17 +113,13 @@ fn judged(
     requires spelled { All AreSpelled (declared_in units.now) }
     ensures { IfOk result (IsOutcome units.now cycles) }
 {
-    let Spelled { texts, faults } = note_bodies(alloc, measured.based())?;
+    let based = measured.based();
+    let Spelled { texts, faults } = note_bodies(alloc, based)?;
     let declared = declared_fault(alloc, measured, faults.as_slice())?;
-    let cycle = cycle_fault(alloc, measured.based(), cycles)?;
-    let tables = Tables::new(alloc, measured.based(), texts)?;
-    let bodies = judged_bodies(alloc, &tables)?;
-    match earliest(declared, bodies.first, cycle) {
+    let cycle = cycle_fault(alloc, based, cycles)?;
+    match settled(based.classes(), declared, cycle) {
         Some(fault) => Ok(Outcome::Broken(fault)),
-        None => {
-            let program = program(alloc, units, &tables, bodies)?;
-            Ok(Outcome::Program(program))
-        }
+        None => judged(alloc, units, based, texts, declared, cycle),
     }
 }
 
@@ -107,5 +135,5 @@ pub fn outcome_of(alloc: Global, units: &[KitUnits], cycles: bool) -> Result<Out
     let all = Classes::new(alloc, sys.as_slice(), units)?;
     let based = Based::new(alloc, all)?;
     let measured = Measured::new(alloc, based)?;
-    judged(alloc, units, &measured, cycles)
+    found(alloc, units, &measured, cycles)
 }

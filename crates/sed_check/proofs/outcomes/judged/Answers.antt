@@ -1,6 +1,5 @@
 use Rattle.std.proofs.Common.{sym, ap, ◌∙◌}
 use Rattle.sed_classes.specs.Faults.{first_of}
-use Rattle.sed_first_fault.specs.Faults.{cycle_faults, declared_faults}
 use Rattle.sed_check.specs.Bodies.{body_faults}
 use Rattle.sed_check.specs.Checked.{faults}
 use Rattle.sed_check.proofs.ElaboratedFaultless.{no_fault, unbroken}
@@ -9,7 +8,7 @@ use Rattle.sed_check.proofs.outcomes.judged.Goals as goal
 pub program-requires-clause-unbroken : goal.program-requires-clause-unbroken
 program-requires-clause-unbroken c =
     let units = c.args.units.now in
-    let cycles = c.args.cycles in
+    let cycles = c.requires.asked.0 in
     unbroken
     units
     cycles
@@ -21,21 +20,18 @@ program-requires-clause-unbroken c =
     (c.earliest.ensures
     units
     cycles
-    (c.in_ok-declared.ensures ∙ ap (λ u. first_of (declared_faults u)) c.requires.same)
-    (c.in_ok-bodies.ensures.first
-    ∙ ap (λ u. first_of (body_faults u)) (c.in_ok-tables.ensures ∙ c.based-3.ensures ∙ c.requires.same))
-    (c.in_ok-cycle.ensures ∙ ap (λ u. first_of (cycle_faults u cycles)) (c.based-2.ensures ∙ c.requires.same)))
+    c.requires.declared
+    (c.in_ok-bodies.ensures.first ∙ ap (λ u. first_of (body_faults u)) (c.in_ok-tables.ensures ∙ c.requires.same))
+    c.requires.asked.1)
     ∙ c.in-None.is))
 
 pub returns : goal.returns
-returns c =
+returns c cycles asked =
     let units = c.args.units.now in
-    let cycles = c.args.cycles in
     let found = c.earliest.ensures
     units
     cycles
-    (c.in_ok-declared.ensures ∙ ap (λ u. first_of (declared_faults u)) c.requires.same)
-    (c.in_ok-bodies.ensures.first
-    ∙ ap (λ u. first_of (body_faults u)) (c.in_ok-tables.ensures ∙ c.based-3.ensures ∙ c.requires.same))
-    (c.in_ok-cycle.ensures ∙ ap (λ u. first_of (cycle_faults u cycles)) (c.based-2.ensures ∙ c.requires.same)) in
+    c.requires.declared
+    (c.in_ok-bodies.ensures.first ∙ ap (λ u. first_of (body_faults u)) (c.in_ok-tables.ensures ∙ c.requires.same))
+    asked in
     (no_fault (faults units cycles) (sym found ∙ c.in-None.is), c.in_ok-program-in-None.ensures)
