@@ -10,7 +10,6 @@ use Rattle.disk_model.specs.declared.disk.Disk.{Ghosts as DiskGhosts}
 use Rattle.sed_outside.specs.Steps.{Read}
 use Rattle.sed_outside.specs.Reads.{HasReads}
 use Rattle.sed_outside.proofs.Joining.{same_reads}
-use Rattle.sedona_cli.specs.Writing.{unwritten_in}
 use Rattle.sedona_cli.specs.Outside.{Ask, read_of, reads_in, of_reads, is_of_files, spares, Spares, AreAsked, AsksDisk, HasAsks, AttachesIfAny}
 
 -- ---- reads alone
@@ -61,10 +60,6 @@ spares_behind store reads asks spared = record {
   ];
 }
 
-pub unwritten_behind : (reads : List Read) (asks : List Ask) → unwritten_in (of_reads reads ++ asks) ≡ unwritten_in asks
-unwritten_behind [] asks = refl
-unwritten_behind (read ∷ reads) asks = unwritten_behind reads asks
-
 -- ---- a disk
 
 pub both_asked : {T : Type 0} (D : DiskGhosts T) (front back : List Ask) (a b c : T) → AreAsked D front a b → AreAsked D back b c → AreAsked D (front ++ back) a c
@@ -83,10 +78,6 @@ asked_behind D (read ∷ reads) rest d e asked = subst (λ t. AreAsked D rest t 
 pub reads_leave : {T : Type 0} (D : DiskGhosts T) (reads : List Read) (d e : T) → AreAsked D (of_reads reads) d e → e ≡ d
 reads_leave D [] d e asked = asked
 reads_leave D (read ∷ reads) d e asked = reads_leave D reads asked.0 e asked.2 ∙ asked.1
-
--- nothing is asked
-pub nothing : {T : Type 0} (D : DiskGhosts T) (d : T) (P : List Ask → Type 0) → P [] → AsksDisk D d d P
-nothing D d P holds = record { asks = []; unread = refl; asked = refl; holds = holds }
 
 pub same_disk : {T : Type 0} (D : DiskGhosts T) (a b : T) (P Q : List Ask → Type 0) → ((asks : List Ask) → P asks → Q asks) → AsksDisk D a b P → AsksDisk D a b Q
 same_disk D a b P Q map has = record { asks = has.asks; unread = has.unread; asked = has.asked; holds = map has.asks has.holds }

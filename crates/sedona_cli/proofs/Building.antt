@@ -12,7 +12,6 @@ use Rattle.sed_outside.proofs.Joining.{no_reads, same_reads}
 use Rattle.sed_engine.specs.Program.{meaning_of}
 use Rattle.sed_typed.specs.declared.program.Program.{Program}
 use Rattle.sed_check.specs.declared.refusal.KitsRefusal.{KitsRefusal}
-use Rattle.sed_check.specs.declared.refusal.KitsRefusal.TheVariants as kits
 use Rattle.sed_check.specs.Loading.{KitsLoaded}
 use Rattle.sed_check.specs.Refusals.{is_want as kits_want}
 use Rattle.app_writer.specs.Alone.{AllNew}
@@ -29,6 +28,7 @@ use Rattle.sedona_cli.proofs.Asking.{reads_spare, spares_behind, then_disk, both
 use Rattle.sedona_cli.proofs.Ends.{ok_err, one_refusal}
 use Rattle.sedona_cli.proofs.Generated.{done_by, generates, unloaded}
 use Rattle.sedona_cli.proofs.StoreAsked.{Last, last_behind, marks_made}
+use Rattle.sed_check.specs.declared.refusal.KitsRefusal.TheVariants as kits
 
 -- ---- want of memory or not
 
@@ -225,7 +225,3 @@ new_leaves F a b d e names slot program (Err refusal) loaded mark opens = tt
 pub on_ok_holds : {X : Type 0} (r : Result X Refusal) (P : Type 0) → IsOk r → OnOk r P → P
 on_ok_holds (Ok x) P is p = p
 on_ok_holds (Err refusal) P is p = absurd (cc)
-
-pub on_ok_all : {X : Type 0} (r : Result X Refusal) (P : Type 0) → P → OnOk r P
-on_ok_all (Ok x) P p = p
-on_ok_all (Err refusal) P p = tt

@@ -3,22 +3,15 @@ pub mod Puts
 pub mod Ends
 pub mod Asking
 pub mod StoreAsked
-pub mod AlikeFiles
-pub mod Alike
 pub mod Loadings
 pub mod Generated
 pub mod ReplayAsked
-pub mod ReplayEnds
 pub mod LiveAsked
-pub mod LiveEnds
 pub mod WritingLast
 pub mod Recording
 pub mod Imaging
-pub mod Codes
 pub mod Comings
 pub mod Answering
-pub mod Agreeing
-pub mod Storing
 pub mod Building
 pub mod Attaching
 pub mod Opening
@@ -33,3 +26,4 @@ pub mod GenSteps
 pub mod CompileSteps
 pub mod Wanting
 pub mod Playing
+pub mod EarlyEnds

@@ -45,7 +45,7 @@ use Rattle.sedona_cli.specs.Puts.{IsOneOf, Puts}
 use Rattle.sedona_cli.specs.Refusals.{is_want, is_worded}
 use Rattle.sedona_cli.specs.Run.{AnswersLive, was_run, was_unbound, was_unready, AsksLive, unasked, unbound, unready, all_done, EndsPut, all_put, not_put, Lives, RanBy, RunComes, RunInputsRead, RunOpened, RunsKept, RunsLive, RunsOn, RunsReady, ShowsEnd, WasTaken, at_link}
 use Rattle.sedona_cli.specs.Steps.{AfterCode, AfterSecret, AfterUsers}
-use Rattle.sedona_cli.proofs.Agreeing.{OpensOnce}
+use Rattle.sedona_cli.proofs.Ran.{OpensOnce}
 use Rattle.sedona_cli.proofs.Asking.{both_asked, both_disk, only_reads, reads_asked, reads_before, reads_spare, same_disk, spares_behind}
 use Rattle.sedona_cli.proofs.Building.{match_both}
 use Rattle.sedona_cli.proofs.LiveAsked.{run_inputs_alone}
@@ -54,7 +54,7 @@ use Rattle.sedona_cli.proofs.Ran.{HeldRun, IsLawful, leaves_store}
 use Rattle.sedona_cli.proofs.ReplayAsked.{of_open, opened_to}
 use Rattle.sedona_cli.proofs.ReplaySteps.{reads_end, reads_go, reads_stop}
 use Rattle.sedona_cli.proofs.StoreAsked.{last_behind, of_refusal}
-use Rattle.sedona_cli.proofs.Storing.{early_link, store_link}
+use Rattle.sedona_cli.proofs.EarlyEnds.{early_link, store_link}
 
 -- ---- what is read of the words of a node
 

@@ -17,10 +17,14 @@ use Rattle.sed_node.specs.Running.{ComesTo, IsSince, OpensSince, acknowledged_in
 use Rattle.sedona_cli.specs.Nodes.{LeavesStore}
 use Rattle.sedona_cli.specs.Outside.{Ran, reached, saves_in, HoldsPayload}
 use Rattle.sedona_cli.specs.Program.{SparesDisk}
-use Rattle.sedona_cli.proofs.Agreeing.{OpensOnce}
 use Rattle.sedona_cli.proofs.ReplayAsked.{RanOn}
 use Rattle.sedona_cli.proofs.ShowSteps.{behind_sync}
 use Rattle.sedona_cli.proofs.StoreAsked.{found_disk}
+
+-- a store opens to one payload
+pub record OpensOnce : Type 0 where
+  pub slot : (S T : ℕ) (image : Image) → IsStore S image → IsStore T image → S ≡ T
+  pub payload : (S : ℕ) (image : Image) (p q : List ℕ) → IsOpen S image p → IsOpen S image q → p ≡ q
 
 -- what a read gives is one of the images that a crash now may leave
 abbrev pub IsLawful : {T : Type 0} → DiskGhosts T → Type 0

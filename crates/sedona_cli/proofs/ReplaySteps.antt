@@ -5,7 +5,6 @@ use Rattle.std.proofs.lemmas.List.{append-nil}
 use Rattle.sed_outside.specs.declared.files.Files.{Ghosts as FileGhosts}
 use Rattle.disk_model.specs.declared.disk.Disk.{Ghosts as DiskGhosts}
 use Rattle.app_file.specs.Reading.{CanBeTold, IsFile}
-use Rattle.app_file.specs.Reading as payload_read
 use Rattle.disk_model.specs.Disk.{Meaning}
 use Rattle.app_save.specs.Saving.{AllOpen, AllStores}
 use Rattle.comp_tree.specs.Application.{Application}
@@ -15,12 +14,10 @@ use Rattle.sed_outside.specs.Reads.{HasReads}
 use Rattle.sed_outside.proofs.Joining.{both_reads, no_reads, same_reads, unless_map}
 use Rattle.input_files.specs.Refusals.{is_want as inputs_want}
 use Rattle.input_files.specs.declared.refusal.InputRefusal.{InputRefusal}
-use Rattle.input_files.specs.declared.refusal.InputRefusal.TheVariants as inputs
 use Rattle.node_events.specs.Node.{Setup, opened}
 use Rattle.sed_engine.specs.declared.engine.Engine.{Ghosts}
 use Rattle.sed_engine.specs.Code.{Meaning as Code}
 use Rattle.sed_engine.specs.Whole.{HasTables}
-use Rattle.sed_check.specs.Loading.{Told}
 use Rattle.sed_node.specs.Standing.{StandsFor, code_of, is_fixed, setup_of}
 use Rattle.sed_node.specs.declared.kept.Kept.{Kept}
 use Rattle.sedona_cli.specs.Given.{GivenRecord, ended_as}
@@ -38,6 +35,8 @@ use Rattle.sedona_cli.proofs.Asking.{both_asked, both_disk, only_reads, reads_as
 use Rattle.sedona_cli.proofs.Building.{either_way, match_both}
 use Rattle.sedona_cli.proofs.ReplayAsked.{of_both, opened_to}
 use Rattle.sedona_cli.proofs.WithPayload.{found_spares, not_attached, not_opened}
+use Rattle.app_file.specs.Reading as payload_read
+use Rattle.input_files.specs.declared.refusal.InputRefusal.TheVariants as inputs
 
 -- ---- files
 
@@ -49,11 +48,6 @@ as_read F a b step (Ok x) has =
 as_read F a b step (Err r) has =
     same_reads F a b (λ reads. UnlessFree is_want (step reads) (Err r)) (λ reads. UnlessFree is_want (OfReads step (of_reads reads)) (Err r))
     (λ reads held. unless_map (is_want r) (step reads (Err r)) (OfReads step (of_reads reads) (Err r)) (λ h. (reads, refl, h)) held) has
-
--- a step of files
-pub as_asked : {T E X : Type 0} (F : FileGhosts T) (a b : T) (told : E → Refusal) (step : List Read → Result X E → Type 0) (end : Result X Refusal)
-    → HasReads F a b (λ reads. UnlessFree is_want (Told told step reads) end) → HasReads F a b (λ reads. UnlessFree is_want (OfFiles told step (of_reads reads)) end)
-as_asked F a b told step end has = as_read F a b (Told told step) end has
 
 -- an input file
 pub input_given : {T X : Type 0} (F : FileGhosts T) (a b : T) (step : List Read → Result X InputRefusal → Type 0) (r : Result X InputRefusal) (x : X) → r ≡ Ok x

@@ -21,11 +21,6 @@ use Rattle.sedona_cli.proofs.Asking.{cause_as, reads_spare, spares_behind}
 use Rattle.sedona_cli.proofs.Building.{match_both}
 use Rattle.sedona_cli.proofs.WritingLast.{WritesLast}
 
--- ---- the write
-
-pub nothing_written : {S : Type 0} (F : FileGhosts S) (name bytes : List ℕ) (a : S) → HasWrite F name a a (λ asks. OrWants None (FileWritten name bytes) asks (Err Memory))
-nothing_written F name bytes a = nothing refl (record { unwritten = refl; attached = inl refl })
-
 -- how a write that ended so is answered
 abbrev pub write_answer : List ℕ → List ℕ → Result (Unit {0}) FileFailure → Result (List ℕ) Refusal
 write_answer name text (Ok u) = Ok text

@@ -31,5 +31,4 @@ pub mod Compile
 pub mod Program
 pub mod World
 pub mod Does
-pub mod Agree
 pub mod Status

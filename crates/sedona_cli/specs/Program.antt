@@ -1,18 +1,14 @@
 -- What the program answers.
-use Rattle.std.specs.Prelude.{◌≡◌, ◌≢◌, ◌⊎◌, ℕ, true, IsTrue, List, [], ◌∷◌, length, Contains, MatchBool, Option, Some}
-use Rattle.std.specs.Prelude.{None, Result, Ok, Err}
-use Rattle.std.specs.List.{flat_map}
-use Rattle.std.specs.Option.{option_map_or}
+use Rattle.std.specs.Prelude.{◌≡◌, ℕ, IsTrue, List, [], ◌∷◌, MatchBool, Option, Some, None, Result, Ok, Err}
 use Rattle.sed_typed.specs.declared.program.Program.{Program as TheProgram}
 use Rattle.sed_outside.specs.Cause.{Rose}
 use Rattle.sed_outside.specs.Sink.{with_text, PutsFront}
 use Rattle.sed_outside.specs.declared.files.Files.{Ghosts as FileGhosts}
 use Rattle.sed_outside.specs.declared.clock.Clock.{Ghosts as ClockGhosts}
 use Rattle.sed_outside.specs.declared.link.Link.{Ghosts as LinkGhosts}
-use Rattle.disk_model.specs.Disk.{Image, Meaning, Attaches as IsAttach, Keeps, MarksUp}
+use Rattle.disk_model.specs.Disk.{Meaning, Keeps, MarksUp}
 use Rattle.disk_model.specs.declared.disk.Disk.{Ghosts as DiskGhosts}
-use Rattle.app_save.specs.Store.{Opens as IsOpen}
-use Rattle.sed_outside.specs.Steps.{Read, AndThen}
+use Rattle.sed_outside.specs.Steps.{AndThen}
 use Rattle.sed_cycles.specs.Cycles.{text_after}
 use Rattle.sedona_cli.specs.declared.refusal.Refusal.{Refusal}
 use Rattle.sed_engine.specs.Program.{meaning_of}
@@ -21,12 +17,11 @@ use Rattle.sedona_cli.specs.Compile.{CompileComes, LeavesImage}
 use Rattle.sedona_cli.specs.Gen.{GenComes, LeavesRecord}
 use Rattle.sedona_cli.specs.Lines.{line_of, memory_line}
 use Rattle.sedona_cli.specs.New.{LeavesNew, NewComes}
-use Rattle.sedona_cli.specs.Puts.{IsOneOf, Puts}
+use Rattle.sedona_cli.specs.Puts.{Puts}
 use Rattle.sedona_cli.specs.Replay.{ReplayComes, ReplayStops}
 use Rattle.sedona_cli.specs.Run.{AsksLive, RanBy, RunComes}
 use Rattle.sedona_cli.specs.Show.{ShowComes}
-use Rattle.sedona_cli.specs.Outside.{Ask, Reads, Writes, Written, Attaches, Makes, Opens, Binds, Runs, Made, Whole}
-use Rattle.sedona_cli.specs.Outside.{NotEmpty, Failed, Opened, Found, NotAStore, Unread, Unheld, IsNoStore, Spares}
+use Rattle.sedona_cli.specs.Outside.{Ask, Spares}
 use Rattle.sedona_cli.specs.Refusals.{is_want}
 use Rattle.sedona_cli.specs.Status.{number_of, status_of}
 use Rattle.sedona_cli.specs.Words.{command_asked}
@@ -130,27 +125,8 @@ Leaves F D (Replay asked file) files files_now disk disk_now = Unit {0}
 Leaves F D (Run asked) files files_now disk disk_now = Unit {0}
 Leaves F D (Gen asked) files files_now disk disk_now = LeavesRecord F asked files files_now
 
--- The statuses before whose refusals no step comes to the store, and those behind which it was come to.
-abbrev pub before_store : List ℕ
-before_store = 2 ∷ 3 ∷ 6 ∷ 9 ∷ 11 ∷ 12 ∷ []
-
 abbrev pub at_store : List ℕ
 at_store = 0 ∷ 4 ∷ 5 ∷ 8 ∷ 10 ∷ []
-
--- A command with a store attaches its name, once, exactly where the order comes to it, and before anything else is
--- asked of the disk: as many calls had been made then as when the command began; with want of memory once or never.
-pub record AttachesBy {T : Type 0} (D : DiskGhosts T) (name : List ℕ) (status : ℕ) (disk disk_now : T) : Type 0 where
-  pub never : IsOneOf before_store status → disk_now ≡ disk
-  pub once : IsOneOf at_store status
-      → IsAttach (D.meaning disk).calls (D.meaning disk).attached (D.meaning disk_now).attached name
-  pub at_most_once : status ≡ 7
-      → (disk_now ≡ disk)
-      ⊎ IsAttach (D.meaning disk).calls (D.meaning disk).attached (D.meaning disk_now).attached name
-
--- without a store it leaves the disk
-abbrev pub AsksStore : {T : Type 0} → DiskGhosts T → Option (List ℕ) → ℕ → T → T → Type 0
-AsksStore D None status disk disk_now = disk_now ≡ disk
-AsksStore D (Some name) status disk disk_now = AttachesBy D name status disk disk_now
 
 -- What was asked of the link and the clock, by command: without a port nothing, and with one what `run` and `boot` ask
 -- of them, and where it was done, what they leave.
@@ -162,46 +138,3 @@ AsksLiveOf F D L C (Run asked) files files_now link link_now clock clock_now dis
     (RanBy F D L C asked files files_now link link_now clock clock_now disk disk_now before after status)
 AsksLiveOf F D L C command files files_now link link_now clock clock_now disk disk_now before after status =
     (link_now ≡ link) × (clock_now ≡ clock)
-
--- ---- what must come
-
--- the names of the files that these reads gave
-abbrev pub given_name : Read → List (List ℕ)
-given_name read = option_map_or (λ text. read.name ∷ []) read.gave []
-
--- no count of failed reads of a file rose that these reads gave
-abbrev pub DidNotFail : (List ℕ → ℕ) → (List ℕ → ℕ) → List Read → Type 0
-DidNotFail before now reads =
-    (name : List ℕ) → Contains (flat_map given_name reads) name → Rose (before name) (now name) → ⊥
-
--- A disk that holds this answers so, where it does not fail: a name is attached, a store is made in an empty file
--- alone, and one is opened where there is a whole one, to the payload of its newest slot.
-abbrev pub HowMade : Image → Made → Type 0
-HowMade content Whole = length content ≡ 0
-HowMade content NotEmpty = length content ≢ 0
-HowMade content Failed = ⊥
-
-abbrev pub HowOpened : Image → Opened → Type 0
-HowOpened content (Found payload) = (S : ℕ) × IsOpen S content payload
-HowOpened content NotAStore = IsNoStore content
-HowOpened content Unread = ⊥
-HowOpened content Unheld = ⊥
-
--- A write is told to be done, and a port to be taken. Behind the making of a store nothing is told, nor behind a run.
-abbrev pub AreToldOf : Meaning → List Ask → Type 0
-AreToldOf disk [] = Unit {0}
-AreToldOf disk (Reads read ∷ asks) = AreToldOf disk asks
-AreToldOf disk (Writes name bytes how ∷ asks) = (how ≡ Written) × AreToldOf disk asks
-AreToldOf disk (Attaches name was_done ∷ asks) = (was_done ≡ true) × AreToldOf disk asks
-AreToldOf disk (Makes slot payload how ∷ asks) = IsTrue disk.tells × HowMade disk.content how × (asks ≡ [])
-AreToldOf disk (Opens how ∷ asks) = IsTrue disk.tells × HowOpened disk.content how × AreToldOf disk asks
-AreToldOf disk (Binds port was_done ∷ asks) = (was_done ≡ true) × AreToldOf disk asks
-AreToldOf disk (Runs ran ∷ asks) = asks ≡ []
-
--- How what a command comes to is answered: a text with status 0, or with 8 where the sink's count moved; a refusal with
--- its status. Want of memory may come in the place of each.
-abbrev pub Follows : ℕ → ℕ → Result (List ℕ) Refusal → ℕ → Type 0
-Follows faults_before faults_after (Ok text) status =
-    ((Rose faults_before faults_after → ⊥) → IsOneOf (0 ∷ 7 ∷ []) status)
-    × ((faults_after ≡ faults_before → ⊥) → IsOneOf (8 ∷ 7 ∷ []) status)
-Follows faults_before faults_after (Err refusal) status = IsOneOf (number_of (status_of refusal) ∷ 7 ∷ []) status

@@ -12,16 +12,19 @@ use Rattle.sedona_cli.specs.declared.refusal.Refusal.{Refusal}
 use Rattle.sedona_words.specs.Command.{Command, New, output_of, port_of, store_of}
 use Rattle.sedona_cli.specs.Does.{Does}
 use Rattle.sedona_cli.specs.Outside.{Ask, reads_in}
-use Rattle.sedona_cli.specs.Program.{AreToldOf, AsksStore, Comes, DidNotFail, Follows, IsAnswer, SparesDisk}
+use Rattle.sedona_laws.specs.Told.{AreToldOf, DidNotFail, Follows}
+use Rattle.sedona_laws.specs.Attached.{AsksStore}
+use Rattle.sedona_cli.specs.Program.{Comes, IsAnswer, SparesDisk}
 use Rattle.sedona_cli.specs.Puts.{IsOneOf}
 use Rattle.sedona_cli.specs.Run.{AsksLink}
 use Rattle.sedona_cli.specs.World.{World}
-use Rattle.sedona_cli.specs.Writing.{DidNotFailToWrite, KeepsFiles, KeepsWrites}
-use Rattle.sedona_cli.proofs.Agreeing.{OpensOnce, disk_agrees}
-use Rattle.sedona_cli.proofs.Answering.{answer_follows, file_fault, seven_follows, known_agree, reads_stay, writes_stay}
-use Rattle.sedona_cli.proofs.Comings.{TellsCalls}
-use Rattle.sedona_cli.proofs.Loadings.{HasOneEnd}
-use Rattle.sedona_cli.proofs.Storing.{asks_store, device_fault, exists, nothing_written, spared, until_no_output, all_bound}
+use Rattle.sedona_laws.specs.Files.{DidNotFailToWrite, KeepsFiles, KeepsWrites}
+use Rattle.sedona_cli.proofs.Ran.{OpensOnce}
+use Rattle.sedona_laws.proofs.Agreeing.{disk_agrees}
+use Rattle.sedona_laws.proofs.Following.{answer_follows, file_fault, seven_follows, known_agree, reads_stay, writes_stay}
+use Rattle.sedona_laws.proofs.CommandEnds.{TellsCalls}
+use Rattle.sedona_laws.proofs.InputsOnce.{HasOneEnd}
+use Rattle.sedona_laws.proofs.StoresOpen.{asks_store, device_fault, exists, nothing_written, spared, until_no_output, all_bound}
 use Rattle.sedona_laws.proofs.LiveRun.{asks_link, link_fault}
 use Rattle.sedona_laws.proofs.Outputs.{AllAsked, all_asked, keeps_files, keeps_writes, moved_none, unmoved, writes_known}
 use Rattle.sedona_laws.proofs.Statuses.{all_statuses, is_answered, not_usage}

@@ -14,16 +14,17 @@ use Rattle.sedona_cli.specs.Outside.{Ask, of_reads, reads_in, AreAsked, HasAsks}
 use Rattle.sedona_cli.specs.Program.{AsksLiveOf, IsAnswer, done, unput, stopped, refused, wanted}
 use Rattle.sedona_cli.specs.Puts.{IsOneOf}
 use Rattle.sedona_cli.specs.Run.{AsksLink, AsksLive, unasked, unbound, unready, all_done, BindsBy, RunInputsRead, RunsNone, at_link, before_link}
-use Rattle.sedona_cli.proofs.Agreeing.{OpensOnce}
-use Rattle.sedona_cli.proofs.Alike.{ReadsOne}
+use Rattle.sedona_cli.proofs.Ran.{OpensOnce}
+use Rattle.sedona_laws.proofs.Alike.{ReadsOne}
 use Rattle.sedona_cli.proofs.Asking.{reads_before}
 use Rattle.sedona_cli.proofs.Ends.{err_ok, one_refusal}
 use Rattle.sedona_cli.proofs.LiveAsked.{run_inputs_alone}
-use Rattle.sedona_cli.proofs.ReplayEnds.{open_reads}
+use Rattle.sedona_laws.proofs.ReplayEnds.{open_reads}
 use Rattle.sedona_laws.proofs.ReplayRun.{none_of}
-use Rattle.sedona_cli.proofs.ShowSteps.{OpensNone, neither}
+use Rattle.sedona_laws.proofs.ShownBy.{OpensNone, neither}
 use Rattle.sedona_cli.proofs.StoreAsked.{of_refusal}
-use Rattle.sedona_cli.proofs.Storing.{five, no_link}
+use Rattle.sedona_cli.proofs.EarlyEnds.{five}
+use Rattle.sedona_laws.proofs.StoresOpen.{no_link}
 
 -- ---- numbers of statuses
 

@@ -8,9 +8,11 @@ use Rattle.disk_model.specs.declared.disk.Disk.{Ghosts as DiskGhosts}
 use Rattle.sed_outside.specs.Steps.{Read}
 use Rattle.sed_outside.specs.Reads.{AreGiven, CountsMoved, HasReads, failed_names}
 use Rattle.sedona_cli.specs.Outside.{Ask, Writes, Wrote, Written, Unwritten, Withheld, AreAsked, of_reads, reads_in}
-use Rattle.sedona_cli.specs.Writing.{AsksOf, DidNotFailToWrite, HasWrite, IsWritten, KeepsFiles, KeepsWrites, once, nothing, unwritten_by, unwritten_in, written_in}
-use Rattle.sedona_cli.proofs.Agreeing.{WritesKnown}
-use Rattle.sedona_cli.proofs.Asking.{both_asked, reads_asked, reads_before, unwritten_behind}
+use Rattle.sedona_cli.specs.Writing.{AsksOf, HasWrite, IsWritten, once, nothing}
+use Rattle.sedona_laws.proofs.Unwritten.{unwritten_behind}
+use Rattle.sedona_laws.specs.Files.{DidNotFailToWrite, KeepsFiles, KeepsWrites, unwritten_by, unwritten_in, written_in}
+use Rattle.sedona_laws.proofs.Agreeing.{WritesKnown}
+use Rattle.sedona_cli.proofs.Asking.{both_asked, reads_asked, reads_before}
 
 -- ---- the counts of failed writes
 

@@ -18,17 +18,19 @@ use Rattle.sedona_cli.specs.Outside.{Ask, Attaches, Opens, Runs, Found, NotAStor
 use Rattle.sedona_cli.specs.Puts.{IsOneOf}
 use Rattle.sedona_cli.specs.Program.{IsAnswer, done, unput, stopped, refused, wanted}
 use Rattle.sedona_cli.specs.Nodes.{Opened}
-use Rattle.sedona_cli.specs.Replay.{HoldsNone, InputsRead, Replayed, ReplayedBy, ReplayComes, ReplayStops, Shows, in_full, in_part}
-use Rattle.sedona_cli.proofs.Agreeing.{OpensOnce}
-use Rattle.sedona_cli.proofs.Alike.{ReadsOne}
+use Rattle.sedona_laws.specs.Replayed.{HoldsNone, Replayed, ReplayedBy, Shows, in_full, in_part}
+use Rattle.sedona_cli.specs.Replay.{InputsRead, ReplayComes, ReplayStops}
+use Rattle.sedona_cli.proofs.Ran.{OpensOnce}
+use Rattle.sedona_laws.proofs.Alike.{ReadsOne}
 use Rattle.sedona_cli.proofs.Asking.{asked_behind, reads_before}
 use Rattle.sedona_cli.proofs.Ends.{err_ok, ok_err, one_refusal}
 use Rattle.sedona_cli.proofs.Ran.{HeldRun, IsLawful, leaves_store}
-use Rattle.sedona_cli.proofs.ReplayAsked.{RanBy, inputs_alone, ran_by, ran_on, ran_until}
-use Rattle.sedona_cli.proofs.ReplayEnds.{open_reads}
-use Rattle.sedona_cli.proofs.ShowSteps.{OpensNone, neither, none_in, undone}
+use Rattle.sedona_laws.proofs.ReplayRan.{RanBy, ran_by, ran_on, ran_until}
+use Rattle.sedona_cli.proofs.ReplayAsked.{inputs_alone}
+use Rattle.sedona_laws.proofs.ReplayEnds.{open_reads}
+use Rattle.sedona_laws.proofs.ShownBy.{OpensNone, neither, none_in, undone}
 use Rattle.sedona_cli.proofs.StoreAsked.{behind, last_behind, of_refusal, two, two_stop}
-use Rattle.sedona_cli.proofs.Storing.{five}
+use Rattle.sedona_cli.proofs.EarlyEnds.{five}
 
 -- ---- what is shown and left
 

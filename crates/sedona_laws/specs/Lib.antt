@@ -2,3 +2,12 @@ pub use Rattle.sedona_cli.specs.Does
 pub use Rattle.sedona_cli.specs.World
 pub mod Answers
 pub mod Replies
+pub mod Files
+pub mod Agree
+pub mod Told
+pub mod Attached
+pub mod Shown
+pub mod Replayed
+pub mod Booting
+pub mod Carrying
+pub mod Steps

@@ -5,10 +5,12 @@ ghost use Rattle.sedona_words.specs.Command.{Command, output_of};
 ghost use Rattle.sedona_cli.specs.declared.refusal.Refusal.{Refusal};
 ghost use Rattle.sedona_cli.specs.Does.{Does};
 ghost use Rattle.sedona_cli.specs.Outside.{Ask, reads_in};
-ghost use Rattle.sedona_cli.specs.Program.{AreToldOf, Comes, DidNotFail, Follows, IsAnswer, Leaves};
+ghost use Rattle.sedona_laws.specs.Told.{AreToldOf, DidNotFail, Follows};
+ghost use Rattle.sedona_cli.specs.Program.{Comes, IsAnswer, Leaves};
 ghost use Rattle.sedona_cli.specs.Puts.{IsOneOf};
 ghost use Rattle.sedona_cli.specs.World.{World};
-ghost use Rattle.sedona_cli.specs.Writing.{AsksOf, DidNotFailToWrite};
+ghost use Rattle.sedona_cli.specs.Writing.{AsksOf};
+ghost use Rattle.sedona_laws.specs.Files.{DidNotFailToWrite};
 
 use crate::ends::one_end;
 use app_save::stores_open_to_one;

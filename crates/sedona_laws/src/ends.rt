@@ -1,7 +1,7 @@
 //! What a command comes to is one, and tells which reads failed. Each is the contract of a function that does nothing.
 ghost use Rattle.std.specs.Prelude.{◌≡◌, ℕ, List, Result};
 ghost use Rattle.sedona_cli.specs.declared.refusal.Refusal.{Refusal};
-ghost use Rattle.sedona_cli.specs.Agree.{AgreeOn, failed_by, failed_calls};
+ghost use Rattle.sedona_laws.specs.Agree.{AgreeOn, failed_by, failed_calls};
 ghost use Rattle.sedona_words.specs.Command.{Command, output_of};
 ghost use Rattle.sedona_cli.specs.Outside.{Ask};
 ghost use Rattle.sedona_cli.specs.Program.{Comes, refusal_by};

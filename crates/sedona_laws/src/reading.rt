@@ -3,7 +3,7 @@ ghost use Rattle.std.specs.Prelude.{◌≡◌, ◌≢◌, ◌⊎◌, ℕ, List};
 ghost use Rattle.sedona_words.specs.Command.{Command, output_of};
 ghost use Rattle.sedona_cli.specs.Does.{Does};
 ghost use Rattle.sedona_cli.specs.World.{World};
-ghost use Rattle.sedona_cli.specs.Writing.{KeepsFiles, KeepsWrites};
+ghost use Rattle.sedona_laws.specs.Files.{KeepsFiles, KeepsWrites};
 ghost use Rattle.sedona_laws.specs.Answers.{Answers};
 
 use crate::ends::failed_reads_end_it;

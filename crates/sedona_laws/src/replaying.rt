@@ -3,7 +3,7 @@ ghost use Rattle.std.specs.Prelude.{◌≡◌, ℕ, IsTrue, List, [], ◌∷◌}
 ghost use Rattle.sedona_words.specs.Command.{NodeAsked, Replay};
 ghost use Rattle.sedona_cli.specs.Does.{Does};
 ghost use Rattle.sedona_cli.specs.Puts.{IsOneOf};
-ghost use Rattle.sedona_cli.specs.Replay.{HoldsNone, ReplayedBy};
+ghost use Rattle.sedona_laws.specs.Replayed.{HoldsNone, ReplayedBy};
 ghost use Rattle.sedona_cli.specs.World.{World};
 
 use app_file::bytes_are_read_as_one;

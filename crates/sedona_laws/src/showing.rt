@@ -3,7 +3,7 @@ ghost use Rattle.std.specs.Prelude.{◌≡◌, ℕ, IsTrue, List, [], ◌∷◌}
 ghost use Rattle.sedona_words.specs.Command.{Show};
 ghost use Rattle.sedona_cli.specs.Does.{Does};
 ghost use Rattle.sedona_cli.specs.Puts.{IsOneOf};
-ghost use Rattle.sedona_cli.specs.Show.{OpensToNone, ShowsKept};
+ghost use Rattle.sedona_laws.specs.Shown.{OpensToNone, ShowsKept};
 ghost use Rattle.sedona_cli.specs.World.{World};
 
 use app_file::bytes_are_read_as_one;

@@ -3,7 +3,8 @@ ghost use Rattle.std.specs.Prelude.{◌≡◌, ◌≢◌, ℕ, IsTrue, List, [],
 ghost use Rattle.sed_outside.specs.Cause.{Rose};
 ghost use Rattle.sedona_words.specs.Command.{Command, New, store_of};
 ghost use Rattle.sedona_cli.specs.Does.{Does};
-ghost use Rattle.sedona_cli.specs.Program.{AsksStore, SparesDisk};
+ghost use Rattle.sedona_laws.specs.Attached.{AsksStore};
+ghost use Rattle.sedona_cli.specs.Program.{SparesDisk};
 ghost use Rattle.sedona_cli.specs.Puts.{IsOneOf};
 ghost use Rattle.sedona_cli.specs.World.{World};
 ghost use Rattle.sedona_laws.specs.Answers.{Answers};

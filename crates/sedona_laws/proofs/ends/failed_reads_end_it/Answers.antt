@@ -1,7 +1,7 @@
 use Rattle.std.proofs.Common.{ℕ, List}
 use Rattle.sed_check.specs.Loading.{KitsLoaded, TextLoaded}
-use Rattle.sedona_cli.proofs.Comings.{tells_comes}
-use Rattle.sedona_cli.proofs.Generated.{generates_tell}
+use Rattle.sedona_laws.proofs.CommandEnds.{tells_comes}
+use Rattle.sedona_laws.proofs.LoadedOnce.{generates_tell}
 use Rattle.sedona_laws.proofs.ends.failed_reads_end_it.Goals as goal
 
 pub returns : goal.returns

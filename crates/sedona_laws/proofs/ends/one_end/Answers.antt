@@ -1,8 +1,8 @@
 use Rattle.std.proofs.Common.{ℕ, List}
 use Rattle.sed_check.specs.Loading.{KitsLoaded, TextLoaded}
 use Rattle.sedona_cli.specs.New.{most_data}
-use Rattle.sedona_cli.proofs.Comings.{OneEnds, one_comes}
-use Rattle.sedona_cli.proofs.Generated.{RefusedAlike, generates_one}
+use Rattle.sedona_laws.proofs.CommandEnds.{OneEnds, one_comes}
+use Rattle.sedona_laws.proofs.LoadedOnce.{RefusedAlike, generates_one}
 use Rattle.sedona_laws.proofs.ends.one_end.Goals as goal
 
 pub returns : goal.returns

@@ -1,4 +1,4 @@
-use Rattle.sedona_cli.proofs.ShowSteps.{opens_to_none, shows_kept}
+use Rattle.sedona_laws.proofs.ShownBy.{opens_to_none, shows_kept}
 use Rattle.sedona_laws.proofs.showing.what_is_shown_is_kept.Goals as goal
 
 pub returns-clause-shown : goal.returns-clause-shown

@@ -1,5 +1,5 @@
 use Rattle.std.proofs.Common.{arith}
-use Rattle.sedona_cli.proofs.Storing.{spares_same}
+use Rattle.sedona_laws.proofs.StoresOpen.{spares_same}
 use Rattle.sedona_laws.proofs.AnyWords.{no_other, of_any}
 use Rattle.sedona_laws.proofs.Doing.{disk_rose, disk_spared, not_empty, store_asked}
 use Rattle.sedona_laws.proofs.storing.stores_are_attached_once.Goals as goal

@@ -10,12 +10,12 @@ use Rattle.sed_outside.specs.Steps.{Read, AndThen, Decides, stops, goes_on, Agre
 use Rattle.sed_outside.proofs.One.{agree_back, agree_front}
 use Rattle.sed_check.specs.Loading.{Told}
 use Rattle.sedona_cli.specs.declared.refusal.Refusal.{Refusal}
-use Rattle.sedona_cli.specs.Agree.{AgreeOn, OpensAs, Pointwise}
+use Rattle.sedona_laws.specs.Agree.{AgreeOn, OpensAs, Pointwise}
 use Rattle.sedona_cli.specs.Outside.{Ask, Attaches, Opens, Opened, Found, NotAStore, Unread, read_of, reads_in, of_reads}
 use Rattle.sedona_cli.specs.Program.{refusal_by}
 use Rattle.sedona_cli.specs.Steps.{OfFiles, OfReads}
 use Rattle.sedona_cli.specs.Store.{AppRead, IsRead, StoreAttached, StoreOpened, application_in}
-use Rattle.sedona_cli.proofs.AlikeFiles.{MeanAlike, codes_read_alike}
+use Rattle.sedona_laws.proofs.AlikeFiles.{MeanAlike, codes_read_alike}
 use Rattle.sedona_cli.proofs.Asking.{reads_of_reads}
 use Rattle.sedona_cli.proofs.Ends.{err_ok, ok_err, one_refusal}
 
@@ -30,12 +30,6 @@ agree_fronts reads more back rest asks others is are agree =
   where
     parts : (front : List Read) (b a : List Ask) → a ≡ of_reads front ++ b → reads_in a ≡ front ++ reads_in b
     parts front b a same = ap reads_in same ∙ flat_map-append read_of (of_reads front) b ∙ ap (λ (l : List Read). l ++ reads_in b) (reads_of_reads front)
-
-pub agree_sym : (reads others : List Read) → Agree reads others → Agree others reads
-agree_sym [] [] agree = tt
-agree_sym [] (s ∷ others) agree = tt
-agree_sym (r ∷ reads) [] agree = tt
-agree_sym (r ∷ reads) (s ∷ others) agree = (λ same. sym (agree.0 (sym same)), agree_sym reads others agree.1)
 
 -- a list that begins as another does
 pub heads : (asks : List Ask) (one : Ask) (front back : List Ask) → asks ≡ front ++ back → front ≡ one ∷ [] → asks ≡ one ∷ back

@@ -7,99 +7,28 @@ use Rattle.disk_model.specs.Disk.{Meaning, Attaches as IsAttach, Elapses, Keeps}
 use Rattle.disk_model.specs.declared.disk.Disk.{Ghosts as DiskGhosts}
 use Rattle.sedona_cli.proofs.DiskCalls.{no_time, no_marks, now_alone, then_marks, then_time}
 use Rattle.sedona_cli.specs.declared.refusal.Refusal.{Refusal}
-use Rattle.sedona_cli.specs.declared.refusal.Refusal.TheVariants.{FileFault, ImageBroken, ImageRefused, MethodTooLong, Refused, Rule, SlotTooSmall, DeviceFault, StoreExists, NoStore, NoApplication, WrongKits, OverLimit, BadUsers, ShortSecret, BadRecord, LinkFault, Memory}
+use Rattle.sedona_cli.specs.declared.refusal.Refusal.TheVariants.{DeviceFault, LinkFault}
 use Rattle.sedona_words.specs.Command.{Command, Cycles, Check, Compile, Gen, New, Replay, Run, Show, output_of, port_of, store_of}
 use Rattle.sedona_cli.specs.Outside.{Ask, Reads, Writes, Attaches, Makes, Opens, Binds, Runs, Whole, NotEmpty, Failed, Found, NotAStore, Unread, Unheld, Written, Unwritten, Withheld, is_of_files, names_in, of_reads, spares, Spares, AreAsked, AttachesFirst, AttachesIfAny}
 use Rattle.sedona_cli.specs.Puts.{IsOneOf}
-use Rattle.sedona_cli.specs.Program.{Comes, ComesUntil, IsAnswer, done, unput, stopped, refused, wanted, before_store, at_store, AttachesBy, AsksStore, SparesDisk, refusal_by}
+use Rattle.sedona_cli.specs.Program.{Comes, ComesUntil, IsAnswer, done, unput, stopped, refused, wanted, at_store, SparesDisk, refusal_by}
+use Rattle.sedona_laws.specs.Attached.{before_store, AttachesBy, AsksStore}
 use Rattle.sedona_cli.specs.Refusals.{is_of_store}
 use Rattle.std.proofs.lemmas.List.{append-nil}
 use Rattle.sed_outside.specs.Steps.{Read}
-use Rattle.sedona_cli.specs.Writing.{written_in}
+use Rattle.sedona_laws.specs.Files.{written_in}
 use Rattle.sedona_cli.proofs.Asking.{reads_leave}
-use Rattle.sedona_cli.proofs.Comings.{early_alone, of_files_alone, reads_alone}
-use Rattle.sedona_cli.proofs.Agreeing.{NoneFailed}
+use Rattle.sedona_laws.proofs.CommandEnds.{early_alone, of_files_alone}
+use Rattle.sedona_cli.proofs.Comings.{reads_alone}
+use Rattle.sedona_laws.proofs.Agreeing.{NoneFailed}
 use Rattle.sedona_cli.proofs.Ends.{ok_err, one_refusal, some_refusal, no_refusal}
-use Rattle.sedona_cli.proofs.LiveAsked.{LiveBehind, Unbound, last_unbound, live_attaches, live_behind, run_asked, unbound_attaches}
-use Rattle.sedona_cli.proofs.ReplayAsked.{RunBehind, ran_by, ran_until, replay_asked, run_attaches, run_behind}
-use Rattle.sedona_cli.proofs.StoreAsked.{EndsBy, IsMaking, IsOpening, StoreAsked, ends_before, ends_unattached, ends_at, of_refusal, new_asked, show_asked, last_behind, keeps_both, found_disk, opened_disk, spared_last, content_found, rose_last, rose_unattached, attach_last, attach_one}
-
--- ---- numbers of statuses
-
-late_at : (r : Refusal) → is_of_store r ≡ false → IsOneOf at_store (of_refusal r) → ⊥
-late_at (FileFault file) early (inl e) = absurd (omega (arith, e))
-late_at (FileFault file) early (inr (inl e)) = absurd (omega (arith, e))
-late_at (FileFault file) early (inr (inr (inl e))) = absurd (omega (arith, e))
-late_at (FileFault file) early (inr (inr (inr (inl e)))) = absurd (omega (arith, e))
-late_at (FileFault file) early (inr (inr (inr (inr (inl e))))) = absurd (omega (arith, e))
-late_at (FileFault file) early (inr (inr (inr (inr (inr never))))) = never
-late_at (Refused file why) early (inl e) = absurd (omega (arith, e))
-late_at (Refused file why) early (inr (inl e)) = absurd (omega (arith, e))
-late_at (Refused file why) early (inr (inr (inl e))) = absurd (omega (arith, e))
-late_at (Refused file why) early (inr (inr (inr (inl e)))) = absurd (omega (arith, e))
-late_at (Refused file why) early (inr (inr (inr (inr (inl e))))) = absurd (omega (arith, e))
-late_at (Refused file why) early (inr (inr (inr (inr (inr never))))) = never
-late_at (Rule file at rule) early (inl e) = absurd (omega (arith, e))
-late_at (Rule file at rule) early (inr (inl e)) = absurd (omega (arith, e))
-late_at (Rule file at rule) early (inr (inr (inl e))) = absurd (omega (arith, e))
-late_at (Rule file at rule) early (inr (inr (inr (inl e)))) = absurd (omega (arith, e))
-late_at (Rule file at rule) early (inr (inr (inr (inr (inl e))))) = absurd (omega (arith, e))
-late_at (Rule file at rule) early (inr (inr (inr (inr (inr never))))) = never
-late_at (MethodTooLong n) early (inl e) = absurd (omega (arith, e))
-late_at (MethodTooLong n) early (inr (inl e)) = absurd (omega (arith, e))
-late_at (MethodTooLong n) early (inr (inr (inl e))) = absurd (omega (arith, e))
-late_at (MethodTooLong n) early (inr (inr (inr (inl e)))) = absurd (omega (arith, e))
-late_at (MethodTooLong n) early (inr (inr (inr (inr (inl e))))) = absurd (omega (arith, e))
-late_at (MethodTooLong n) early (inr (inr (inr (inr (inr never))))) = never
-late_at (ImageRefused at) early (inl e) = absurd (omega (arith, e))
-late_at (ImageRefused at) early (inr (inl e)) = absurd (omega (arith, e))
-late_at (ImageRefused at) early (inr (inr (inl e))) = absurd (omega (arith, e))
-late_at (ImageRefused at) early (inr (inr (inr (inl e)))) = absurd (omega (arith, e))
-late_at (ImageRefused at) early (inr (inr (inr (inr (inl e))))) = absurd (omega (arith, e))
-late_at (ImageRefused at) early (inr (inr (inr (inr (inr never))))) = never
-late_at (ImageBroken method at rule) early (inl e) = absurd (omega (arith, e))
-late_at (ImageBroken method at rule) early (inr (inl e)) = absurd (omega (arith, e))
-late_at (ImageBroken method at rule) early (inr (inr (inl e))) = absurd (omega (arith, e))
-late_at (ImageBroken method at rule) early (inr (inr (inr (inl e)))) = absurd (omega (arith, e))
-late_at (ImageBroken method at rule) early (inr (inr (inr (inr (inl e))))) = absurd (omega (arith, e))
-late_at (ImageBroken method at rule) early (inr (inr (inr (inr (inr never))))) = never
-late_at (SlotTooSmall needs has) early (inl e) = absurd (omega (arith, e))
-late_at (SlotTooSmall needs has) early (inr (inl e)) = absurd (omega (arith, e))
-late_at (SlotTooSmall needs has) early (inr (inr (inl e))) = absurd (omega (arith, e))
-late_at (SlotTooSmall needs has) early (inr (inr (inr (inl e)))) = absurd (omega (arith, e))
-late_at (SlotTooSmall needs has) early (inr (inr (inr (inr (inl e))))) = absurd (omega (arith, e))
-late_at (SlotTooSmall needs has) early (inr (inr (inr (inr (inr never))))) = never
-late_at DeviceFault early at = absurd (cc)
-late_at StoreExists early at = absurd (cc)
-late_at NoStore early at = absurd (cc)
-late_at NoApplication early at = absurd (cc)
-late_at (WrongKits kit in_file in_kits) early at = absurd (cc)
-late_at (OverLimit which) early at = absurd (cc)
-late_at LinkFault early at = absurd (cc)
-late_at BadUsers early (inl e) = absurd (omega (arith, e))
-late_at BadUsers early (inr (inl e)) = absurd (omega (arith, e))
-late_at BadUsers early (inr (inr (inl e))) = absurd (omega (arith, e))
-late_at BadUsers early (inr (inr (inr (inl e)))) = absurd (omega (arith, e))
-late_at BadUsers early (inr (inr (inr (inr (inl e))))) = absurd (omega (arith, e))
-late_at BadUsers early (inr (inr (inr (inr (inr never))))) = never
-late_at ShortSecret early (inl e) = absurd (omega (arith, e))
-late_at ShortSecret early (inr (inl e)) = absurd (omega (arith, e))
-late_at ShortSecret early (inr (inr (inl e))) = absurd (omega (arith, e))
-late_at ShortSecret early (inr (inr (inr (inl e)))) = absurd (omega (arith, e))
-late_at ShortSecret early (inr (inr (inr (inr (inl e))))) = absurd (omega (arith, e))
-late_at ShortSecret early (inr (inr (inr (inr (inr never))))) = never
-late_at (BadRecord at) early (inl e) = absurd (omega (arith, e))
-late_at (BadRecord at) early (inr (inl e)) = absurd (omega (arith, e))
-late_at (BadRecord at) early (inr (inr (inl e))) = absurd (omega (arith, e))
-late_at (BadRecord at) early (inr (inr (inr (inl e)))) = absurd (omega (arith, e))
-late_at (BadRecord at) early (inr (inr (inr (inr (inl e))))) = absurd (omega (arith, e))
-late_at (BadRecord at) early (inr (inr (inr (inr (inr never))))) = never
-late_at Memory early (inl e) = absurd (omega (arith, e))
-late_at Memory early (inr (inl e)) = absurd (omega (arith, e))
-late_at Memory early (inr (inr (inl e))) = absurd (omega (arith, e))
-late_at Memory early (inr (inr (inr (inl e)))) = absurd (omega (arith, e))
-late_at Memory early (inr (inr (inr (inr (inl e))))) = absurd (omega (arith, e))
-late_at Memory early (inr (inr (inr (inr (inr never))))) = never
+use Rattle.sedona_laws.proofs.LiveAttached.{LiveBehind, last_unbound, live_attaches, live_behind, unbound_attaches}
+use Rattle.sedona_cli.proofs.LiveAsked.{Unbound, run_asked}
+use Rattle.sedona_laws.proofs.ReplayRan.{RunBehind, ran_by, ran_until, run_attaches, run_behind}
+use Rattle.sedona_cli.proofs.ReplayAsked.{replay_asked}
+use Rattle.sedona_cli.proofs.StoreAsked.{IsMaking, IsOpening, StoreAsked, ends_before, ends_unattached, ends_at, of_refusal, new_asked, show_asked, last_behind, keeps_both, found_disk, opened_disk}
+use Rattle.sedona_laws.proofs.StoreLast.{spared_last, content_found, rose_last, rose_unattached, attach_last, attach_one}
+use Rattle.sedona_cli.proofs.EarlyEnds.{late_at, four_or_five, five, early_link, store_link}
 
 -- a number that is none of the five
 not_before : (n : ℕ) → n ≢ 2 → n ≢ 3 → n ≢ 6 → n ≢ 9 → n ≢ 11 → n ≢ 12 → IsOneOf before_store n → ⊥
@@ -239,21 +168,6 @@ come_to D store status d e not attach = record { never = λ before. absurd (not 
 not_done : (status n : ℕ) → status ≡ n → n ≢ 2 → n ≢ 3 → n ≢ 6 → n ≢ 9 → n ≢ 11 → n ≢ 12 → IsOneOf before_store status → ⊥
 not_done status n is two three six nine eleven twelve one = not_before n two three six nine eleven twelve (subst (λ (k : ℕ). IsOneOf before_store k) is one)
 
-four_or_five : (ask : Ask) (r : Refusal) → EndsBy ask (Some r) → (of_refusal r ≡ 4) ⊎ (of_refusal r ≡ 5)
-four_or_five (Reads read) r ends = absurd ends
-four_or_five (Writes name bytes how) r ends = absurd ends
-four_or_five (Attaches name b) r ends = absurd ends
-four_or_five (Makes slot text Whole) r ends = absurd (no_refusal r ends)
-four_or_five (Makes slot text NotEmpty) r ends = inr (ap of_refusal (some_refusal r StoreExists ends))
-four_or_five (Makes slot text Failed) r ends = inl (ap of_refusal (some_refusal r DeviceFault ends))
-four_or_five (Opens (Found payload)) r (inl none) = absurd (no_refusal r none)
-four_or_five (Opens (Found payload)) r (inr (s, same, five)) = inr (ap of_refusal (some_refusal r s same) ∙ five)
-four_or_five (Opens NotAStore) r ends = inr (ap of_refusal (some_refusal r NoStore ends))
-four_or_five (Opens Unread) r ends = inl (ap of_refusal (some_refusal r DeviceFault ends))
-four_or_five (Opens Unheld) r ends = absurd ends
-four_or_five (Binds port b) r ends = absurd ends
-four_or_five (Runs ran) r ends = absurd ends
-
 attaches_by : {T : Type 0} (Kind : Ask → Type 0) (D : DiskGhosts T) (store : List ℕ) (status : ℕ) (asks : List Ask) (refusal : Refusal) (d e : T) → status ≡ of_refusal refusal
     → StoreAsked Kind store asks (Some refusal) → AreAsked D asks d e → AttachesBy D store status d e
 attaches_by Kind D store status asks refusal d e is (ends_before reads r all same early) asked =
@@ -348,9 +262,6 @@ asks_store D (Run r) asks before after fb fa status d e (wanted spared is puts) 
 
 four : (r : Refusal) → is_of_store r ≡ false → of_refusal r ≡ 4 → ⊥
 four r early is = late_at r early (inr (inl is))
-
-pub five : (r : Refusal) → is_of_store r ≡ false → of_refusal r ≡ 5 → ⊥
-five r early is = late_at r early (inr (inr (inl is)))
 
 rose_by : {T : Type 0} (Kind : Ask → Type 0) (D : DiskGhosts T) (store : List ℕ) (asks : List Ask) (refusal : Refusal) (d e : T) → of_refusal refusal ≡ 4
     → StoreAsked Kind store asks (Some refusal) → AreAsked D asks d e → Rose (D.meaning d).faults (D.meaning e).faults
@@ -515,21 +426,6 @@ until_no_output (Replay node file) asks put last until = refl
 until_no_output (Run r) asks put last until = absurd until
 until_no_output (Compile image names) asks put last until = absurd until
 until_no_output (Gen g) asks put last until = absurd until
-
--- ---- a port
-
--- 10 only where a port was not taken, and so by no command without one
-pub early_link : (r : Refusal) → is_of_store r ≡ false → of_refusal r ≡ 10 → ⊥
-early_link r early is = late_at r early (inr (inr (inr (inr (inl is)))))
-
-pub store_link : (Kind : Ask → Type 0) (store : List ℕ) (asks : List Ask) (r : Refusal) → StoreAsked Kind store asks (Some r) → of_refusal r ≡ 10 → ⊥
-store_link Kind store asks r (ends_before reads s all same early) is = early_link s early (ap of_refusal (sym (some_refusal r s same)) ∙ is)
-store_link Kind store asks r (ends_unattached reads all same) is = let four_is = ap of_refusal (sym (some_refusal r DeviceFault same)) ∙ is in absurd (omega (arith, four_is))
-store_link Kind store asks r (ends_at reads ask all kind ends) is = by (four_or_five ask r ends)
-  where
-    by : (of_refusal r ≡ 4) ⊎ (of_refusal r ≡ 5) → ⊥
-    by (inl four_is) = absurd (omega (arith, four_is, is))
-    by (inr five_is) = absurd (omega (arith, five_is, is))
 
 pub no_link : (command : Command) (asks : List Ask) (before after : Option (List ℕ)) (fb fa status : ℕ) → port_of command ≡ None → IsAnswer command asks before after fb fa status → status ≡ 10 → ⊥
 no_link command asks before after fb fa status none (done text came is put same) ten = omega (arith, is, ten)

@@ -6,17 +6,17 @@ use Rattle.dasp_session.specs.declared.user.User.{User}
 use Rattle.sed_outside.specs.Reads.{failed_names}
 use Rattle.input_files.specs.Inputs.{SecretRead, UsersRead}
 use Rattle.sedona_cli.specs.Given.{Given}
-use Rattle.sedona_cli.specs.Agree.{Pointwise}
+use Rattle.sedona_laws.specs.Agree.{Pointwise}
 use Rattle.sedona_words.specs.Command.{NodeAsked, RunAsked}
 use Rattle.sedona_cli.specs.Outside.{Ask, Binds, reads_in}
 use Rattle.sedona_cli.specs.Refusals.{failed_of, of_inputs}
 use Rattle.sedona_cli.specs.Run.{LinkBound, Lives, RunComes, RunInputsRead}
 use Rattle.sedona_cli.specs.Steps.{AfterCode}
-use Rattle.sedona_cli.proofs.Alike.{EndsAlike, NeverRefused, ReadsOne, files_alike, gives_alike, never_stops, one_before, rest_agrees, stops_once, then_alike, then_stops, true_false}
-use Rattle.sedona_cli.proofs.AlikeFiles.{MeanAlike}
+use Rattle.sedona_laws.proofs.Alike.{EndsAlike, NeverRefused, ReadsOne, files_alike, gives_alike, never_stops, one_before, rest_agrees, stops_once, then_alike, then_stops, true_false}
+use Rattle.sedona_laws.proofs.AlikeFiles.{MeanAlike}
 use Rattle.sedona_cli.proofs.Ends.{err_ok}
-use Rattle.sedona_cli.proofs.Loadings.{HasOneEnd, InputOne, InputTells, TellsFailed, input_one}
-use Rattle.sedona_cli.proofs.ReplayEnds.{CodeOne, Tells, as_told, failed_end, files_tell, gives_tells, input_tells, open_tells, opened_ends_alike, then_tells}
+use Rattle.sedona_laws.proofs.InputsOnce.{HasOneEnd, InputOne, InputTells, TellsFailed, input_one}
+use Rattle.sedona_laws.proofs.ReplayEnds.{CodeOne, Tells, as_told, failed_end, files_tell, gives_tells, input_tells, open_tells, opened_ends_alike, then_tells}
 
 -- ---- one end
 

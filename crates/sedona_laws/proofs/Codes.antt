@@ -1,18 +1,18 @@
 -- The code of a node has one end.
 use Rattle.std.proofs.Common.{◌≡◌, ℕ, List, refl, subst}
-use Rattle.sed_engine.specs.Program as source
 use Rattle.sed_check.specs.Refusals.{AreAlike}
 use Rattle.sed_typed.specs.declared.program.Program.{Program}
-use Rattle.scode_code.specs.Image as made
 use Rattle.scode_image.specs.declared.image.Image.{Image}
 use Rattle.input_files.specs.Inputs.{CodeRead}
 use Rattle.sedona_cli.specs.Refusals.{of_inputs}
 use Rattle.sedona_cli.specs.Steps.{KitsGenerated}
 use Rattle.sedona_words.specs.Command.{CodeAsked, OfImage, OfKits}
-use Rattle.sedona_cli.proofs.Alike.{files_alike, gives_alike, reads_alike, then_alike}
-use Rattle.sedona_cli.proofs.AlikeFiles.{MeanAlike, programs_mean_alike}
-use Rattle.sedona_cli.proofs.Loadings.{InputOne, LoadsOne, input_one}
-use Rattle.sedona_cli.proofs.ReplayEnds.{CodeOne}
+use Rattle.sedona_laws.proofs.Alike.{files_alike, gives_alike, reads_alike, then_alike}
+use Rattle.sedona_laws.proofs.AlikeFiles.{MeanAlike, programs_mean_alike}
+use Rattle.sedona_laws.proofs.InputsOnce.{InputOne, LoadsOne, input_one}
+use Rattle.sedona_laws.proofs.ReplayEnds.{CodeOne}
+use Rattle.sed_engine.specs.Program as source
+use Rattle.scode_code.specs.Image as made
 
 -- one image means one code
 same_code : (a b : Image) → a ≡ b → MeanAlike (made.meaning_of a) (made.meaning_of b)

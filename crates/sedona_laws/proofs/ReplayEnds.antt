@@ -14,7 +14,7 @@ use Rattle.input_files.specs.Inputs.{CodeRead, RecordRead, SecretRead, UsersRead
 use Rattle.input_files.specs.declared.refusal.InputRefusal.{InputRefusal}
 use Rattle.sedona_cli.specs.Given.{GivenRecord}
 use Rattle.sedona_cli.specs.declared.refusal.Refusal.{Refusal}
-use Rattle.sedona_cli.specs.Agree.{AgreeOn, Pointwise, failed_by}
+use Rattle.sedona_laws.specs.Agree.{AgreeOn, Pointwise, failed_by}
 use Rattle.sedona_words.specs.Command.{CodeAsked, NodeAsked, OfImage, OfKits}
 use Rattle.sedona_cli.specs.Outside.{Ask, Attaches, Opens, Runs, Ran, Found, read_of, reads_in}
 use Rattle.sedona_cli.specs.Refusals.{failed_of, of_inputs}
@@ -22,11 +22,11 @@ use Rattle.sedona_cli.specs.Nodes.{Opened}
 use Rattle.sedona_cli.specs.Replay.{InputsRead, ReplayComes, ReplayStops, Replays}
 use Rattle.sedona_cli.specs.Steps.{AfterCode, KitsGenerated, OfFiles, OfReads}
 use Rattle.sedona_cli.specs.Store.{AppRead, StoreAttached, StoreOpened}
-use Rattle.sedona_cli.proofs.Alike.{EndsAlike, NeverRefused, ReadsOne, attached_ends, files_alike, gives_alike, never_stops, opened_ends, read_ends, stops_once, then_alike, then_stops}
-use Rattle.sedona_cli.proofs.AlikeFiles.{MeanAlike}
+use Rattle.sedona_laws.proofs.Alike.{EndsAlike, NeverRefused, ReadsOne, attached_ends, files_alike, gives_alike, never_stops, opened_ends, read_ends, stops_once, then_alike, then_stops}
+use Rattle.sedona_laws.proofs.AlikeFiles.{MeanAlike}
 use Rattle.sedona_cli.proofs.Asking.{reads_of_reads}
 use Rattle.sedona_cli.proofs.Ends.{err_ok}
-use Rattle.sedona_cli.proofs.Loadings.{HasOneEnd, InputOne, InputTells, LoadTells, TellsFailed, failed_inputs, input_one}
+use Rattle.sedona_laws.proofs.InputsOnce.{HasOneEnd, InputOne, InputTells, LoadTells, TellsFailed, failed_inputs, input_one}
 use Rattle.sedona_cli.proofs.StoreAsked.{of_payload}
 
 -- ---- one end

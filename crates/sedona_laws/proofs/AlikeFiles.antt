@@ -2,7 +2,6 @@
 -- methods.
 use Rattle.std.proofs.Common.{◌≡◌, ℕ, zero, suc, List, [], length, map, Option, Some, None, sym, subst, inl, inr}
 use Rattle.std.specs.Prelude.{IfSome, IsSomeAnd, position, sum_by}
-use Rattle.std.specs.FinMap as by
 use Rattle.std.proofs.lemmas.List.Elements.{All-weaker}
 use Rattle.sed_typed.specs.declared.program.Field.{Field}
 use Rattle.sed_typed.specs.declared.program.Program.{Program}
@@ -20,6 +19,7 @@ use Rattle.comp_tree.specs.Whole.{IsApp, IsFormed, IsLink, IsOther, Whole}
 use Rattle.app_file.specs.Reading.{HasNoBody, IsFile, IsReadAs, Reading, StandsFor, no_file, wrong_kits, over_limit, file}
 use Rattle.app_file.specs.Text.{IsTextOf}
 use Rattle.sed_check.specs.Refusals.{AreAlike}
+use Rattle.std.specs.FinMap as by
 
 -- ---- codes that differ in their root calls alone
 

@@ -4,11 +4,12 @@ use Rattle.std.specs.Prelude.{Contains, IsTrue}
 use Rattle.std.proofs.lemmas.List.Elements.{Contains-append_left, Contains-append_right}
 use Rattle.disk_model.specs.Disk.{Image, Meaning}
 use Rattle.disk_model.specs.declared.disk.Disk.{Ghosts as DiskGhosts}
-use Rattle.app_save.specs.Store.{IsStore, Opens as IsOpen}
-use Rattle.sedona_cli.specs.Agree.{OpensAs, Pointwise, WritesAs}
+use Rattle.app_save.specs.Store.{Opens as IsOpen}
+use Rattle.sedona_laws.specs.Agree.{OpensAs, Pointwise, WritesAs}
 use Rattle.sedona_cli.specs.Outside.{Ask, Reads, Writes, Attaches, Makes, Opens, Binds, Runs, Made, Whole, NotEmpty, Failed, Opened, Found, NotAStore, Unread, Unheld, Wrote, Written, Unwritten, Withheld, AreAsked, IsMade, IsOpened}
-use Rattle.sedona_cli.specs.Program.{AreToldOf, HowMade, HowOpened}
-use Rattle.sedona_cli.specs.Writing.{unwritten_by, unwritten_in, unwritten_of, written_in, written_of}
+use Rattle.sedona_laws.specs.Told.{AreToldOf, HowMade, HowOpened}
+use Rattle.sedona_laws.specs.Files.{unwritten_by, unwritten_in, unwritten_of, written_in, written_of}
+use Rattle.sedona_cli.proofs.Ran.{OpensOnce}
 
 empty_row : (asks : List Ask) → Pointwise asks []
 empty_row [] = tt
@@ -29,11 +30,6 @@ made_alike m d e S payload NotEmpty Whole told stands is told_so not =
 made_alike m d e S payload NotEmpty NotEmpty told stands is told_so not = refl
 made_alike m d e S payload NotEmpty Failed told stands is told_so not = absurd told_so
 made_alike m d e S payload Failed other told stands is told_so not = absurd (not refl)
-
--- a store opens to one payload
-pub record OpensOnce : Type 0 where
-  pub slot : (S T : ℕ) (image : Image) → IsStore S image → IsStore T image → S ≡ T
-  pub payload : (S : ℕ) (image : Image) (p q : List ℕ) → IsOpen S image p → IsOpen S image q → p ≡ q
 
 pub one_payload : OpensOnce → (S T : ℕ) (image : Image) (p q : List ℕ) → IsOpen S image p → IsOpen T image q → p ≡ q
 one_payload once S T image p q is are = once.payload S image p q is (subst (λ (n : ℕ). IsOpen n image q) (sym (once.slot S T image is.store are.store)) are)

@@ -3,10 +3,10 @@ use Rattle.std.specs.Prelude.{◌≡◌, ℕ, List, [], ◌∷◌, ◌++◌, Opt
 use Rattle.sed_outside.specs.Steps.{Agree}
 use Rattle.sedona_cli.specs.declared.refusal.Refusal.{Refusal}
 use Rattle.sed_outside.specs.Reads.{failed_names}
-use Rattle.sedona_cli.specs.Outside.{Ask, Writes, Attaches, Makes, Opens, Binds, Opened, Found, NotAStore, Unread}
-use Rattle.sedona_cli.specs.Outside.{Unheld, Wrote, Written, Unwritten, Withheld, reads_in}
+use Rattle.sedona_cli.specs.Outside.{Ask, Writes, Attaches, Makes, Opens, Binds, Opened, Found, NotAStore}
+use Rattle.sedona_cli.specs.Outside.{Unread, Unheld, Wrote, Written, Unwritten, Withheld, reads_in}
 use Rattle.sedona_cli.specs.Refusals.{failed_of}
-use Rattle.sedona_cli.specs.Writing.{unwritten_in}
+use Rattle.sedona_laws.specs.Files.{unwritten_in}
 
 -- the names of the calls that failed, by how it ends
 abbrev pub failed_by : Result (List ℕ) Refusal → List (List ℕ)
