@@ -200,7 +200,7 @@ FilesOne {E} {X} told step A = (reads others : List Read) (end other : Result X 
 alone : (asks : List Ask) (reads : List Read) → asks ≡ of_reads reads → asks ≡ of_reads reads ++ []
 alone asks reads is = is ∙ sym (append-nil (of_reads reads))
 
-behind_reads : (front back : List Ask) (reads : List Read) → front ≡ of_reads reads → front ++ back ≡ of_reads reads ++ back
+pub behind_reads : (front back : List Ask) (reads : List Read) → front ≡ of_reads reads → front ++ back ≡ of_reads reads ++ back
 behind_reads front back reads is = ap (λ (l : List Ask). l ++ back) is
 
 pointwise_back : (reads : List Read) (back rest : List Ask) → Pointwise (of_reads reads ++ back) (of_reads reads ++ rest) → Pointwise back rest
@@ -243,7 +243,7 @@ reads_alike {X} step A one = record {
 }
 
 -- those of a step of files, as the command tells them
-told_one : {E X : Type 0} (told : E → Refusal) (step : List Read → Result X E → Type 0) (A : X → X → Type 0) → FilesOne told step A → ReadsAlike (Told told step) A
+pub told_one : {E X : Type 0} (told : E → Refusal) (step : List Read → Result X E → Type 0) (A : X → X → Type 0) → FilesOne told step A → ReadsAlike (Told told step) A
 told_one {E} {X} told step A one reads others (Ok x) (Ok y) h k agree = one reads others (Ok x) (Ok y) h k agree
 told_one {E} {X} told step A one reads others (Err r) (Err s) h k agree =
     let same = one reads others (Err h.0) (Err k.0) h.1 k.1 agree in
@@ -338,7 +338,7 @@ decides_alike H K A stop stop_go go_stop go = record {
   go = λ front back others rest x y h k agree. (go x y h.holds k.holds, nothing_before front back others rest h.none k.none agree);
 }
 
-same_value : {X : Type 0} (x y : X) → ◌≡◌ {A = Result X Refusal} (Ok x) (Ok y) → x ≡ y
+pub same_value : {X : Type 0} (x y : X) → ◌≡◌ {A = Result X Refusal} (Ok x) (Ok y) → x ≡ y
 same_value x y same = cc
 
 -- values that are alike, and nothing more

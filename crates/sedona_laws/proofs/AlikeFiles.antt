@@ -111,15 +111,15 @@ module _ (schema : Schema) (shapes : ℕ → List Shape) (slot_field : ℕ → �
 -- ---- programs
 
 -- the fields of a class
-fields_alike : (p q : Program) → p.schema ≡ q.schema → p.fields ≡ q.fields → fields p ≡ fields q
+pub fields_alike : (p q : Program) → p.schema ≡ q.schema → p.fields ≡ q.fields → fields p ≡ fields q
 fields_alike p q schema same = λ i class. fields (record { schema = schema i; fields = same i; statics = p.statics; methods = p.methods; texts = p.texts }) class
 
 -- what an object begins with, and its size
-begun_alike : (p q : Program) → fields p ≡ fields q → (depth : ℕ) → object_begun p depth ≡ object_begun q depth
+pub begun_alike : (p q : Program) → fields p ≡ fields q → (depth : ℕ) → object_begun p depth ≡ object_begun q depth
 begun_alike p q same zero = λ i class path. []
 begun_alike p q same (suc depth) = λ i class path. fields_begun (begun_alike p q same depth i) path (same i class)
 
-sizes_alike : (p q : Program) → fields p ≡ fields q → (depth : ℕ) → data_within p depth ≡ data_within q depth
+pub sizes_alike : (p q : Program) → fields p ≡ fields q → (depth : ℕ) → data_within p depth ≡ data_within q depth
 sizes_alike p q same zero = λ i class. 0
 sizes_alike p q same (suc depth) = λ i class. sum_by (λ (f : Field). form_size (sizes_alike p q same depth i) f.form) (same i class)
 

@@ -23,6 +23,8 @@ pub mod ShownBy
 pub mod StoreLast
 pub mod StoresOpen
 pub mod WritingOnce
+pub mod Meant
+pub mod TextOnce
 pub mod Joined
 pub mod ImageRead
 pub mod OverKits
@@ -30,4 +32,5 @@ pub mod NotSix
 pub mod BootRun
 pub mod StepsAlike
 pub mod Compiled
+pub mod TextsPut
 pub mod Unwritten

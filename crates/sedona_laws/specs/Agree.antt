@@ -1,9 +1,12 @@
 -- Answers that agree.
-use Rattle.std.specs.Prelude.{◌≡◌, ℕ, List, [], ◌∷◌, ◌++◌, Option, Some, None, Result, Ok, Err}
+use Rattle.std.specs.Prelude.{◌≡◌, ℕ, ℤ, List, [], ◌∷◌, ◌++◌, Option, Some, None, Result, Ok, Err}
 use Rattle.sed_outside.specs.Steps.{Agree}
 use Rattle.sedona_cli.specs.declared.refusal.Refusal.{Refusal}
 use Rattle.sed_outside.specs.Reads.{failed_names}
-use Rattle.sedona_cli.specs.Outside.{Ask, Writes, Attaches, Makes, Opens, Binds, Opened, Found, NotAStore}
+use Rattle.comp_tree.specs.Application.{Application}
+use Rattle.dasp_session.specs.declared.user.User.{User}
+use Rattle.node_events.specs.Node.{opened}
+use Rattle.sedona_cli.specs.Outside.{Ask, Writes, Attaches, Makes, Opens, Binds, Ran, Runs, Opened, Found, NotAStore}
 use Rattle.sedona_cli.specs.Outside.{Unread, Unheld, Wrote, Written, Unwritten, Withheld, reads_in}
 use Rattle.sedona_cli.specs.Refusals.{failed_of}
 use Rattle.sedona_laws.specs.Files.{unwritten_in}
@@ -51,3 +54,31 @@ Pointwise asks others = Unit {0}
 pub record AgreeOn (asks others : List Ask) : Type 0 where
   pub reads : Agree (reads_in asks) (reads_in others)
   pub rest : Pointwise asks others
+
+-- Two runs begin alike: over one code, with as many turns for each root call, from one application, for the same users
+-- and with the same secret. At which moment each begins, and how large the slots of its store are, the outside told.
+pub record BeginAlike (ran other : Ran) : Type 0 where
+  pub application : Application
+  pub users : List User
+  pub secret : List ℕ
+  pub moment : ℤ
+  pub other_moment : ℤ
+  pub code : ran.code ≡ other.code
+  pub turns : ran.setup.turns ≡ other.setup.turns
+  pub start : ran.start ≡ opened ran.code ran.setup application users secret moment
+  pub other_start : other.start ≡ opened other.code other.setup application users secret other_moment
+
+-- The same of all that is asked, the runs of nodes too: two that begin alike are one run, with one setup, one moment,
+-- and the same entries and events.
+abbrev pub AgreesOnAll : Ask → Ask → Type 0
+AgreesOnAll (Runs ran) (Runs other) = BeginAlike ran other → ran ≡ other
+AgreesOnAll ask other = AgreesOn ask other
+
+abbrev pub PointwiseAll : List Ask → List Ask → Type 0
+PointwiseAll (ask ∷ asks) (other ∷ others) = AgreesOnAll ask other × (ask ≡ other → PointwiseAll asks others)
+PointwiseAll asks others = Unit {0}
+
+-- Two rows answer the same wherever they ask the same at one place, and run the same wherever they begin a run alike.
+pub record AgreeOnAll (asks others : List Ask) : Type 0 where
+  pub reads : Agree (reads_in asks) (reads_in others)
+  pub rest : PointwiseAll asks others

@@ -11,3 +11,4 @@ pub mod Replayed
 pub mod Booting
 pub mod Carrying
 pub mod Steps
+pub mod Texts

@@ -5,7 +5,7 @@
 //! function that does nothing, over any files, link, clock, disk and sink and over any two worlds between which a
 //! command did so: when a status comes and when it must, what the store's file is then, what a replay or a run shows
 //! and leaves, when the port is asked for, and which files stay. Those of all words stand over `Answers`, which is the
-//! whole contract. Besides there are the laws that what a command comes to is one, that no reply of a run
+//! whole contract. Besides there are the laws that what a command comes to is one, its text too, that no reply of a run
 //! is want of memory, and that `boot` from the file which `compile` left is `run` over the kits. What only laws speak
 //! of (which answers agree, what a disk is told to answer, what is shown and left) is defined here, beside them.
 //!
@@ -27,12 +27,13 @@ mod running;
 mod showing;
 mod stepping;
 mod storing;
+mod texts;
 mod words;
 
 pub use answered::answers_follow_what_is_told;
 pub use booting::images_boot_as_their_kits_run;
 pub use carrying::images_run_as_their_programs;
-pub use ends::{failed_reads_end_it, one_end};
+pub use ends::{failed_reads_end_it, one_end, one_text, programs_mean_one};
 pub use linked::ports_are_asked_for_once;
 pub use reading::{files_stay, files_that_fail_are_told};
 pub use replaying::replays_are_of_the_record;
@@ -41,4 +42,5 @@ pub use running::runs_are_of_the_link_and_the_clock;
 pub use showing::what_is_shown_is_kept;
 pub use stepping::{add_is_a_step, call_is_a_step, get_is_a_step, remove_is_a_step, set_is_a_step};
 pub use storing::stores_are_attached_once;
+pub use texts::texts_put_are_one;
 pub use words::{statuses_are_thirteen, words_outside_the_table_do_nothing};
