@@ -174,9 +174,7 @@ fn change_fault(slab: &mut Slab<Node>, key: usize, fault: u8)
     ensures len { slab_len slab.new ≡ slab_len slab.old }
     ensures capacity { slab.new.capacity ≡ slab.old.capacity }
 {
-    let mut node = slab.remove(key);
-    node.fault = fault;
-    let _same = slab.insert_reserved(node);
+    slab[key].fault = fault;
 }
 
 // Marks these parts of the node under a key.
@@ -187,9 +185,7 @@ fn touch_node(slab: &mut Slab<Node>, key: usize, parts: Parts)
     ensures len { slab_len slab.new ≡ slab_len slab.old }
     ensures capacity { slab.new.capacity ≡ slab.old.capacity }
 {
-    let mut node = slab.remove(key);
-    node.marks.touch(parts);
-    let _same = slab.insert_reserved(node);
+    slab[key].marks.touch(parts);
 }
 
 // Settles these parts of the node under a key for a place.
@@ -201,9 +197,7 @@ fn settle_node(slab: &mut Slab<Node>, key: usize, place: u8, parts: Parts)
     ensures len { slab_len slab.new ≡ slab_len slab.old }
     ensures capacity { slab.new.capacity ≡ slab.old.capacity }
 {
-    let mut node = slab.remove(key);
-    node.marks.settle(place, parts);
-    let _same = slab.insert_reserved(node);
+    slab[key].marks.settle(place, parts);
 }
 
 // An index in which no id has a key.
