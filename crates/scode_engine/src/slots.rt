@@ -4,6 +4,7 @@ ghost use Rattle.std.specs.FinMap as finite;
 ghost use Rattle.sed_value.specs.SlotType.{width_of};
 ghost use Rattle.sed_value.specs.Value.{goes_to, is_of_type, stored};
 ghost use Rattle.sed_value.specs.declared.slot_type.SlotType.TheVariants as slot;
+ghost use Rattle.sed_value.specs.declared.value.Value.TheVariants as value;
 ghost use Rattle.sed_typed.specs.declared.program.FieldForm.TheVariants as form;
 ghost use Rattle.sed_typed.specs.Contents.{Path, value_at};
 ghost use Rattle.sed_engine.specs.Code as code;
@@ -26,7 +27,7 @@ use scode_sound::verified_images_are_whole;
 use scode_state::{parts_lie_within, read_buf, read_value, write_buf, write_value};
 use sed_engine::{Place, what_is_kept_fits};
 use sed_typed::{SlotNo, TypeNo};
-use sed_value::{Prim, SlotBuf, SlotType, Value};
+use sed_value::{int_to_long, low_byte, low_short, Prim, SlotBuf, Value};
 
 /// Whether two properties of a class are kept in one field.
 pub fn is_same_field(image: &Image, t: TypeNo, a: SlotNo, b: SlotNo) -> bool
@@ -85,6 +86,7 @@ fn slot(image: &Image, t: TypeNo, s: SlotNo) -> &ImageSlot
 }
 
 // The value of a field that is a primitive or a Buf.
+#[inline(always)]
 fn read_part(image: &Image, pool: &Pool, b: Block, f: ImageField) -> Value
     requires held { is_held f ≡ true }
     requires stands { IsPart image.now pool.now b f }
@@ -101,6 +103,7 @@ fn read_part(image: &Image, pool: &Pool, b: Block, f: ImageField) -> Value
 }
 
 // Stores a value in a field that is a primitive or a Buf.
+#[inline(always)]
 fn write_part(image: &Image, pool: &mut Pool, b: Block, f: ImageField, v: &Value)
     requires held { is_held f ≡ true }
     requires stands { IsPart image.now pool.old b f }
@@ -117,6 +120,7 @@ fn write_part(image: &Image, pool: &mut Pool, b: Block, f: ImageField, v: &Value
 }
 
 // Stores a number in a primitive at an offset of a block.
+#[inline(always)]
 fn write_number(pool: &mut Pool, b: Block, at: u16, p: Prim, v: &Value)
     requires there { HasBytes pool.old b at (width_of p) }
     requires goes { IsTrue (goes_to (slot.Prim p) v.now) }
@@ -124,8 +128,39 @@ fn write_number(pool: &mut Pool, b: Block, at: u16, p: Prim, v: &Value)
         StandsAt image class Component path pool.old b at (form.Prim p) →
         IsStored image class Component path pool.old pool.new b (stored (slot.Prim p) v.now) }
 {
-    let kept = v.stored(SlotType::Prim(p));
+    let kept = kept_number(p, v);
     write_value(pool, b, at, p, &kept);
+}
+
+// A number as a primitive keeps it.
+#[inline(always)]
+fn kept_number(p: Prim, v: &Value) -> Value
+    requires { IsTrue (goes_to (slot.Prim p) v.now) }
+    ensures kept { result ≡ stored (slot.Prim p) v.now }
+    ensures of_type { IsTrue (is_of_type (slot.Prim p) result) }
+{
+    match v {
+        Value::Bool(truth) => Value::Bool(*truth),
+        Value::Byte(n) => kept_int(p, i32::from(*n)),
+        Value::Short(n) => kept_int(p, i32::from(*n)),
+        Value::Int(n) => kept_int(p, *n),
+        Value::Long(n) => Value::Long(*n),
+        _ => Value::Bool(0),
+    }
+}
+
+// An int as a primitive keeps it: a byte the low 8 bits and a short the low 16.
+#[inline(always)]
+fn kept_int(p: Prim, n: i32) -> Value
+    ensures kept { result ≡ stored (slot.Prim p) (value.Int n) }
+    ensures of_type { IsTrue (goes_to (slot.Prim p) (value.Int n)) → IsTrue (is_of_type (slot.Prim p) result) }
+{
+    match p {
+        Prim::Byte => Value::Byte(low_byte(n)),
+        Prim::Short => Value::Short(low_short(n)),
+        Prim::Long => Value::Long(int_to_long(n)),
+        Prim::Bool | Prim::Int => Value::Int(n),
+    }
 }
 
 // Stores bytes in a Buf at an offset of a block.

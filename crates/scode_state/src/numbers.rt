@@ -81,6 +81,7 @@ fn kept_number(p: Prim, v: Cell) -> u64
 }
 
 /// The value of a primitive at an offset of a block.
+#[inline(always)]
 pub fn read_value(pool: &Pool, b: Block, at: u16, p: Prim) -> Value
     requires { HasBytes pool.now b at (width_of p) }
     ensures bytes { IfSome (bytes_of pool.now b) (λ bytes. result ≡ primitive_at p bytes at) }
@@ -92,6 +93,7 @@ pub fn read_value(pool: &Pool, b: Block, at: u16, p: Prim) -> Value
 }
 
 // What a number in the bytes of a primitive stands for.
+#[inline(always)]
 fn value_of(p: Prim, number: u64) -> Value
     requires { number < 256 ^ width_of p }
     ensures { (bytes : List ℕ) → number ≡ number_of bytes → result ≡ primitive_from p bytes }
@@ -106,6 +108,7 @@ fn value_of(p: Prim, number: u64) -> Value
 }
 
 /// Stores a value of the type of a primitive at an offset of a block. Nothing else changes.
+#[inline(always)]
 pub fn write_value(pool: &mut Pool, b: Block, at: u16, p: Prim, v: &Value)
     requires there { HasBytes pool.old b at (width_of p) }
     requires kind { IsTrue (is_of_type (slot.Prim p) v.now) }
@@ -118,6 +121,7 @@ pub fn write_value(pool: &mut Pool, b: Block, at: u16, p: Prim, v: &Value)
 }
 
 // The number that a value is kept as.
+#[inline(always)]
 fn number_of_value(v: &Value) -> u64
     ensures { result ≡ value_number v.now }
 {

@@ -5,9 +5,9 @@ use Rattle.scode_state.specs.Stands.{IsStored}
 use Rattle.scode_engine.proofs.slots.write_number.Goals as goal
 
 pub write_value-requires-clause-kind : goal.write_value-requires-clause-kind
-write_value-requires-clause-kind c = c.stored-kept.ensures.of_type c.requires.goes
+write_value-requires-clause-kind c = c.kept_number-kept.ensures.of_type
 
 pub returns : goal.returns
 returns c = λ image class path at.
     subst (λ (u : Value). IsStored image class Component path c.args.pool.now c.write_value.new.pool c.args.b u)
-    c.stored-kept.ensures.kept (c.write_value.ensures.path image class Component path at)
+    c.kept_number-kept.ensures.kept (c.write_value.ensures.path image class Component path at)
