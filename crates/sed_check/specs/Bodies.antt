@@ -1,11 +1,10 @@
 -- What the bodies of a program's methods come to, and the faults inside.
-use Rattle.std.specs.Prelude.{ℕ, ◌≡◌, ◌≤◌, List, [], ◌∷◌, map, Option, Some, None}
+use Rattle.std.specs.Prelude.{ℕ, ◌≡◌, List, [], ◌∷◌, map, Option, Some, None}
 use Rattle.std.specs.List.{flat_map}
 use Rattle.std.specs.Option.{option_map_or}
 use Rattle.sed_units.specs.Tree.{Tree}
 use Rattle.sed_typed.specs.declared.statement.Stmt.{Stmt}
 use Rattle.sed_typed.specs.Flat.{IsFlatStmt}
-use Rattle.sed_typed.specs.Height.{stmt_height}
 use Rattle.sed_faults.specs.declared.fault.Fault.{Fault}
 use Rattle.sed_terms.specs.declared.judged.Judged.{Judged}
 use Rattle.sed_terms.specs.declared.judged.Judged.TheVariants.{Sound, Unknown}
@@ -63,12 +62,11 @@ body_faults units = flat_map (method_faults units) (methods_of units)
 
 -- ---- bodies
 
--- A tree is that of a method's body: flat, so that there is only one, wherever it lies, and at most 2,080 levels high.
+-- A tree is that of a method's body: flat, so that there is only one, wherever it lies.
 -- A method without a body has none.
 abbrev pub HasTree : List KitUnits → MethodAt → Option (List Tree) → Option Stmt → Type 0
 HasTree units e None None = Unit {0}
-HasTree units e (Some all) (Some body) = (judged_body units e all ≡ Sound (stmt_term body))
-    × IsFlatStmt body × (stmt_height body ≤ 2080)
+HasTree units e (Some all) (Some body) = (judged_body units e all ≡ Sound (stmt_term body)) × IsFlatStmt body
 HasTree units e all body = ⊥
 
 abbrev pub IsBodyOf : List KitUnits → MethodAt → Option Stmt → Type 0

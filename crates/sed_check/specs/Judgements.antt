@@ -1,11 +1,10 @@
 -- Which bodies are known, and what the methods that are judged so far come to.
-use Rattle.std.specs.Prelude.{◌≡◌, ◌≤◌, ℕ, Bool, true, false, List, ◌++◌, map, Option, Some, None}
+use Rattle.std.specs.Prelude.{◌≡◌, ℕ, Bool, true, false, List, ◌++◌, map, Option, Some, None}
 use Rattle.std.specs.List.{flat_map, list_all}
 use Rattle.sed_units.specs.Tree.{Tree}
 use Rattle.sed_units.specs.declared.classes.Member.{Member}
 use Rattle.sed_typed.specs.declared.statement.Stmt.{Stmt}
 use Rattle.sed_typed.specs.Flat.{IsFlatStmt}
-use Rattle.sed_typed.specs.Height.{stmt_height}
 use Rattle.sed_faults.specs.declared.fault.Fault.{Fault}
 use Rattle.sed_faults.specs.Faults.{least}
 use Rattle.sed_terms.specs.declared.judged.Judged.{Judged}
@@ -47,9 +46,9 @@ fault_in (Unknown fault) = fault
 abbrev pub least_in : {A : Type 0} → Judged A (List Fault) → Option Fault
 least_in judged = least (faults_in judged)
 
--- a tree is what is found, flat, and at most 2,080 levels high
+-- a tree is what is found, and flat
 abbrev pub IsTreeOf : Judged Term (List Fault) → Option Stmt → Type 0
-IsTreeOf judged (Some body) = (judged ≡ Sound (stmt_term body)) × IsFlatStmt body × (stmt_height body ≤ 2080)
+IsTreeOf judged (Some body) = (judged ≡ Sound (stmt_term body)) × IsFlatStmt body
 IsTreeOf judged None = ⊥
 
 -- a member of the class at a place, which has this number

@@ -134,10 +134,7 @@ fn all_methods(alloc: Global, tables: &Tables<'_, '_>) -> Result<Bodies, Memory>
     Ok(bodies)
 }
 
-/// The bodies of all methods of a program, judged.
-///
-/// Want of memory is the only refusal; a tree higher than 2,080 levels, which no body of a source comes to, is refused
-/// so, too.
+/// The bodies of all methods of a program, judged. Want of memory is the only refusal.
 pub fn judged_bodies(alloc: Global, tables: &Tables<'_, '_>) -> Result<Bodies, Memory>
     ensures first { IfOk result (λ b. b.first ≡ first_of (body_faults tables.now)) }
     ensures known { IfOk result (λ b. b.are_known ≡ have_known_bodies tables.now (methods_of tables.now)) }

@@ -1,7 +1,5 @@
 //! What a method is found to be.
-ghost use Rattle.std.specs.Prelude.{◌≡◌, ◌≤◌, true, List, None, IfOk};
-ghost use Rattle.sed_typed.specs.Flat.{IsFlatStmt};
-ghost use Rattle.sed_typed.specs.Height.{stmt_height};
+ghost use Rattle.std.specs.Prelude.{◌≡◌, true, List, None, IfOk};
 ghost use Rattle.sed_faults.specs.declared.fault.Fault.{Fault as TheFault};
 ghost use Rattle.sed_terms.specs.declared.judged.Judged.{Judged as TheJudged};
 ghost use Rattle.sed_terms.specs.Faults.{all_faults, told};
@@ -10,7 +8,6 @@ ghost use Rattle.sed_program.specs.Meaning.{names_of};
 ghost use Rattle.sed_statements.specs.Methods.{judge_method, judge_params};
 ghost use Rattle.sed_check.specs.Judgements.{fault_in, is_sound, least_in, IsTreeOf};
 
-use crate::is_within;
 use crate::judged_laws::least_fault_of_params_is_found;
 use sed_faults::Fault;
 use sed_program::View;
@@ -22,9 +19,6 @@ use sed_typed::Stmt;
 use sed_units::{Param, Stmt as SourceStmt};
 use sed_value::Memory;
 use std::alloc::Global;
-
-/// How high a body is at most.
-const MOST_LEVELS: usize = 2080;
 
 /// What a method is found to be.
 #[derive(Drop)]
@@ -47,49 +41,28 @@ fn fault_of(judged: Judged<bool, Option<Fault>>) -> Option<Fault>
     }
 }
 
-// A tree that is no higher than bodies are.
-fn bounded(tree: Stmt) -> Result<Stmt, Memory>
-    requires { IsFlatStmt tree }
-    ensures same { IfOk result (λ t. t ≡ tree) }
-    ensures flat { IfOk result (λ t. IsFlatStmt t) }
-    ensures height { IfOk result (λ t. stmt_height t ≤ 2080) }
-{
-    if is_within(&tree, MOST_LEVELS) {
-        Ok(tree)
-    } else {
-        Err(Memory)
-    }
-}
-
 // What is found of a body.
-fn judgement_of(judged: CheckedStmt) -> Result<Judgement, Memory>
-    ensures fault { (all : TheJudged Term (List TheFault)) → told all ≡ judged →
-        IfOk result (λ j. j.fault ≡ least_in all) }
-    ensures known { (all : TheJudged Term (List TheFault)) → told all ≡ judged →
-        IfOk result (λ j. j.is_known ≡ is_sound all) }
+fn judgement_of(judged: CheckedStmt) -> Judgement
+    ensures fault { (all : TheJudged Term (List TheFault)) → told all ≡ judged → result.fault ≡ least_in all }
+    ensures known { (all : TheJudged Term (List TheFault)) → told all ≡ judged → result.is_known ≡ is_sound all }
     ensures tree { (all : TheJudged Term (List TheFault)) → told all ≡ judged →
-        IfOk result (λ j. j.is_known ≡ true → IsTreeOf all j.tree) }
+        result.is_known ≡ true → IsTreeOf all result.tree }
 {
     match judged {
-        Judged::Sound(found) => {
-            let tree = bounded(found.into_stmt())?;
-            Ok(Judgement {
-                tree: Some(tree),
-                is_known: true,
-                fault: None,
-            })
-        }
-        Judged::Unknown(fault) => Ok(Judgement {
+        Judged::Sound(found) => Judgement {
+            tree: Some(found.into_stmt()),
+            is_known: true,
+            fault: None,
+        },
+        Judged::Unknown(fault) => Judgement {
             tree: None,
             is_known: false,
             fault,
-        }),
+        },
     }
 }
 
-/// A method with a body. Its tree is none where it is not known.
-///
-/// Want of memory is the only refusal; a tree that is higher than bodies are is refused so, too.
+/// A method with a body. Its tree is none where it is not known. Want of memory is the only refusal.
 pub fn with_body(
     alloc: Global,
     view: &View<'_, '_, '_>,
@@ -105,7 +78,8 @@ pub fn with_body(
         (names_of view.now.tables.now view.now.kit) method.now params.now body.now) j.tree) }
 {
     least_fault_of_methods_is_found();
-    judgement_of(judged_method(alloc, view, method, params, body)?)
+    let judged = judged_method(alloc, view, method, params, body)?;
+    Ok(judgement_of(judged))
 }
 
 /// A method without a body, of which the parameters alone are judged.

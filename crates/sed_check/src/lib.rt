@@ -15,7 +15,6 @@
 mod bodies;
 mod checking;
 mod elaborated;
-mod expression_heights;
 mod heads;
 mod judged_laws;
 mod judgement;
@@ -31,7 +30,6 @@ mod read_laws;
 mod refusal;
 mod runnable_laws;
 mod settling;
-mod statement_heights;
 mod typed_laws;
 
 pub use bodies::{Bodies, judged_bodies};
@@ -46,5 +44,4 @@ pub use meant_laws::{
 pub use read_laws::units_are_read;
 pub use refusal::KitsRefusal;
 pub use runnable_laws::first_classes_run;
-pub use statement_heights::is_within;
 pub use typed_laws::what_units_spell_is_typed;

@@ -29,7 +29,7 @@ fn enclosing(ordered: &Ordered<'_, '_>, number: u16, class: usize, member: &Memb
 
 /// A member of the class at a place, which has this number, with its body or without one.
 ///
-/// Want of memory is the only refusal; a tree that is higher than bodies are is refused so, too.
+/// Want of memory is the only refusal.
 pub fn judged_member(
     alloc: Global,
     tables: &Tables<'_, '_>,
