@@ -19,6 +19,8 @@ import test_tool
 ROOT = pathlib.Path(__file__).resolve().parents[2]
 PAGE = (ROOT / "docs" / "GUIDE_TOOLS.md").read_text()
 CLIENT = re.search(r"```python\n(.*?)```", PAGE, re.S)[1]
+# What goes over the port stands behind the client, and is not asked for in rows.
+BEFORE, BEHIND = PAGE.split("```python", 1)
 FUNCTIONS, USE = CLIENT.split("session = ", 1)
 NONCE = bytes.fromhex("5d13289f92b32bf4cbd3")
 
@@ -52,14 +54,14 @@ def client():
 
 class Page(unittest.TestCase):
     def test_bytes_stand_in_rows(self):
-        """Each bytes of the page, four or more, stand in rows."""
-        found = [digits(text) for text in re.findall(r"`((?:[0-9a-f]{2} ){3,}[0-9a-f]{2})`", PAGE)]
+        """Each bytes of the page, four or more, stand in rows; those behind the client are test_table's."""
+        found = [digits(text) for text in re.findall(r"`((?:[0-9a-f]{2} ){3,}[0-9a-f]{2})`", BEFORE)]
         self.assertGreater(len(found), 100)
         self.assertEqual([text for text in found if not stands_in_rows(text)], [])
 
     def test_messages_in_one_piece(self):
         """Two bytes that stand side by side, as a head and a payload do, stand so in rows."""
-        pairs = re.findall(r"\| `([0-9a-f ]{23,})` `((?:[0-9a-f]{2} ?)+)` \|", PAGE)
+        pairs = re.findall(r"\| `([0-9a-f ]{23,})` `((?:[0-9a-f]{2} ?)+)` \|", BEFORE)
         self.assertGreater(len(pairs), 12)
         for head, payload in pairs:
             self.assertTrue(stands_in_rows(digits(head + payload)), head + payload)
@@ -147,6 +149,26 @@ class Client(unittest.TestCase):
     def test_run(self):
         """The whole client, spoken to by a node of a few lines."""
         node = Node()
+        shown = self.run_against(node)
+        self.assertEqual(shown, KITS + "component 2 part t 01 01 61 00 00 00 ff 00\n")
+        self.assertEqual(len(node.payloads), 5)
+        for payload in node.payloads:
+            self.assertTrue(stands_in_rows(payload) or payload in SESSIONS, payload)
+        self.assertEqual(node.first, "000000006125ffff7600")
+        self.assertTrue(stands_in_rows(node.first))
+        self.assertEqual(node.numbers, [0, 0, 1, 2, 3, 4], "the first one is lost, and sent again under its number")
+        self.assertEqual(node.acks, [0, 1, 2, 3, 3, 4, 5], "five replies and an event, which overtook the last reply")
+
+    def test_table(self):
+        """The whole client, spoken to as the table behind it says: it sends just what stands there."""
+        node = Table()
+        shown = self.run_against(node)
+        self.assertEqual([(came, wanted) for came, wanted in node.heard if came != wanted], [])
+        self.assertEqual(len(node.heard), 16)
+        self.assertEqual(shown.count("\n"), 5, "the kits, and four events")
+
+    def run_against(self, node):
+        """Runs the page's client until the node closes its session; what it prints."""
         node.start()
         names, shown = client(), io.StringIO()
         use = "session = " + USE.replace("1876", str(node.port))
@@ -160,14 +182,7 @@ class Client(unittest.TestCase):
         node.join(10)
         node.socket.close()
         self.assertEqual(str(ended.exception), "closed: 00e5")
-        self.assertEqual(shown.getvalue(), KITS + "component 2 part t 01 01 61 00 00 00 ff 00\n")
-        self.assertEqual(len(node.payloads), 5)
-        for payload in node.payloads:
-            self.assertTrue(stands_in_rows(payload) or payload in SESSIONS, payload)
-        self.assertEqual(node.first, "000000006125ffff7600")
-        self.assertTrue(stands_in_rows(node.first))
-        self.assertEqual(node.numbers, [0, 0, 1, 2, 3, 4], "the first one is lost, and sent again under its number")
-        self.assertEqual(node.acks, [0, 1, 2, 3, 3, 4, 5], "five replies and an event, which overtook the last reply")
+        return shown.getvalue()
 
 
 KITS = "kits 02 73 79 73 00 36 00 e4 e4 6d 61 74 68 00 ad 0f 33 4b\n"
@@ -175,8 +190,8 @@ SCHEMA = "02737973003600e4e46d61746800ad0f334b"
 EVENT = "65ff000274010161000000ff00"
 
 
-class Node(threading.Thread):
-    """A node of a few lines: it answers in the bytes of rows, loses the first request, and gives an event twice."""
+class Peer(threading.Thread):
+    """Whom the client speaks to, at a port of its own."""
 
     def __init__(self):
         super().__init__(daemon=True)
@@ -184,20 +199,31 @@ class Node(threading.Thread):
         self.socket.bind(("127.0.0.1", 0))
         self.socket.settimeout(5)
         self.port = self.socket.getsockname()[1]
+
+    def hear(self):
+        text, self.peer = self.socket.recvfrom(600)
+        return text
+
+    def say(self, text):
+        self.socket.sendto(bytes.fromhex(text), self.peer)
+
+
+class Node(Peer):
+    """A node of a few lines: it answers in the bytes of rows, loses the first request, and gives an event twice."""
+
+    def __init__(self):
+        super().__init__()
         self.payloads, self.numbers, self.acks, self.posted, self.added, self.first = [], [], [], 0, 0, None
 
     def run(self):
         while not self.answer():
             pass
 
-    def say(self, text):
-        self.socket.sendto(bytes.fromhex(text), self.peer)
-
     def post(self, payload, ahead=0):
         self.say(f"1234{self.posted + ahead:04x}61250000" + payload)
 
     def answer(self):
-        text, self.peer = self.socket.recvfrom(600)
+        text = self.hear()
         kind, payload = text[4] >> 4, text[8:]
         if kind == 1:
             assert stands_in_rows(text.hex())
@@ -229,6 +255,28 @@ class Node(threading.Thread):
         if letter == "s":
             self.post(EVENT)
             self.post(EVENT)  # taken once
+
+
+class Table(Peer):
+    """A node that says what the table behind the client says, and notes what it hears beside what stands there."""
+
+    LINE = re.compile(r"^\| ([a-z, ]*?) ?\| `([0-9a-f ]+)`( and the digest)? \| (?:`([0-9a-f ]+)` )?\|", re.M)
+    PROOF = "c34f6a99224685e6d5db5b37c241ff7c896b42fa"
+
+    def __init__(self):
+        super().__init__()
+        self.heard = []
+
+    def run(self):
+        for who, head, proof, payload in self.LINE.findall(BEHIND):
+            text = digits(head) + (self.PROOF if proof else "") + digits(payload)
+            if who == "tool":
+                self.heard.append((self.hear().hex(), text))
+            else:
+                self.say(text)
+        for number in (6, 7, 8):
+            self.heard.append((self.hear().hex(), f"0000ffff512500{number:02x}"))
+        self.say("1234ffff713500e5")
 
 
 if __name__ == "__main__":
