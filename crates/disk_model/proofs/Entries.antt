@@ -1,12 +1,13 @@
 -- The calls that entries are, when there is one entry more.
 use Rattle.std.proofs.Common.{◌≡◌, ◌⊎◌, inl, inr, ◌+◌, ◌-◌, ◌≤◌, ℕ, Bool, true, false, IsTrue, List, [], ◌∷◌, ◌++◌, length, take, drop, sum_by, refl, sym, ◌∙◌, ap, subst, arith, length-drop}
+use Rattle.std.proofs.lemmas.Bool.{cases_lt}
 use Rattle.std.proofs.lemmas.List.{take-append-le, take_all, drop-append-le, drop_at, drop-drop}
 use Rattle.std.proofs.lemmas.List.Sums.{sum_by-append, sum_by-cons}
 use Rattle.disk_model.specs.Disk.{Image}
 use Rattle.disk_model.specs.Held.{Held}
 use Rattle.disk_model.specs.Written.{written}
 use Rattle.disk_model.specs.Replay.{Call, wrote, calls_by, State, begun, after, after_all}
-use Rattle.disk_model.specs.Recorded.{Tape, with_entry, with_mark, IsTried, call_of, bytes_behind, calls_of, size_of, is_call, IsRecord}
+use Rattle.disk_model.specs.Recorded.{Tape, with_entry, with_mark, HasEntry, Tries, call_of, bytes_behind, calls_of, size_of, is_call, IsRecord}
 use Rattle.disk_model.specs.declared.journal.Entry.{Entry}
 use Rattle.disk_model.specs.declared.journal.Entry.TheVariants.{Wrote, Synced, Other, Marked}
 use Rattle.disk_model.proofs.Steps.{after_push}
@@ -90,6 +91,16 @@ quiet_record first file log name entries e quiet is = record {
   rooms = is.rooms;
   name_room = is.name_room;
 }
+
+-- a call that was tried is recorded, or the record is as it was
+abbrev pub IsTried : Tape → Tape → Entry → Type 0
+IsTried old new entry = (new ≡ with_entry old entry) ⊎ (new ≡ old)
+
+pub tried : {old new : Tape} {e : Entry} → Tries old new e → IsTried old new e
+tried {old = old} tries = elim (cases_lt (sum_by is_call old.entries) old.limit) [
+  | inl room ↦ inl (tries.added room)
+  | inr full ↦ inr (tries.full (λ room. omega (arith, room, full)))
+]
 
 pub tried_record : (first : Image) (file log name : Held) (before now : Tape) → IsTried before now Other → IsRecord first file log name before.entries → IsRecord first file log name now.entries
 tried_record first file log name before now (inl is) record_is = subst (λ (t : Tape). IsRecord first file log name t.entries) (sym is) (quiet_record first file log name before.entries Other other_is_quiet record_is)

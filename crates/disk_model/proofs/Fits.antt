@@ -3,7 +3,8 @@ use Rattle.std.proofs.Common.{◌≡◌, ◌+◌, ◌<◌, ◌≤◌, ℕ, List,
 use Rattle.std.proofs.lemmas.List.{length-take-le}
 use Rattle.std.proofs.lemmas.List.Sums.{sum_by-cons}
 use Rattle.disk_model.specs.Replay.{calls_by, bytes_by, InMemory, HasRoom, HasBytes}
-use Rattle.disk_model.specs.Recorded.{call_of, bytes_behind, calls_of, size_of, is_call}
+use Rattle.disk_model.specs.Held.{Held}
+use Rattle.disk_model.specs.Recorded.{call_of, bytes_behind, calls_of, size_of, is_call, FitsLog}
 use Rattle.disk_model.specs.declared.journal.Entry.{Entry}
 use Rattle.disk_model.specs.declared.journal.Entry.TheVariants.{Wrote, Synced, Other, Marked}
 use Rattle.disk_model.proofs.Entries.{counted_calls, behind_is}
@@ -24,16 +25,23 @@ bytes_calls log (e ∷ entries) le =
     let rest = bytes_calls (bytes_behind log e) entries (omega (arith, le, whole, size)) in
     omega (arith, whole, calls, first, rest)
 
-pub has_room : (d : InMemory) (log : List ℕ) (entries : List Entry) (limit : ℕ) → calls_of log entries ≡ d.history.calls → limit ≡ d.bounds.limit → HasRoom d → sum_by is_call entries < limit
-has_room d log entries limit is same room =
-    let count = counted_calls log entries in
-    let calls = ap (sum_by calls_by) is in
-    omega (arith, count, calls, same, room)
+module _ (d : InMemory) (log : List ℕ) (entries : List Entry) (is : calls_of log entries ≡ d.history.calls) where
+  module _ (limit : ℕ) (same : limit ≡ d.bounds.limit) where
+    count : sum_by is_call entries ≡ sum_by calls_by d.history.calls
+    count = let counted = counted_calls log entries in let calls = ap (sum_by calls_by) is in omega (arith, counted, calls)
 
-pub has_bytes : (d : InMemory) (log : List ℕ) (entries : List Entry) (bound at n : ℕ) → calls_of log entries ≡ d.history.calls → bound ≡ d.bounds.room → length log ≡ sum_by size_of entries → HasBytes d at n → (at + n ≤ bound) × (length log + n ≤ bound)
-has_bytes d log entries bound at n is same size fits =
-    let bytes = bytes_calls log entries (omega (arith, size)) in
-    let calls = ap (sum_by bytes_by) is in
-    let file = fits.file in
-    let all = fits.all in
-    (omega (arith, file, same), omega (arith, all, same, size, bytes, calls))
+    pub has_room : HasRoom d → sum_by is_call entries < limit
+    has_room room = omega (arith, count, same, room)
+
+    pub room_is : sum_by is_call entries < limit → HasRoom d
+    room_is room = omega (arith, count, same, room)
+
+  module _ (held : Held) (same : held.room ≡ d.bounds.room) (bytes_are : held.bytes ≡ log) (size : length log ≡ sum_by size_of entries) (at n : ℕ) where
+    bytes : length held.bytes ≡ sum_by bytes_by d.history.calls
+    bytes = let all = bytes_calls log entries (omega (arith, size)) in let calls = ap (sum_by bytes_by) is in let held_is = ap length bytes_are in omega (arith, all, calls, size, held_is)
+
+    pub has_bytes : HasBytes d at n → FitsLog held at n
+    has_bytes fits = record { file = let f = fits.file in omega (arith, f, same); all = let a = fits.all in omega (arith, a, same, bytes) }
+
+    pub bytes_fit : FitsLog held at n → HasBytes d at n
+    bytes_fit fits = record { file = let f = fits.file in omega (arith, f, same); all = let a = fits.all in omega (arith, a, same, bytes) }

@@ -1,6 +1,7 @@
 mod Entries
 mod Fits
 mod LeftSteps
+mod Recording
 mod Rooms
 mod Steps
 mod Tried

@@ -2,11 +2,11 @@
 use Rattle.std.proofs.Common.{◌≡◌, inl, inr, ℕ, Bool, true, false, IsTrue, if◌then◌else◌, List, length, ◌++◌, ◌∷◌, [], sum_by, drop, refl, ◌∙◌, ap}
 use Rattle.disk_model.specs.Disk.{Image, Meaning, Elapses, Keeps, MarksUp, SyncsUp}
 use Rattle.disk_model.specs.Replay.{Call, wrote, other, marked, History, replayed}
-use Rattle.disk_model.specs.Recorded.{Tape, with_entry, with_mark, IsTried, call_of, calls_of, size_of}
+use Rattle.disk_model.specs.Recorded.{Tape, with_entry, with_mark, call_of, calls_of, size_of}
 use Rattle.disk_model.specs.declared.journal.Entry.{Entry}
 use Rattle.disk_model.specs.declared.journal.Entry.TheVariants.{Wrote, Other, Marked}
 use Rattle.disk_model.specs.Held.{Held}
-use Rattle.disk_model.proofs.Entries.{calls_push, calls_write}
+use Rattle.disk_model.proofs.Entries.{IsTried, calls_push, calls_write}
 use Rattle.disk_model.proofs.Steps.{Idle, idle_call, idle_none, call_time, call_keeps, call_marks, call_syncs}
 
 -- a history by what time, content, marks and syncs depend on

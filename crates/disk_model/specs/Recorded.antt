@@ -1,5 +1,5 @@
 -- The entries of a record, with the bytes of all writes one behind the other.
-use Rattle.std.specs.Prelude.{ℕ, ◌≡◌, ◌⊎◌, ◌≤◌, Bool, true, false, List, [], ◌∷◌, ◌++◌, length, take, drop, sum_by}
+use Rattle.std.specs.Prelude.{ℕ, ◌≡◌, ◌+◌, ◌<◌, ◌≤◌, Bool, true, false, List, [], ◌∷◌, ◌++◌, length, take, drop, sum_by}
 use Rattle.disk_model.specs.Disk.{Image}
 use Rattle.disk_model.specs.Held.{Held}
 use Rattle.disk_model.specs.Replay.{Call, wrote, synced, other, marked, begun, after_all}
@@ -19,10 +19,6 @@ with_entry tape entry = record { entries = tape.entries ++ entry ∷ []; is_mark
 -- With a mark more.
 abbrev pub with_mark : Tape → Tape
 with_mark tape = record { entries = tape.entries ++ Marked ∷ []; is_marked = true; limit = tape.limit }
-
--- With this call more, or as it was, where the record is full.
-abbrev pub IsTried : Tape → Tape → Entry → Type 0
-IsTried old new entry = (new ≡ with_entry old entry) ⊎ (new ≡ old)
 
 -- The call that an entry is, where the bytes of its write come first, and the bytes behind them.
 abbrev pub call_of : List ℕ → Entry → Call
@@ -55,6 +51,20 @@ is_call (Wrote at len) = 1
 is_call Synced = 1
 is_call Other = 1
 is_call Marked = 0
+
+-- There is room for one call more.
+abbrev pub HasEntry : Tape → Type 0
+HasEntry tape = sum_by is_call tape.entries < tape.limit
+
+-- With this call more, and as it was where the record is full.
+pub record Tries (old new : Tape) (entry : Entry) : Type 0 where
+  pub added : HasEntry old → new ≡ with_entry old entry
+  pub full : (HasEntry old → ⊥) → new ≡ old
+
+-- There is room for so many bytes at this place, in a file of the log's room and in the log.
+pub record FitsLog (log : Held) (at n : ℕ) : Type 0 where
+  pub file : at + n ≤ log.room
+  pub all : length log.bytes + n ≤ log.room
 
 -- The file is what the calls leave of the first one, the log has the bytes of all writes, and there is room.
 pub record IsRecord (first : Image) (file log name : Held) (entries : List Entry) : Type 0 where

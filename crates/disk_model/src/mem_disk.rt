@@ -9,7 +9,9 @@ ghost use Rattle.sed_outside.specs.Counts.{one_more};
 ghost use Rattle.disk_model.specs.Disk.{largest_store};
 ghost use Rattle.disk_model.specs.Written.{written};
 ghost use Rattle.disk_model.specs.Replay.{calls_by, HasRoom, HasBytes, replayed, replayed_is_disk};
-ghost use Rattle.disk_model.specs.Recorded.{is_call, with_entry, IsTried};
+ghost use Rattle.disk_model.specs.Replay.{wrote, synced, other};
+ghost use Rattle.disk_model.specs.Recorded.{is_call, with_entry, HasEntry, Tries, FitsLog};
+ghost use Rattle.disk_model.specs.Records.{Records, RecordsMark};
 ghost use Rattle.disk_model.specs.Left.{alike, image_left, IsMomentOf};
 
 use crate::buffer::Buffer;
@@ -27,9 +29,9 @@ const LONGEST_NAME: usize = 4096;
 /// A disk in memory, with one file under every name. It tells all of its meanings.
 ///
 /// Its room bounds the size of the file, and by the same number the sum of the lengths of all writes. It records a
-/// number of calls other than `acknowledge`. A call past the room or past the record fails and does nothing, and two
-/// marks with only calls past the record between them are one. A call that fails by its number is recorded; where it
-/// writes, it has written.
+/// number of calls other than `acknowledge`, each as what it did. A write past the room fails and is recorded as a call
+/// that did nothing, as each call is that only asks. A call past the record fails and is not recorded; two marks with
+/// only such calls between them are one. A call that fails by its number is recorded; where it writes, it has written.
 #[derive(Drop)]
 pub struct MemDisk {
     first: Vec<u8>,
@@ -148,6 +150,8 @@ impl MemDisk {
         ensures bounds { self.new.bounds ≡ self.old.bounds }
         ensures planned { FailsNow self.old.plan → IsErr result }
         ensures fits { (FailsNow self.old.plan → ⊥) → HasRoom self.old → IsOk result }
+        ensures full { (HasRoom self.old → ⊥) → IsErr result }
+        ensures records { Records self.old self.new other }
     {
         self.made = self.made.saturating_add(1);
         if record_call(&mut self.calls, &mut self.journal, Entry::Other) {
@@ -171,11 +175,12 @@ fn counted(faults: &mut u64) -> DiskFault
 fn record_call(calls: &mut FailingCalls, journal: &mut Journal, done: Entry) -> bool
     requires { is_call done ≡ 1 }
     ensures done { OnTrue result (journal.new ≡ with_entry journal.old done) }
-    ensures failed { OnFalse result (IsTried journal.old journal.new Entry.Other) }
+    ensures failed { OnFalse result (Tries journal.old journal.new Entry.Other) }
     ensures limit { journal.new.limit ≡ journal.old.limit }
     ensures calls { calls.new ≡ after_call calls.old }
     ensures planned { FailsNow calls.old → result ≡ false }
-    ensures fits { (FailsNow calls.old → ⊥) → sum_by is_call journal.old.entries < journal.old.limit → IsTrue result }
+    ensures fits { (FailsNow calls.old → ⊥) → HasEntry journal.old → IsTrue result }
+    ensures full { IsTrue result → HasEntry journal.old }
 {
     if calls.fails_now() {
         let _ = journal.record(Entry::Other);
@@ -200,12 +205,13 @@ fn record_write(
       room = file.old.room;
     }) }
     ensures log { OnTrue result (log.new ≡ record { bytes = log.old.bytes ++ bytes.now; room = log.old.room }) }
-    ensures full { OnFalse result (IsTried journal.old journal.new Entry.Other) }
+    ensures failed { OnFalse result (Tries journal.old journal.new Entry.Other) }
     ensures same { OnFalse result ((file.new ≡ file.old) × (log.new ≡ log.old)) }
     ensures limit { journal.new.limit ≡ journal.old.limit }
     ensures room { log.new.room ≡ log.old.room }
-    ensures fits { at + length bytes.now ≤ log.old.room → length log.old.bytes + length bytes.now ≤ log.old.room
-        → sum_by is_call journal.old.entries < journal.old.limit → IsTrue result }
+    ensures fits { FitsLog log.old at (length bytes.now) → HasEntry journal.old → IsTrue result }
+    ensures full { IsTrue result → HasEntry journal.old }
+    ensures past { IsTrue result → FitsLog log.old at (length bytes.now) }
 {
     let start = at as usize;
     let end = start + bytes.len();
@@ -248,6 +254,8 @@ impl Disk for MemDisk {
         ensures bounds { self.new.bounds ≡ self.old.bounds }
         ensures planned { FailsNow self.old.plan → IsErr result }
         ensures fits { (FailsNow self.old.plan → ⊥) → HasRoom self.old → IsOk result }
+        ensures full { (HasRoom self.old → ⊥) → IsErr result }
+        ensures records { Records self.old self.new other }
     {
         self.attaches = self.attaches.saturating_add(1);
         self.attached_at = self.made;
@@ -275,6 +283,8 @@ impl Disk for MemDisk {
         ensures bounds { self.new.bounds ≡ self.old.bounds }
         ensures planned { FailsNow self.old.plan → IsErr result }
         ensures fits { (FailsNow self.old.plan → ⊥) → HasRoom self.old → IsOk result }
+        ensures full { (HasRoom self.old → ⊥) → IsErr result }
+        ensures records { Records self.old self.new other }
     {
         self.ask()?;
         Ok(self.file.len() as u64)
@@ -296,6 +306,8 @@ impl Disk for MemDisk {
         ensures bounds { self.new.bounds ≡ self.old.bounds }
         ensures planned { FailsNow self.old.plan → IsErr result }
         ensures fits { (FailsNow self.old.plan → ⊥) → HasRoom self.old → IsOk result }
+        ensures full { (HasRoom self.old → ⊥) → IsErr result }
+        ensures records { Records self.old self.new other }
     {
         self.ask()?;
         let start = at as usize;
@@ -303,7 +315,7 @@ impl Disk for MemDisk {
         Ok(())
     }
 
-    /// A write is done where there is room for its bytes too.
+    /// A write is done, and recorded with its bytes, where there is room for these too. So is one that fails by number.
     fn write_at(&mut self, at: u64, bytes: &[u8]) -> Result<(), DiskFault>
         requires { at + length bytes.now ≤ largest_store }
         ensures writes { Writes at bytes.now result (replayed self.old.history) (replayed self.new.history) }
@@ -320,6 +332,10 @@ impl Disk for MemDisk {
         ensures planned { FailsNow self.old.plan → IsErr result }
         ensures fits { (FailsNow self.old.plan → ⊥) → HasRoom self.old
             → HasBytes self.old at (length bytes.now) → IsOk result }
+        ensures full { (HasRoom self.old → ⊥) → IsErr result }
+        ensures past { (HasBytes self.old at (length bytes.now) → ⊥) → IsErr result }
+        ensures records { HasBytes self.old at (length bytes.now) → Records self.old self.new (wrote at bytes.now) }
+        ensures undone { (HasBytes self.old at (length bytes.now) → ⊥) → Records self.old self.new other }
     {
         self.made = self.made.saturating_add(1);
         let fails = self.calls.fails_now();
@@ -347,6 +363,9 @@ impl Disk for MemDisk {
         ensures bounds { self.new.bounds ≡ self.old.bounds }
         ensures planned { FailsNow self.old.plan → IsErr result }
         ensures fits { (FailsNow self.old.plan → ⊥) → HasRoom self.old → IsOk result }
+        ensures full { (HasRoom self.old → ⊥) → IsErr result }
+        ensures records { (FailsNow self.old.plan → ⊥) → Records self.old self.new synced }
+        ensures undone { FailsNow self.old.plan → Records self.old self.new other }
     {
         self.made = self.made.saturating_add(1);
         if record_call(&mut self.calls, &mut self.journal, Entry::Synced) {
@@ -369,6 +388,7 @@ impl Disk for MemDisk {
         ensures calls { self.new.history.made ≡ one_more self.old.history.made }
         ensures plan { self.new.plan ≡ self.old.plan }
         ensures bounds { self.new.bounds ≡ self.old.bounds }
+        ensures records { RecordsMark self.old self.new }
     {
         self.made = self.made.saturating_add(1);
         self.journal.mark();
