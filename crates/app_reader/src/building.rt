@@ -4,6 +4,7 @@ ghost use Rattle.std.specs.FinMap as map;
 ghost use Rattle.comp_tree.specs.Application.{data_size_of};
 ghost use Rattle.comp_tree.specs.Held.{components_of};
 ghost use Rattle.comp_tree.specs.Marks.{all_parts, marks_at};
+ghost use Rattle.comp_tree.specs.SameCode.{SameCode};
 ghost use Rattle.app_reader.specs.Ready.{AreReady, components_told, tree_with};
 
 use crate::entries::entries;
@@ -24,8 +25,7 @@ pub(crate) fn tree_built<E: Engine>(
     requires ready { AreReady (E.meaning engine) rows.now }
     ensures built { IfOk result (λ t. components_of E.Engine t
         ≡ tree_with (E.statics engine) (E.limit engine) (components_told (E.meaning engine) rows.now)) }
-    ensures meaning { IfOk result (λ t. E.meaning t.engine ≡ E.meaning engine) }
-    ensures steady { IfOk result (λ t. E.fixed t.engine ≡ E.fixed engine) }
+    ensures same { IfOk result (λ t. SameCode E.Engine engine t.engine) }
     ensures marks { IfOk result (λ t. (id at : ℕ) → marks_at t id at ≡ all_parts) }
     ensures full { result ≡ Err AddRefusal.DataFull
         → E.limit engine < data_size_of (E.meaning engine) (components_told (E.meaning engine) rows.now) }

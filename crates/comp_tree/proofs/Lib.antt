@@ -1,4 +1,5 @@
 pub mod MapLemmas
+pub mod SameCodes
 pub mod ShapeLemmas
 pub mod ShapeSteps
 pub mod SubtreeLemmas

@@ -16,3 +16,4 @@ pub mod Told
 pub mod Allowed
 pub mod Loads
 pub mod Marks
+pub mod SameCode

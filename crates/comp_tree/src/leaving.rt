@@ -6,6 +6,7 @@ ghost use Rattle.comp_tree.specs.Application.{most_children, most_components};
 ghost use Rattle.comp_tree.specs.Edits.{without_all};
 ghost use Rattle.comp_tree.specs.Held.{IsPlaced, IsTreeOf, by_id_of, children_in};
 ghost use Rattle.comp_tree.specs.Order.{most_levels};
+ghost use Rattle.comp_tree.specs.SameCode.{SameCode};
 ghost use Rattle.comp_tree.specs.Shape.{down_by};
 
 use arrayvec::ArrayVec;
@@ -69,10 +70,8 @@ pub fn remove_each<E: Engine>(engine: &mut E, nodes: &mut Nodes, ids: &[u16])
     ensures nodes { nodes.new ≡ without_all ids.now nodes.old }
     ensures by_id { by_id_of (E.live engine.new) nodes.new
         ≡ without_all ids.now (by_id_of (E.live engine.old) nodes.old) }
-    ensures meaning { E.meaning engine.new ≡ E.meaning engine.old }
     ensures statics { E.statics engine.new ≡ E.statics engine.old }
-    ensures limit { E.limit engine.new ≡ E.limit engine.old }
-    ensures fixed { E.fixed engine.new ≡ E.fixed engine.old }
+    ensures same { SameCode E.Engine engine.old engine.new }
 {
     for id in ids {
         remove_one(engine, nodes, Id(*id));
@@ -86,10 +85,8 @@ fn remove_one<E: Engine>(engine: &mut E, nodes: &mut Nodes, id: Id)
     ensures placed { IsPlaced (E.meaning engine.new) (E.live engine.new) nodes.new }
     ensures nodes { nodes.new ≡ map.remove nodes.old id.0 }
     ensures by_id { by_id_of (E.live engine.new) nodes.new ≡ map.remove (by_id_of (E.live engine.old) nodes.old) id.0 }
-    ensures meaning { E.meaning engine.new ≡ E.meaning engine.old }
     ensures statics { E.statics engine.new ≡ E.statics engine.old }
-    ensures limit { E.limit engine.new ≡ E.limit engine.old }
-    ensures fixed { E.fixed engine.new ≡ E.fixed engine.old }
+    ensures same { SameCode E.Engine engine.old engine.new }
 {
     let Some(node) = nodes.remove(id) else {
         return;

@@ -6,6 +6,7 @@ ghost use Rattle.comp_tree.specs.Application.{data_size_of, most_children};
 ghost use Rattle.comp_tree.specs.Held.{IsPlaced, by_id_of};
 ghost use Rattle.comp_tree.specs.Marks.{all_parts, marks_in, parts_at};
 ghost use Rattle.comp_tree.specs.Loads.{IsToLoad, loaded, loaded_component};
+ghost use Rattle.comp_tree.specs.SameCode.{SameCode};
 
 use crate::loaded::Loaded;
 use node_table::{Children, Marks, Node, Nodes, store_values};
@@ -29,10 +30,8 @@ pub fn load_each<E: Engine>(
         → E.limit engine.old < data_size_of (E.meaning engine.old) (loaded (E.meaning engine.old) entries.now) }
     ensures fits { OnOk result (data_size_of (E.meaning engine.old) (loaded (E.meaning engine.old) entries.now)
         ≤ E.limit engine.old) }
-    ensures meaning { OnOk result (E.meaning engine.new ≡ E.meaning engine.old) }
     ensures statics { OnOk result (E.statics engine.new ≡ E.statics engine.old) }
-    ensures limit { OnOk result (E.limit engine.new ≡ E.limit engine.old) }
-    ensures fixed { OnOk result (E.fixed engine.new ≡ E.fixed engine.old) }
+    ensures same { OnOk result (SameCode E.Engine engine.old engine.new) }
 {
     for entry in entries {
         match load_one(engine, nodes, entry) {
@@ -58,10 +57,8 @@ fn load_one<E: Engine>(engine: &mut E, nodes: &mut Nodes, entry: &Loaded) -> Res
     ensures full { (result ≡ Err AddRefusal.DataFull) ↔ (E.limit engine.old
         < data_size_of (E.meaning engine.old) (by_id_of (E.live engine.old) nodes.old)
         + (E.meaning engine.old).data_size entry.now.kind.0) }
-    ensures meaning { OnOk result (E.meaning engine.new ≡ E.meaning engine.old) }
     ensures statics { OnOk result (E.statics engine.new ≡ E.statics engine.old) }
-    ensures limit { OnOk result (E.limit engine.new ≡ E.limit engine.old) }
-    ensures fixed { OnOk result (E.fixed engine.new ≡ E.fixed engine.old) }
+    ensures same { OnOk result (SameCode E.Engine engine.old engine.new) }
 {
     let place = match engine.add(entry.kind) {
         Ok(place) => place,

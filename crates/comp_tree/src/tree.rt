@@ -12,6 +12,7 @@ ghost use Rattle.comp_tree.specs.Edits.{app_class, first_components};
 ghost use Rattle.comp_tree.specs.Held.{IsPropertyOf};
 ghost use Rattle.comp_tree.specs.Marks.{all_parts, marks_at, parts_at};
 ghost use Rattle.comp_tree.specs.Refusals.{first_refusal, refusals_of_read};
+ghost use Rattle.comp_tree.specs.SameCode.{SameCode};
 ghost use Rattle.comp_tree.specs.Told.{IsEntry, IsGreatest};
 
 mod adding;
@@ -65,8 +66,7 @@ impl<E: Engine> Tree<E> {
         requires { E.live engine ≡ map.empty }
         ensures made { IfOk result (λ t. components_of E.Engine t
             ≡ first_components (E.meaning engine) (E.statics engine) (E.limit engine)) }
-        ensures meaning { IfOk result (λ t. E.meaning t.engine ≡ E.meaning engine) }
-        ensures steady { IfOk result (λ t. E.fixed t.engine ≡ E.fixed engine) }
+        ensures same { IfOk result (λ t. SameCode E.Engine engine t.engine) }
         ensures marks { IfOk result (λ t. (id at : ℕ) → marks_at t id at ≡ all_parts) }
         ensures full { result ≡ Err AddRefusal.DataFull
             → E.limit engine < (E.meaning engine).data_size (app_class (E.meaning engine)) }

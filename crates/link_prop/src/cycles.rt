@@ -5,6 +5,7 @@ ghost use Rattle.comp_tree.specs.Application.{is_live, most_components};
 ghost use Rattle.comp_tree.specs.Calls.{Counted, execute_at, traps_of as traps_in};
 ghost use Rattle.comp_tree.specs.Cycle.{Cycle, Cycled, visit as visited_at};
 ghost use Rattle.comp_tree.specs.Held.{components_of};
+ghost use Rattle.comp_tree.specs.SameCode.{SameCode};
 ghost use Rattle.link_prop.specs.Linked.{application_of};
 ghost use Rattle.link_prop.specs.Marks.{KeepsAppMarks, no_links};
 ghost use Rattle.link_prop.specs.CycleMarks.{values_of_any};
@@ -25,8 +26,7 @@ pub fn cycle<E: Engine>(app: &mut App<E>, turns: u32, ticks: i64) -> CycleEnd
     ensures cycled { (let c : Cycled = record { application = application_of E.Engine app.new; traps = result.traps }
         in c) ≡ Cycle (E.meaning app.old.tree.engine) (application_of E.Engine app.old) turns ticks }
     ensures marks { KeepsAppMarks E.Engine values_of_any no_links app.old app.new }
-    ensures meaning { E.meaning app.new.tree.engine ≡ E.meaning app.old.tree.engine }
-    ensures steady { E.fixed app.new.tree.engine ≡ E.fixed app.old.tree.engine }
+    ensures same { SameCode E.Engine app.old.tree.engine app.new.tree.engine }
 {
     let ids = app.tree().depth_first();
     CycleEnd {
@@ -44,8 +44,7 @@ fn visit_all<E: Engine>(app: &mut App<E>, ids: &[u16], turns: u32, ticks: i64) -
         ≡ (let s : Counted = record { left = components_of E.Engine app.new.tree; traps = result } in s) }
     ensures links { app.new.links ≡ app.old.links }
     ensures marks { KeepsAppMarks E.Engine values_of_any no_links app.old app.new }
-    ensures meaning { E.meaning app.new.tree.engine ≡ E.meaning app.old.tree.engine }
-    ensures steady { E.fixed app.new.tree.engine ≡ E.fixed app.old.tree.engine }
+    ensures same { SameCode E.Engine app.old.tree.engine app.new.tree.engine }
 {
     let mut traps = 0;
     for id in ids {
@@ -67,8 +66,7 @@ fn visit<E: Engine>(app: &mut App<E>, id: Id, turns: u32, ticks: i64) -> u32
     ensures live { (other : ℕ) → is_live (components_of E.Engine app.new.tree).by_id other
         ≡ is_live (components_of E.Engine app.old.tree).by_id other }
     ensures marks { KeepsAppMarks E.Engine values_of_any no_links app.old app.new }
-    ensures meaning { E.meaning app.new.tree.engine ≡ E.meaning app.old.tree.engine }
-    ensures steady { E.fixed app.new.tree.engine ≡ E.fixed app.old.tree.engine }
+    ensures same { SameCode E.Engine app.old.tree.engine app.new.tree.engine }
 {
     let copied = app.copy_into(id, turns, ticks);
     copied + run_if_it_may(app, id, turns, ticks)
@@ -87,8 +85,7 @@ fn run_if_it_may<E: Engine>(app: &mut App<E>, id: Id, turns: u32, ticks: i64) ->
     ensures live { (other : ℕ) → is_live (components_of E.Engine app.new.tree).by_id other
         ≡ is_live (components_of E.Engine app.old.tree).by_id other }
     ensures marks { KeepsAppMarks E.Engine values_of_any no_links app.old app.new }
-    ensures meaning { E.meaning app.new.tree.engine ≡ E.meaning app.old.tree.engine }
-    ensures steady { E.fixed app.new.tree.engine ≡ E.fixed app.old.tree.engine }
+    ensures same { SameCode E.Engine app.old.tree.engine app.new.tree.engine }
 {
     let Some(entry) = app.tree().find(id) else {
         return 0;

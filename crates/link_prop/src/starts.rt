@@ -4,6 +4,7 @@ ghost use Rattle.comp_tree.specs.Application.{is_live, most_components};
 ghost use Rattle.comp_tree.specs.Calls.{Counted, call_each};
 ghost use Rattle.comp_tree.specs.Cycle.{Begin, Cycled};
 ghost use Rattle.comp_tree.specs.Held.{components_of};
+ghost use Rattle.comp_tree.specs.SameCode.{SameCode};
 ghost use Rattle.link_prop.specs.Linked.{application_of};
 ghost use Rattle.link_prop.specs.Marks.{KeepsAppMarks, no_links};
 ghost use Rattle.link_prop.specs.CycleMarks.{values_of_any};
@@ -22,8 +23,7 @@ pub fn begin<E: Engine>(app: &mut App<E>, turns: u32, ticks: i64) -> CycleEnd
     ensures begun { (let c : Cycled = record { application = application_of E.Engine app.new; traps = result.traps }
         in c) ≡ Begin (E.meaning app.old.tree.engine) (application_of E.Engine app.old) turns ticks }
     ensures marks { KeepsAppMarks E.Engine values_of_any no_links app.old app.new }
-    ensures meaning { E.meaning app.new.tree.engine ≡ E.meaning app.old.tree.engine }
-    ensures steady { E.fixed app.new.tree.engine ≡ E.fixed app.old.tree.engine }
+    ensures same { SameCode E.Engine app.old.tree.engine app.new.tree.engine }
 {
     let ids = app.tree().depth_first();
     CycleEnd {
@@ -42,8 +42,7 @@ fn start_all<E: Engine>(app: &mut App<E>, ids: &[u16], turns: u32, ticks: i64) -
         record { left = components_of E.Engine app.new.tree; traps = result } in s) }
     ensures links { app.new.links ≡ app.old.links }
     ensures marks { KeepsAppMarks E.Engine values_of_any no_links app.old app.new }
-    ensures meaning { E.meaning app.new.tree.engine ≡ E.meaning app.old.tree.engine }
-    ensures steady { E.fixed app.new.tree.engine ≡ E.fixed app.old.tree.engine }
+    ensures same { SameCode E.Engine app.old.tree.engine app.new.tree.engine }
 {
     let mut traps = 0;
     for id in ids {

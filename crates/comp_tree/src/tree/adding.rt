@@ -12,6 +12,7 @@ ghost use Rattle.comp_tree.specs.Edits.{added, after_add};
 ghost use Rattle.comp_tree.specs.Marks.{KeepsMarks, added_at, all_parts, marks_at, no_marks, parts_at};
 ghost use Rattle.comp_tree.specs.Order.{least_free};
 ghost use Rattle.comp_tree.specs.Refusals.{config_types, first_refusal, refusals_of_add};
+ghost use Rattle.comp_tree.specs.SameCode.{SameCode};
 ghost use Rattle.comp_tree.specs.Values.{taken};
 ghost use Rattle.node_table.specs.Read.{refusal_of_values};
 
@@ -69,8 +70,7 @@ impl<E: Engine> Tree<E> {
             (λ _. KeepsMarks E.Engine no_marks self.old self.new) }
         ensures set { IfOk result (λ id. (at : ℕ) → marks_at self.new id.0 at ≡ all_parts) }
         ensures stays { OnErr result (components_of E.Engine self.new ≡ components_of E.Engine self.old) }
-        ensures meaning { E.meaning self.new.engine ≡ E.meaning self.old.engine }
-        ensures steady { E.fixed self.new.engine ≡ E.fixed self.old.engine }
+        ensures same { SameCode E.Engine self.old.engine self.new.engine }
     {
         let new = match self.may_add(parent, kit, number, name, config) {
             Ok(new) => new,
@@ -145,8 +145,7 @@ impl<E: Engine> Tree<E> {
             (λ _. KeepsMarks E.Engine no_marks self.old self.new) }
         ensures set { IfOk result (λ id. (at : ℕ) → marks_at self.new id.0 at ≡ all_parts) }
         ensures stays { OnErr result (components_of E.Engine self.new ≡ components_of E.Engine self.old) }
-        ensures meaning { E.meaning self.new.engine ≡ E.meaning self.old.engine }
-        ensures steady { E.fixed self.new.engine ≡ E.fixed self.old.engine }
+        ensures same { SameCode E.Engine self.old.engine self.new.engine }
     {
         let place = match self.engine.add(kind) {
             Ok(place) => place,

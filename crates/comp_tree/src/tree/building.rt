@@ -4,6 +4,7 @@ ghost use Rattle.std.specs.FinMap as map;
 ghost use Rattle.comp_tree.specs.Application.{data_size_of};
 ghost use Rattle.comp_tree.specs.Marks.{all_parts, marks_at};
 ghost use Rattle.comp_tree.specs.Loads.{AreToLoad, loaded, loaded_components};
+ghost use Rattle.comp_tree.specs.SameCode.{SameCode};
 
 use crate::loaded::Loaded;
 use crate::loading::load_each;
@@ -26,8 +27,7 @@ impl<E: Engine> Tree<E> {
         requires entries { AreToLoad (E.meaning engine) entries.now }
         ensures built { IfOk result (λ t. components_of E.Engine t
             ≡ loaded_components (E.meaning engine) (E.statics engine) (E.limit engine) entries.now) }
-        ensures meaning { IfOk result (λ t. E.meaning t.engine ≡ E.meaning engine) }
-        ensures steady { IfOk result (λ t. E.fixed t.engine ≡ E.fixed engine) }
+        ensures same { IfOk result (λ t. SameCode E.Engine engine t.engine) }
         ensures marks { IfOk result (λ t. (id at : ℕ) → marks_at t id at ≡ all_parts) }
         ensures full { result ≡ Err AddRefusal.DataFull
             → E.limit engine < data_size_of (E.meaning engine) (loaded (E.meaning engine) entries.now) }

@@ -4,6 +4,7 @@ ghost use Rattle.sub_table.specs.Link.{Link};
 ghost use Rattle.comp_tree.specs.Application.{type_at};
 ghost use Rattle.comp_tree.specs.Marks.{KeepsMarks, values_at};
 ghost use Rattle.comp_tree.specs.Links.{copy as copied, go_together_if_there, has_changed};
+ghost use Rattle.comp_tree.specs.SameCode.{SameCode};
 
 use crate::tree::Tree;
 use sed_engine::Engine;
@@ -24,8 +25,7 @@ impl<E: Engine> Tree<E> {
         ensures changed { result ≡ has_changed (E.meaning self.old.engine)
             (components_of E.Engine self.old) (components_of E.Engine self.new) to.0 to_slot }
         ensures marks { KeepsMarks E.Engine (values_at to.0) self.old self.new }
-        ensures meaning { E.meaning self.new.engine ≡ E.meaning self.old.engine }
-        ensures steady { E.fixed self.new.engine ≡ E.fixed self.old.engine }
+        ensures same { SameCode E.Engine self.old.engine self.new.engine }
     {
         let mut value = SlotBuf::new();
         match self.get(from, from_slot, &mut value) {

@@ -9,6 +9,7 @@ ghost use Rattle.comp_tree.specs.Links.{has_changed, store as stored};
 ghost use Rattle.comp_tree.specs.Marks.{KeepsMarks, marks_at, tree_at, values_at};
 ghost use Rattle.comp_tree.specs.Refusals.{first_refusal, invoke_types, refusals_of_invoke, refusals_of_read};
 ghost use Rattle.comp_tree.specs.Refusals.{refusals_of_rename, refusals_of_reorder, refusals_of_write, write_types};
+ghost use Rattle.comp_tree.specs.SameCode.{SameCode};
 ghost use Rattle.comp_tree.specs.Values.{taken};
 ghost use Rattle.sed_engine.specs.declared.call.Root.TheVariants.{Action as ActionRoot};
 
@@ -34,8 +35,7 @@ impl<E: Engine> Tree<E> {
             (λ refusal. first_refusal (refusals_of_rename (components_of E.Engine self.old).by_id id.0 name.now)
             ≡ Some refusal) }
         ensures stays { OnErr result (self.new ≡ self.old) }
-        ensures meaning { E.meaning self.new.engine ≡ E.meaning self.old.engine }
-        ensures steady { E.fixed self.new.engine ≡ E.fixed self.old.engine }
+        ensures same { SameCode E.Engine self.old.engine self.new.engine }
     {
         let new = match new_name(&self.nodes, id, name) {
             Ok(new) => new,
@@ -56,8 +56,7 @@ impl<E: Engine> Tree<E> {
             (λ refusal. first_refusal (refusals_of_reorder (components_of E.Engine self.old).by_id id.0 children.now)
             ≡ Some refusal) }
         ensures stays { OnErr result (self.new ≡ self.old) }
-        ensures meaning { E.meaning self.new.engine ≡ E.meaning self.old.engine }
-        ensures steady { E.fixed self.new.engine ≡ E.fixed self.old.engine }
+        ensures same { SameCode E.Engine self.old.engine self.new.engine }
     {
         let ids = match new_order(&self.nodes, id, children) {
             Ok(ids) => ids,
@@ -90,8 +89,7 @@ impl<E: Engine> Tree<E> {
             (λ refusal. first_refusal (refusals_of_write (E.meaning self.old.engine)
             (components_of E.Engine self.old).by_id id.0 slot value.now) ≡ Some refusal) }
         ensures stays { OnErr result (self.new ≡ self.old) }
-        ensures meaning { E.meaning self.new.engine ≡ E.meaning self.old.engine }
-        ensures steady { E.fixed self.new.engine ≡ E.fixed self.old.engine }
+        ensures same { SameCode E.Engine self.old.engine self.new.engine }
     {
         let mut holder = SlotBuf::new();
         match self.value_to_write(id, slot, value) {
@@ -132,8 +130,7 @@ impl<E: Engine> Tree<E> {
             (λ refusal. first_refusal (refusals_of_invoke (E.meaning self.old.engine)
             (components_of E.Engine self.old).by_id id.0 slot arg.now) ≡ Some refusal) }
         ensures stays { OnErr result (self.new ≡ self.old) }
-        ensures meaning { E.meaning self.new.engine ≡ E.meaning self.old.engine }
-        ensures steady { E.fixed self.new.engine ≡ E.fixed self.old.engine }
+        ensures same { SameCode E.Engine self.old.engine self.new.engine }
     {
         let mut holder = SlotBuf::new();
         match self.argument_for(id, slot, arg) {
@@ -244,8 +241,7 @@ impl<E: Engine> Tree<E> {
         ensures changed { result ≡ has_changed (E.meaning self.old.engine) (components_of E.Engine self.old)
             (stored (E.meaning self.old.engine) (components_of E.Engine self.old) id.0 slot value.now) id.0 slot }
         ensures marks { KeepsMarks E.Engine (values_at id.0) self.old self.new }
-        ensures meaning { E.meaning self.new.engine ≡ E.meaning self.old.engine }
-        ensures steady { E.fixed self.new.engine ≡ E.fixed self.old.engine }
+        ensures same { SameCode E.Engine self.old.engine self.new.engine }
     {
         let changed = self.store(id, slot, value);
         self.mark(id, Parts::of_values());
@@ -261,8 +257,7 @@ impl<E: Engine> Tree<E> {
         ensures changed { result ≡ has_changed (E.meaning self.old.engine) (components_of E.Engine self.old)
             (stored (E.meaning self.old.engine) (components_of E.Engine self.old) id.0 slot value.now) id.0 slot }
         ensures marks { (other at : ℕ) → marks_at self.new other at ≡ marks_at self.old other at }
-        ensures meaning { E.meaning self.new.engine ≡ E.meaning self.old.engine }
-        ensures steady { E.fixed self.new.engine ≡ E.fixed self.old.engine }
+        ensures same { SameCode E.Engine self.old.engine self.new.engine }
     {
         let Some(node) = self.nodes.get(id) else {
             return false;

@@ -2,6 +2,7 @@
 ghost use Rattle.std.specs.Prelude.{◌≡◌, ◌==◌, ◌&&◌, ◌<◌, ℕ, IsSome, if◌then◌else◌};
 ghost use Rattle.std.specs.FinMap as map;
 ghost use Rattle.comp_tree.specs.Marks.{marks_at, mask_of, only, parts_in, with_parts, without_parts};
+ghost use Rattle.comp_tree.specs.SameCode.{SameCode};
 
 use crate::tree::Tree;
 use node_table::Parts;
@@ -34,8 +35,7 @@ impl<E: Engine> Tree<E> {
             ≡ (if (other == id.0) && (at == place) then without_parts (parts_in mask) (marks_at self.old other at)
             else marks_at self.old other at) }
         ensures stays { components_of E.Engine self.new ≡ components_of E.Engine self.old }
-        ensures meaning { E.meaning self.new.engine ≡ E.meaning self.old.engine }
-        ensures steady { E.fixed self.new.engine ≡ E.fixed self.old.engine }
+        ensures same { SameCode E.Engine self.old.engine self.new.engine }
     {
         let Some(node) = self.nodes.get(id) else {
             return;
@@ -49,8 +49,7 @@ impl<E: Engine> Tree<E> {
         ensures marks { (other at : ℕ) → marks_at self.new other at
             ≡ with_parts (only id.0 parts other) (marks_at self.old other at) }
         ensures stays { components_of E.Engine self.new ≡ components_of E.Engine self.old }
-        ensures meaning { E.meaning self.new.engine ≡ E.meaning self.old.engine }
-        ensures steady { E.fixed self.new.engine ≡ E.fixed self.old.engine }
+        ensures same { SameCode E.Engine self.old.engine self.new.engine }
     {
         if self.nodes.contains(id) {
             self.nodes.touch(id, parts);

@@ -6,6 +6,7 @@ ghost use Rattle.comp_tree.specs.Edits.{after_delete, removed};
 ghost use Rattle.comp_tree.specs.Marks.{KeepsMarks, tree_above, values_of_all};
 ghost use Rattle.comp_tree.specs.Order.{subtree as subtree_of};
 ghost use Rattle.comp_tree.specs.Refusals.{first_refusal, refusals_of_delete};
+ghost use Rattle.comp_tree.specs.SameCode.{SameCode};
 
 use crate::joining::parent_of;
 use crate::leaving::{at_and_below, children_without, remove_each};
@@ -34,8 +35,7 @@ impl<E: Engine> Tree<E> {
         ensures marks { KeepsMarks E.Engine (tree_above (components_of E.Engine self.old).by_id id.0)
             self.old self.new }
         ensures stays { OnErr result (self.new ≡ self.old) }
-        ensures meaning { E.meaning self.new.engine ≡ E.meaning self.old.engine }
-        ensures steady { E.fixed self.new.engine ≡ E.fixed self.old.engine }
+        ensures same { SameCode E.Engine self.old.engine self.new.engine }
     {
         if !self.nodes.contains(id) {
             return Err(Refusal::NoComponent);
@@ -58,8 +58,7 @@ impl<E: Engine> Tree<E> {
             ≡ (call_each (E.meaning self.old.engine) Callback.Stop turns
             ticks (components_of E.Engine self.old) ids.now).left }
         ensures marks { KeepsMarks E.Engine (values_of_all ids.now) self.old self.new }
-        ensures meaning { E.meaning self.new.engine ≡ E.meaning self.old.engine }
-        ensures steady { E.fixed self.new.engine ≡ E.fixed self.old.engine }
+        ensures same { SameCode E.Engine self.old.engine self.new.engine }
     {
         for id in ids {
             let _end = self.callback(Id(*id), Callback::Stop, 0, turns, ticks);
@@ -75,8 +74,7 @@ impl<E: Engine> Tree<E> {
             self.old self.new }
         ensures gone { components_of E.Engine self.new
             ≡ with_components (components_of E.Engine self.old) (removed (components_of E.Engine self.old).by_id id.0) }
-        ensures meaning { E.meaning self.new.engine ≡ E.meaning self.old.engine }
-        ensures steady { E.fixed self.new.engine ≡ E.fixed self.old.engine }
+        ensures same { SameCode E.Engine self.old.engine self.new.engine }
     {
         let Some(parent) = parent_of(&self.nodes, id) else {
             return;

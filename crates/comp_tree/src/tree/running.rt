@@ -7,6 +7,7 @@ ghost use Rattle.comp_tree.specs.Calls.{Call, callback_argument as argument_of, 
 ghost use Rattle.comp_tree.specs.Edits.{after_clear};
 ghost use Rattle.comp_tree.specs.Marks.{KeepsMarks, marks_at, no_marks, values_at};
 ghost use Rattle.comp_tree.specs.Refusals.{first_refusal, refusals_of_clear};
+ghost use Rattle.comp_tree.specs.SameCode.{SameCode};
 
 use crate::tree::Tree;
 use node_table::Parts;
@@ -28,8 +29,7 @@ impl<E: Engine> Tree<E> {
         ensures end { result ≡ (execute_at (E.meaning self.old.engine)
             (components_of E.Engine self.old) id.0 turns ticks).end }
         ensures marks { KeepsMarks E.Engine (values_at id.0) self.old self.new }
-        ensures meaning { E.meaning self.new.engine ≡ E.meaning self.old.engine }
-        ensures steady { E.fixed self.new.engine ≡ E.fixed self.old.engine }
+        ensures same { SameCode E.Engine self.old.engine self.new.engine }
     {
         self.call(id, Root::Execute, &SlotBuf::new(), turns, ticks)
     }
@@ -45,8 +45,7 @@ impl<E: Engine> Tree<E> {
         ensures end { result ≡ (Call (E.meaning self.old.engine) (components_of E.Engine self.old)
             id.0 c slot turns ticks).end }
         ensures marks { KeepsMarks E.Engine (values_at id.0) self.old self.new }
-        ensures meaning { E.meaning self.new.engine ≡ E.meaning self.old.engine }
-        ensures steady { E.fixed self.new.engine ≡ E.fixed self.old.engine }
+        ensures same { SameCode E.Engine self.old.engine self.new.engine }
     {
         let argument = callback_argument(c, slot);
         self.call(id, Root::Callback(c), &argument, turns, ticks)
@@ -61,8 +60,7 @@ impl<E: Engine> Tree<E> {
             first_refusal (refusals_of_clear (components_of E.Engine self.old).by_id id.0) ≡ None)
             (λ refusal. first_refusal (refusals_of_clear (components_of E.Engine self.old).by_id id.0) ≡ Some refusal) }
         ensures stays { OnErr result (self.new ≡ self.old) }
-        ensures meaning { E.meaning self.new.engine ≡ E.meaning self.old.engine }
-        ensures steady { E.fixed self.new.engine ≡ E.fixed self.old.engine }
+        ensures same { SameCode E.Engine self.old.engine self.new.engine }
     {
         let Some(_node) = self.nodes.get(id) else {
             return Err(Refusal::NoComponent);
@@ -90,8 +88,7 @@ impl<E: Engine> Tree<E> {
         ensures end { result ≡ (run_at (E.meaning self.old.engine) (components_of E.Engine self.old)
             id.0 which arg.now turns ticks).end }
         ensures marks { KeepsMarks E.Engine (values_at id.0) self.old self.new }
-        ensures meaning { E.meaning self.new.engine ≡ E.meaning self.old.engine }
-        ensures steady { E.fixed self.new.engine ≡ E.fixed self.old.engine }
+        ensures same { SameCode E.Engine self.old.engine self.new.engine }
     {
         let end = self.run(id, which, arg, turns, ticks);
         self.mark(id, Parts::of_values());
@@ -110,8 +107,7 @@ impl<E: Engine> Tree<E> {
         ensures end { result ≡ (run_at (E.meaning self.old.engine) (components_of E.Engine self.old)
             id.0 which arg.now turns ticks).end }
         ensures marks { (other at : ℕ) → marks_at self.new other at ≡ marks_at self.old other at }
-        ensures meaning { E.meaning self.new.engine ≡ E.meaning self.old.engine }
-        ensures steady { E.fixed self.new.engine ≡ E.fixed self.old.engine }
+        ensures same { SameCode E.Engine self.old.engine self.new.engine }
     {
         let Some(node) = self.nodes.get(id) else {
             return CallEnd::Done { left: turns };

@@ -10,6 +10,7 @@ ghost use Rattle.comp_tree.specs.Edits.{after_add, after_clear, after_invoke, af
 ghost use Rattle.comp_tree.specs.Order.{least_free};
 ghost use Rattle.comp_tree.specs.Refusals.{first_refusal, refusals_of_add, refusals_of_clear, refusals_of_invoke};
 ghost use Rattle.comp_tree.specs.Refusals.{refusals_of_rename, refusals_of_reorder, refusals_of_write};
+ghost use Rattle.comp_tree.specs.SameCode.{SameCode};
 ghost use Rattle.link_prop.specs.Marks.{AppPart, KeepsAppMarks, added_at, has_mark, is_marked, links_of_new, no_links};
 ghost use Rattle.link_prop.specs.Marks.{no_marks, tree_at, values_at};
 
@@ -59,8 +60,7 @@ impl<E: Engine> App<E> {
             (λ _. KeepsAppMarks E.Engine no_marks no_links self.old self.new) }
         ensures set { IfOk result (λ id. (at : ℕ) (part : AppPart) → is_marked self.new id.0 at part ≡ true) }
         ensures links { self.new.links ≡ self.old.links }
-        ensures meaning { E.meaning self.new.tree.engine ≡ E.meaning self.old.tree.engine }
-        ensures steady { E.fixed self.new.tree.engine ≡ E.fixed self.old.tree.engine }
+        ensures same { SameCode E.Engine self.old.tree.engine self.new.tree.engine }
     {
         let added = self
             .tree
@@ -81,8 +81,7 @@ impl<E: Engine> App<E> {
         ensures stays { OnErr result (self.new ≡ self.old) }
         ensures marks { KeepsAppMarks E.Engine (tree_at id.0) no_links self.old self.new }
         ensures links { self.new.links ≡ self.old.links }
-        ensures meaning { E.meaning self.new.tree.engine ≡ E.meaning self.old.tree.engine }
-        ensures steady { E.fixed self.new.tree.engine ≡ E.fixed self.old.tree.engine }
+        ensures same { SameCode E.Engine self.old.tree.engine self.new.tree.engine }
     {
         self.tree.rename(id, name)
     }
@@ -99,8 +98,7 @@ impl<E: Engine> App<E> {
         ensures stays { OnErr result (self.new ≡ self.old) }
         ensures marks { KeepsAppMarks E.Engine (tree_at id.0) no_links self.old self.new }
         ensures links { self.new.links ≡ self.old.links }
-        ensures meaning { E.meaning self.new.tree.engine ≡ E.meaning self.old.tree.engine }
-        ensures steady { E.fixed self.new.tree.engine ≡ E.fixed self.old.tree.engine }
+        ensures same { SameCode E.Engine self.old.tree.engine self.new.tree.engine }
     {
         self.tree.reorder(id, children)
     }
@@ -129,8 +127,7 @@ impl<E: Engine> App<E> {
         ensures stays { OnErr result (self.new ≡ self.old) }
         ensures marks { KeepsAppMarks E.Engine (values_at id.0) no_links self.old self.new }
         ensures links { self.new.links ≡ self.old.links }
-        ensures meaning { E.meaning self.new.tree.engine ≡ E.meaning self.old.tree.engine }
-        ensures steady { E.fixed self.new.tree.engine ≡ E.fixed self.old.tree.engine }
+        ensures same { SameCode E.Engine self.old.tree.engine self.new.tree.engine }
     {
         self.tree.write(id, slot, value, turns, ticks)
     }
@@ -163,8 +160,7 @@ impl<E: Engine> App<E> {
         ensures stays { OnErr result (self.new ≡ self.old) }
         ensures marks { KeepsAppMarks E.Engine (values_at id.0) no_links self.old self.new }
         ensures links { self.new.links ≡ self.old.links }
-        ensures meaning { E.meaning self.new.tree.engine ≡ E.meaning self.old.tree.engine }
-        ensures steady { E.fixed self.new.tree.engine ≡ E.fixed self.old.tree.engine }
+        ensures same { SameCode E.Engine self.old.tree.engine self.new.tree.engine }
     {
         self.tree.invoke(id, slot, arg, turns, ticks)
     }
@@ -181,8 +177,7 @@ impl<E: Engine> App<E> {
         ensures stays { OnErr result (self.new ≡ self.old) }
         ensures marks { KeepsAppMarks E.Engine no_marks no_links self.old self.new }
         ensures links { self.new.links ≡ self.old.links }
-        ensures meaning { E.meaning self.new.tree.engine ≡ E.meaning self.old.tree.engine }
-        ensures steady { E.fixed self.new.tree.engine ≡ E.fixed self.old.tree.engine }
+        ensures same { SameCode E.Engine self.old.tree.engine self.new.tree.engine }
     {
         self.tree.clear(id)
     }
@@ -201,8 +196,7 @@ impl<E: Engine> App<E> {
             (components_of E.Engine self.old.tree) id.0 turns ticks).end }
         ensures marks { KeepsAppMarks E.Engine (values_at id.0) no_links self.old self.new }
         ensures links { self.new.links ≡ self.old.links }
-        ensures meaning { E.meaning self.new.tree.engine ≡ E.meaning self.old.tree.engine }
-        ensures steady { E.fixed self.new.tree.engine ≡ E.fixed self.old.tree.engine }
+        ensures same { SameCode E.Engine self.old.tree.engine self.new.tree.engine }
     {
         self.tree.execute(id, turns, ticks)
     }
@@ -220,8 +214,7 @@ impl<E: Engine> App<E> {
             id.0 c slot turns ticks).end }
         ensures marks { KeepsAppMarks E.Engine (values_at id.0) no_links self.old self.new }
         ensures links { self.new.links ≡ self.old.links }
-        ensures meaning { E.meaning self.new.tree.engine ≡ E.meaning self.old.tree.engine }
-        ensures steady { E.fixed self.new.tree.engine ≡ E.fixed self.old.tree.engine }
+        ensures same { SameCode E.Engine self.old.tree.engine self.new.tree.engine }
     {
         self.tree.callback(id, c, slot, turns, ticks)
     }

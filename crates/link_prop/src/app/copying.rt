@@ -8,6 +8,7 @@ ghost use Rattle.comp_tree.specs.Links.{copy_along, copy_into as copied_into};
 ghost use Rattle.comp_tree.specs.Whole.{IsLink};
 ghost use Rattle.comp_tree.specs.Held.{components_of};
 ghost use Rattle.comp_tree.specs.Marks.{KeepsMarks};
+ghost use Rattle.comp_tree.specs.SameCode.{SameCode};
 ghost use Rattle.link_prop.specs.Marks.{KeepsAppMarks, no_links, values_at};
 
 use crate::app::App;
@@ -32,8 +33,7 @@ impl<E: Engine> App<E> {
         ensures few { result ≤ most_links }
         ensures marks { KeepsAppMarks E.Engine (values_at id.0) no_links self.old self.new }
         ensures links { self.new.links ≡ self.old.links }
-        ensures meaning { E.meaning self.new.tree.engine ≡ E.meaning self.old.tree.engine }
-        ensures steady { E.fixed self.new.tree.engine ≡ E.fixed self.old.tree.engine }
+        ensures same { SameCode E.Engine self.old.tree.engine self.new.tree.engine }
     {
         let _few = self.links.len();
         copy_all(
@@ -59,8 +59,7 @@ fn copy_all<E: Engine>(tree: &mut Tree<E>, links: &[LinkRec], id: Id, turns: u32
         ≡ (let s : Counted = record { left = components_of E.Engine tree.new; traps = before + result } in s) }
     ensures few { result ≤ length links.now }
     ensures marks { KeepsMarks E.Engine (values_at id.0) tree.old tree.new }
-    ensures meaning { E.meaning tree.new.engine ≡ E.meaning tree.old.engine }
-    ensures steady { E.fixed tree.new.engine ≡ E.fixed tree.old.engine }
+    ensures same { SameCode E.Engine tree.old.engine tree.new.engine }
 {
     let mut traps = 0;
     for at in 0..links.len() {
@@ -88,8 +87,7 @@ fn copy_one<E: Engine>(tree: &mut Tree<E>, link: LinkRec, turns: u32, ticks: i64
         (record { left = components_of E.Engine tree.old; traps = traps }) link
         ≡ (let s : Counted = record { left = components_of E.Engine tree.new; traps = traps + one_if result } in s) }
     ensures marks { KeepsMarks E.Engine (values_at link.to) tree.old tree.new }
-    ensures meaning { E.meaning tree.new.engine ≡ E.meaning tree.old.engine }
-    ensures steady { E.fixed tree.new.engine ≡ E.fixed tree.old.engine }
+    ensures same { SameCode E.Engine tree.old.engine tree.new.engine }
 {
     if !tree.copy(link.from, link.from_slot, link.to, link.to_slot) {
         return false;

@@ -6,6 +6,7 @@ ghost use Rattle.comp_tree.specs.Application.{most_components};
 ghost use Rattle.comp_tree.specs.Edits.{after_delete};
 ghost use Rattle.comp_tree.specs.Order.{subtree as subtree_of};
 ghost use Rattle.comp_tree.specs.Refusals.{first_refusal, refusals_of_delete};
+ghost use Rattle.comp_tree.specs.SameCode.{SameCode};
 ghost use Rattle.link_prop.specs.Marks.{KeepsAppMarks, links_with, tree_above};
 
 use crate::app::App;
@@ -37,8 +38,7 @@ impl<E: Engine> App<E> {
         ensures marks { KeepsAppMarks E.Engine (tree_above (components_of E.Engine self.old.tree).by_id id.0)
             (links_with (subtree_of (components_of E.Engine self.old.tree).by_id id.0) self.old.links)
             self.old self.new }
-        ensures meaning { E.meaning self.new.tree.engine ≡ E.meaning self.old.tree.engine }
-        ensures steady { E.fixed self.new.tree.engine ≡ E.fixed self.old.tree.engine }
+        ensures same { SameCode E.Engine self.old.tree.engine self.new.tree.engine }
     {
         if !is_live(&self.tree, id) {
             return Err(Refusal::NoComponent);

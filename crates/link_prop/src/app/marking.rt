@@ -6,6 +6,7 @@ ghost use Rattle.sub_table.specs.Marks.{AreMarked, is_at_mark, is_marked as is_l
 ghost use Rattle.sub_table.specs.Marked.{most_ids};
 ghost use Rattle.comp_tree.specs.Application.{most_components};
 ghost use Rattle.comp_tree.specs.Held.{components_of};
+ghost use Rattle.comp_tree.specs.SameCode.{SameCode};
 ghost use Rattle.link_prop.specs.Linked.{application_of};
 ghost use Rattle.link_prop.specs.Marks.{AppPart, has_mark, is_in_mask, is_marked, links_at_ends, links_with, mask_at};
 
@@ -39,8 +40,7 @@ impl<E: Engine> App<E> {
             → is_marked self.new other at part ≡ (if ((other == id.0) && (at == place)) && is_in_mask mask part
             then false else is_marked self.old other at part) }
         ensures stays { application_of E.Engine self.new ≡ application_of E.Engine self.old }
-        ensures meaning { E.meaning self.new.tree.engine ≡ E.meaning self.old.tree.engine }
-        ensures steady { E.fixed self.new.tree.engine ≡ E.fixed self.old.tree.engine }
+        ensures same { SameCode E.Engine self.old.tree.engine self.new.tree.engine }
     {
         bound_of(&self.tree, id);
         self.tree.settle(id, place, mask);

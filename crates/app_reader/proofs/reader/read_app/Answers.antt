@@ -30,7 +30,7 @@ build-requires-clause-linked g c =
     let told = links_told m limit rows ready (λ k. c.limits_of_rows_are_those_told.ensures m rows.file rows.lists k ready.formed.ascend ready.size) (c.what_passes_no_limit_is_whole.ensures.whole m)
     c.requires.least_limit c.requires.most_limit c.in-Ok-tree_built.ensures.fits in
     let all : (components_of g.E.Engine tree).by_id ≡ components_told m rows = ap (λ (x : Components). x.by_id) c.in-Ok-tree_built.ensures.built in
-    subst (λ (n : Meaning). AreLinked n (components_of g.E.Engine tree).by_id c.as_slice.result.now) (sym c.in-Ok-tree_built.ensures.meaning)
+    subst (λ (n : Meaning). AreLinked n (components_of g.E.Engine tree).by_id c.as_slice.result.now) (sym c.in-Ok-tree_built.ensures.same.meaning)
     (subst (λ (all : ById). AreLinked m all c.as_slice.result.now) (sym all) (subst (AreLinked m (components_told m rows)) (sym c.as_slice.ensures) told))
 
 pub returns-in-Ok-build-clause-read : goal.returns-in-Ok-build-clause-read

@@ -3,6 +3,7 @@ use Rattle.std.proofs.lemmas.Grind.{get_or_default_zero}
 use Rattle.std.specs.FinMap as map
 use Rattle.comp_tree.specs.Edits.{without_all}
 use Rattle.comp_tree.specs.Held.{by_id_of}
+use Rattle.comp_tree.proofs.SameCodes.{same_still, same_yet}
 use Rattle.comp_tree.proofs.ShapeLemmas.{once_from}
 use Rattle.comp_tree.proofs.SubtreeLemmas.{get_stays, once_before, one_of, take_all, taken_next, without_more, without_none}
 use Rattle.comp_tree.proofs.leaving.remove_each.Goals as goal
@@ -12,10 +13,8 @@ loop-id-init g c = record {
   placed = c.requires.placed;
   nodes = sym (without_none c.args.nodes.now);
   by_id = sym (without_none (by_id_of (g.E.Engine.live c.args.engine.now) c.args.nodes.now));
-  meaning = refl;
   statics = refl;
-  limit = refl;
-  fixed = refl;
+  same = same_yet;
 }
 
 pub remove_one-requires-clause-placed : goal.remove_one-requires-clause-placed
@@ -41,10 +40,8 @@ loop-id-preserved g c =
       placed = c.remove_one.ensures.placed;
       nodes = c.remove_one.ensures.nodes ∙ ap (λ n. map.remove n x) c.loop-id.invariant.nodes ∙ sym (without_more (take k ids) x c.args.nodes.now) ∙ ap (λ (xs : List ℕ). without_all xs c.args.nodes.now) next;
       by_id = c.remove_one.ensures.by_id ∙ ap (λ n. map.remove n x) c.loop-id.invariant.by_id ∙ sym (without_more (take k ids) x all) ∙ ap (λ (xs : List ℕ). without_all xs all) next;
-      meaning = c.remove_one.ensures.meaning ∙ c.loop-id.invariant.meaning;
       statics = c.remove_one.ensures.statics ∙ c.loop-id.invariant.statics;
-      limit = c.remove_one.ensures.limit ∙ c.loop-id.invariant.limit;
-      fixed = c.remove_one.ensures.fixed ∙ c.loop-id.invariant.fixed;
+      same = same_still c.loop-id.invariant.same c.remove_one.ensures.same;
     }
 
 pub returns-clause-nodes : goal.returns-clause-nodes

@@ -3,6 +3,7 @@ use Rattle.comp_tree.specs.Application.{data_size_of}
 use Rattle.comp_tree.specs.Held.{IsPlaced, by_id_of}
 use Rattle.comp_tree.specs.Loads.{loaded}
 use Rattle.comp_tree.specs.Marks.{all_parts, marks_in}
+use Rattle.comp_tree.specs.SameCode.{SameCode}
 use Rattle.comp_tree.proofs.loading.load_each.Given as goal
 
 -- those so far are there, and have no more data than there may be
@@ -12,8 +13,6 @@ invariant-loop-entry g l = record {
   by_id : by_id_of (g.E.Engine.live l.engine) l.nodes ≡ loaded (g.E.Engine.meaning l.fn.engine) (take l.entry-index l.entries);
   fits : data_size_of (g.E.Engine.meaning l.fn.engine) (loaded (g.E.Engine.meaning l.fn.engine) (take l.entry-index l.entries)) ≤ g.E.Engine.limit l.fn.engine;
   marks : (id at : ℕ) → marks_in l.nodes id at ≡ all_parts;
-  meaning : g.E.Engine.meaning l.engine ≡ g.E.Engine.meaning l.fn.engine;
   statics : g.E.Engine.statics l.engine ≡ g.E.Engine.statics l.fn.engine;
-  limit : g.E.Engine.limit l.engine ≡ g.E.Engine.limit l.fn.engine;
-  fixed : g.E.Engine.fixed l.engine ≡ g.E.Engine.fixed l.fn.engine;
+  same : SameCode g.E.Engine l.fn.engine l.engine;
 }

@@ -14,8 +14,8 @@ returns-clause-visited g c = λ before.
     let t = to_z w64 (of_z w64 c.args.ticks) in
     let same : to_z w64 (of_z w64 c.args.ticks) ≡ c.args.ticks = to_z-of_z w64 c.args.ticks c.ranges.ticks in
     let mid = components_of g.E.Engine c.copy_into-copied.new.self.tree in
-    let left = sym (c.run_if_it_may.ensures.left ∙ ap (λ (n : Meaning). (execute_at n mid c.args.id.0 c.args.turns t).left) c.copy_into-copied.ensures.meaning) in
-    let traps = c.run_if_it_may.ensures.traps ∙ ap (λ (n : Meaning). traps_of (execute_at n mid c.args.id.0 c.args.turns t).end) c.copy_into-copied.ensures.meaning in
+    let left = sym (c.run_if_it_may.ensures.left ∙ ap (λ (n : Meaning). (execute_at n mid c.args.id.0 c.args.turns t).left) c.copy_into-copied.ensures.same.meaning) in
+    let traps = c.run_if_it_may.ensures.traps ∙ ap (λ (n : Meaning). traps_of (execute_at n mid c.args.id.0 c.args.turns t).end) c.copy_into-copied.ensures.same.meaning in
     let sum : (before + c.copy_into-copied.result) + traps_of (execute_at m mid c.args.id.0 c.args.turns t).end ≡ before + (c.copy_into-copied.result + c.run_if_it_may.result) = omega (arith, traps) in
     ap (λ (u : ℤ). visit m c.args.app.now.links c.args.turns u (record { left = components_of g.E.Engine c.args.app.now.tree; traps = before }) c.args.id.0) (sym same)
     ∙ ap (λ (s : Counted). then_run s (λ a. execute_at m a c.args.id.0 c.args.turns t)) (c.copy_into-copied.ensures.copied before)

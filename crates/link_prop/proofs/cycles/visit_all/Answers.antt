@@ -6,6 +6,7 @@ use Rattle.sub_table.specs.Link.{Link}
 use Rattle.comp_tree.specs.Calls.{Counted}
 use Rattle.comp_tree.specs.Cycle.{visit}
 use Rattle.comp_tree.specs.Held.{components_of}
+use Rattle.comp_tree.proofs.SameCodes.{same_still}
 use Rattle.link_prop.proofs.CountedCalls.{counted_all, counted_more}
 use Rattle.link_prop.proofs.CycleMarks.{marked_again, marked_none}
 use Rattle.link_prop.proofs.cycles.visit_all.Goals as goal
@@ -23,13 +24,12 @@ loop-id-preserved g c =
     record {
       counted = counted_more (visit m links c.args.turns t) (components_of g.E.Engine c.args.app.now.tree) now ids k c.loop-id.traps c.loop-id.invariant.counted
           0 c.visit-traps.result (components_of g.E.Engine c.visit-traps.new.app.tree) c.loop-id-test.true c.visit-traps.ensures.few
-          (ap (λ (n : Meaning). visit n links c.args.turns t s x) (sym c.loop-id.invariant.meaning)
+          (ap (λ (n : Meaning). visit n links c.args.turns t s x) (sym c.loop-id.invariant.same.meaning)
           ∙ ap (λ (ls : List Link). visit (g.E.Engine.meaning c.loop-id.app.tree.engine) ls c.args.turns t s x) (sym c.loop-id.invariant.links)
           ∙ c.visit-traps.ensures.visited c.loop-id.traps);
       marks = marked_again g.E.Engine c.args.app.now c.loop-id.app c.visit-traps.new.app c.loop-id.invariant.marks c.visit-traps.ensures.marks c.visit-traps.ensures.live;
       links = c.visit-traps.ensures.links ∙ c.loop-id.invariant.links;
-      meaning = c.visit-traps.ensures.meaning ∙ c.loop-id.invariant.meaning;
-      steady = c.visit-traps.ensures.steady ∙ c.loop-id.invariant.steady;
+      same = same_still c.loop-id.invariant.same c.visit-traps.ensures.same;
     }
 
 pub returns-clause-visited : goal.returns-clause-visited

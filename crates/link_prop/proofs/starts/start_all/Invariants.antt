@@ -3,6 +3,7 @@ use Rattle.sed_engine.specs.declared.call.Callback.TheVariants.{Start}
 use Rattle.comp_tree.specs.Application.{is_live}
 use Rattle.comp_tree.specs.Calls.{Call, then_run}
 use Rattle.comp_tree.specs.Held.{components_of}
+use Rattle.comp_tree.specs.SameCode.{SameCode}
 use Rattle.link_prop.specs.Marks.{KeepsAppMarks, no_links}
 use Rattle.link_prop.specs.CycleMarks.{values_of_any}
 use Rattle.link_prop.proofs.CountedCalls.{CountedSoFar}
@@ -15,6 +16,5 @@ invariant-loop-id g l = record {
   live : (q : ℕ) → is_live (components_of g.E.Engine l.app.tree).by_id q ≡ is_live (components_of g.E.Engine l.fn.app.tree).by_id q;
   marks : KeepsAppMarks g.E.Engine values_of_any no_links l.fn.app l.app;
   links : l.app.links ≡ l.fn.app.links;
-  meaning : g.E.Engine.meaning l.app.tree.engine ≡ g.E.Engine.meaning l.fn.app.tree.engine;
-  steady : g.E.Engine.fixed l.app.tree.engine ≡ g.E.Engine.fixed l.fn.app.tree.engine;
+  same : SameCode g.E.Engine l.fn.app.tree.engine l.app.tree.engine;
 }

@@ -11,13 +11,13 @@ returns-clause-event g c =
     match_map _ _ _ _ c.event_of_bytes.result
     (λ m. (
       passes_one g.E.Engine c.args.app.now c.settle.new.self (at c.args.table.now) c.args.place c.args.id.0 c.args.part c.bit_of.result c.requires.live
-          (sym c.may_be_due.ensures ∙ found) c.bit_of.ensures c.settle.ensures.marks c.settle.ensures.stays c.settle.ensures.meaning c.settle.ensures.steady
+          (sym c.may_be_due.ensures ∙ found) c.bit_of.ensures c.settle.ensures.marks c.settle.ensures.stays c.settle.ensures.same.meaning c.settle.ensures.same.steady
           (take c.put_part-count.result c.put_part-count.new.bytes) c.put_part-count.ensures.front m.0,
       m.1,
       m.2,
     ))
     (λ count m. gives_one g.E.Engine c.args.app.now c.settle.new.self (at c.args.table.now) c.args.place c.args.id.0 c.args.part c.bit_of.result c.requires.live
-    (sym c.may_be_due.ensures ∙ found) c.bit_of.ensures c.settle.ensures.marks c.settle.ensures.stays c.settle.ensures.meaning c.settle.ensures.steady
+    (sym c.may_be_due.ensures ∙ found) c.bit_of.ensures c.settle.ensures.marks c.settle.ensures.stays c.settle.ensures.same.meaning c.settle.ensures.same.steady
     (take c.put_part-count.result c.put_part-count.new.bytes) c.put_part-count.ensures.front (at c.event_of_bytes.new.table) count c.args.into.now c.event_of_bytes.new.into m.0 m.1 m.2)
     c.event_of_bytes.ensures.event
 

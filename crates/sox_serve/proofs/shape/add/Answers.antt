@@ -18,13 +18,13 @@ returns-in-Ok-clause-served g c =
     let done = subst (λ (t : ℤ). components_of g.E.Engine c.add.new.self.tree ≡ after t) (to_z-of_z w64 c.args.ticks c.ranges.ticks) c.in-Ok.ensures.done in
     serves_added g.E.Engine c.args.app.now c.add.new.self c.args.parent.0 c.args.kit c.args.kind c.args.name.now c.args.config.now c.args.number c.args.turns c.args.ticks
     c.in-Ok.id.0 c.reply_added.new.into c.in-Ok.ensures.id c.in-Ok.ensures.allowed done c.in-Ok.ensures.links c.reply_added.ensures
-    c.in-Ok.ensures.meaning c.in-Ok.ensures.steady c.in-Ok.ensures.marks.tells
+    c.in-Ok.ensures.same.meaning c.in-Ok.ensures.same.steady c.in-Ok.ensures.marks.tells
 
 pub returns-in-Err-clause-served : goal.returns-in-Err-clause-served
 returns-in-Err-clause-served g c =
     serves_refused g.E.Engine c.args.app.now c.add.new.self c.args.parent.0 c.args.kit c.args.kind c.args.name.now c.args.config.now c.args.number c.args.turns c.args.ticks
     c.in-Err.refusal c.reply_refused.new.into c.in-Err.ensures.refused (λ same. c.in-Err.ensures.memory (ap Err same))
-    c.in-Err.ensures.stays c.in-Err.ensures.links c.reply_refused.ensures c.in-Err.ensures.meaning c.in-Err.ensures.steady
+    c.in-Err.ensures.stays c.in-Err.ensures.links c.reply_refused.ensures c.in-Err.ensures.same.meaning c.in-Err.ensures.same.steady
     c.in-Err.ensures.marks.tells
 
 pub returns-in-Ok-clause-marks : goal.returns-in-Ok-clause-marks

@@ -32,7 +32,7 @@ pub returns-clause-done : goal.returns-clause-done
 returns-clause-done g c =
     let same : to_z w64 (of_z w64 c.args.ticks) ≡ c.args.ticks = to_z-of_z w64 c.args.ticks c.ranges.ticks in
     add_done (g.E.Engine.meaning c.args.self.now.engine) (components_of g.E.Engine c.args.self.now) c.args.parent.0 c.args.kit c.args.number c.args.name.now c.args.config.now c.in-Ok.new.kind.0 c.in-Ok.new.name c.in-Ok.ensures (g.E.Engine.meaning c.grow.new.self.engine) (components_of g.E.Engine c.grow.new.self) _ c.in-Ok-grow.id.0 c.args.turns c.args.ticks
-    c.grow.ensures.meaning c.in-Ok-grow.ensures.id c.in-Ok-grow.ensures.done
+    c.grow.ensures.same.meaning c.in-Ok-grow.ensures.id c.in-Ok-grow.ensures.done
     (c.callback-end.ensures.left ∙ ap (λ (k : ℤ). (Call (g.E.Engine.meaning c.grow.new.self.engine) (components_of g.E.Engine c.grow.new.self) c.in-Ok-grow.id.0 Start 0 c.args.turns k).left) same)
 
 pub returns-clause-marks : goal.returns-clause-marks

@@ -11,6 +11,6 @@ returns-clause-marks g c =
     let a = components_of g.E.Engine c.args.self.now in
     keeps_marked g.E.Engine c.args.self.now c.store-changed.new.self c.mark.new.self c.args.id.0 value_parts c.store-changed.ensures.marks
     (λ q place. c.mark.ensures.marks q place ∙ ap (λ parts. with_parts (only c.args.id.0 parts q) (marks_at c.store-changed.new.self q place)) c.of_values.ensures)
-    c.mark.ensures.stays (c.mark.ensures.meaning ∙ c.store-changed.ensures.meaning)
+    c.mark.ensures.stays (c.mark.ensures.same.meaning ∙ c.store-changed.ensures.same.meaning)
     (store m a c.args.id.0 c.args.slot c.args.value.now) c.store-changed.ensures.stored
     (part_change m a.by_id c.args.id.0 (with_value m c.args.slot c.args.value.now) value_parts (λ part k out. values_alone m k (with_value m c.args.slot c.args.value.now k) refl part out))

@@ -66,7 +66,7 @@ returns-clause-gone g c =
     let left_is = c.children_without-left.ensures ∙ ap (λ (xs : List ℕ). filter (λ child. not (child == c.args.id.0)) xs) c.as_slice.ensures.same in
     cut_is g.E.Engine h c.self.invariant c.args.id.0 c.in-Some.parent.0 there (sym c.in-Some.ensures) c.in-Some-get.above.now (sym c.in-Some-get.ensures) c.args.ids.now are c.children_without-left.result left_is
     c.reorder_node.new.nodes c.reorder_node.ensures c.remove_each.new.nodes c.remove_each.new.engine c.remove_each.ensures.nodes c.remove_each.ensures.placed
-    c.remove_each.ensures.by_id c.remove_each.ensures.statics c.remove_each.ensures.limit
+    c.remove_each.ensures.by_id c.remove_each.ensures.statics c.remove_each.ensures.same.limit
     ∙ ap (λ (x : Held _). with_components (components_of g.E.Engine x) (removed (components_of g.E.Engine x).by_id c.args.id.0)) c.self.view_is
 
 pub returns-clause-marks : goal.returns-clause-marks
@@ -79,10 +79,10 @@ returns-clause-marks g c =
     let is =
     cut_is g.E.Engine h c.self.invariant c.args.id.0 c.in-Some.parent.0 there (sym c.in-Some.ensures) c.in-Some-get.above.now (sym c.in-Some-get.ensures) c.args.ids.now are c.children_without-left.result left_is
     c.reorder_node.new.nodes c.reorder_node.ensures c.remove_each.new.nodes c.remove_each.new.engine c.remove_each.ensures.nodes c.remove_each.ensures.placed
-    c.remove_each.ensures.by_id c.remove_each.ensures.statics c.remove_each.ensures.limit
+    c.remove_each.ensures.by_id c.remove_each.ensures.statics c.remove_each.ensures.same.limit
     in
     let left : Held _ = record { engine = c.remove_each.new.engine; nodes = c.remove_each.new.nodes } in
     subst (λ (x : Held _). KeepsMarks g.E.Engine (tree_above (components_of g.E.Engine x).by_id c.args.id.0) x left) c.self.view_is
-    (keeps_cut g.E.Engine h left c.remove_each.ensures.meaning c.args.id.0 c.in-Some.parent.0 (parent_is (g.E.Engine.live i.engine) i.nodes c.args.id.0 ∙ sym c.in-Some.ensures) c.in-Some-get.above.now (sym c.in-Some-get.ensures)
+    (keeps_cut g.E.Engine h left c.remove_each.ensures.same.meaning c.args.id.0 c.in-Some.parent.0 (parent_is (g.E.Engine.live i.engine) i.nodes c.args.id.0 ∙ sym c.in-Some.ensures) c.in-Some-get.above.now (sym c.in-Some-get.ensures)
     c.children_without-left.result c.reorder_node.new.nodes c.reorder_node.ensures c.args.ids.now c.remove_each.ensures.nodes
     (c.requires.all ∙ sym (ap (λ (x : Held _). subtree (by_id_of (g.E.Engine.live x.engine) x.nodes) c.args.id.0) c.self.view_is)) (ap (λ (a : Components). a.by_id) is))

@@ -10,11 +10,12 @@ use Rattle.comp_tree.proofs.DeleteLemmas.{call_live, calls, calls_are, calls_ste
 use Rattle.comp_tree.specs.Marks.{values_at, values_of_all}
 use Rattle.comp_tree.proofs.MarkDelete.{values_of_next}
 use Rattle.comp_tree.proofs.MarkCalls.{keeps_same, keeps_then}
+use Rattle.comp_tree.proofs.SameCodes.{same_still, same_yet}
 use Rattle.comp_tree.proofs.SubtreeLemmas.{one_of}
 use Rattle.comp_tree.proofs.tree.Tree.stop_each.Goals as goal
 
 pub loop-id-init : goal.loop-id-init
-loop-id-init g c = record { left = refl; live = λ q. refl; marks = keeps_same g.E.Engine (values_of_all c.args.ids.now) c.args.self.now c.args.self.now refl; meaning = refl; steady = refl }
+loop-id-init g c = record { left = refl; live = λ q. refl; marks = keeps_same g.E.Engine (values_of_all c.args.ids.now) c.args.self.now c.args.self.now refl; same = same_yet }
 
 pub callback-end-requires-clause-live : goal.callback-end-requires-clause-live
 callback-end-requires-clause-live g c =
@@ -31,7 +32,7 @@ loop-id-preserved g c =
     let k = c.loop-id.id-index in
     let x = get_or ids k 0 in
     let a = components_of g.E.Engine c.loop-id.self in
-    let left = c.callback-end.ensures.left ∙ ap (λ n. (Call n a x Stop 0 c.args.turns t).left) c.loop-id.invariant.meaning in
+    let left = c.callback-end.ensures.left ∙ ap (λ n. (Call n a x Stop 0 c.args.turns t).left) c.loop-id.invariant.same.meaning in
     record {
       left = calls_step m Stop c.args.turns t a (components_of g.E.Engine c.callback-end.new.self) (calls m Stop c.args.turns t (components_of g.E.Engine c.args.self.now) ids) ids k x c.loop-id-test.true
           (sym (get_or_default_zero ids k x c.loop-id-test.true)) left c.loop-id.invariant.left;
@@ -39,8 +40,7 @@ loop-id-preserved g c =
       marks = keeps_then g.E.Engine (values_of_all ids) (values_at x) (values_of_all ids) c.args.self.now c.loop-id.self c.callback-end.new.self c.loop-id.invariant.marks c.callback-end.ensures.marks
           (λ q live. sym (call_live m Stop c.args.turns t a x q) ∙ ap (λ (b : Components). is_live b.by_id q) (sym left) ∙ live)
           (λ q part live either. values_of_next ids k x c.loop-id-test.true (sym (get_or_default_zero ids k x c.loop-id-test.true)) q part either);
-      meaning = c.callback-end.ensures.meaning ∙ c.loop-id.invariant.meaning;
-      steady = c.callback-end.ensures.steady ∙ c.loop-id.invariant.steady;
+      same = same_still c.loop-id.invariant.same c.callback-end.ensures.same;
     }
 
 pub returns-clause-left : goal.returns-clause-left

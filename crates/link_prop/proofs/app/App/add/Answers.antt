@@ -18,12 +18,12 @@ invariant_of-self g c =
     (least_free (components_of g.E.Engine c.self.inside.tree).by_id) c.add-added.result c.add-added.ensures.id c.add-added.ensures.fresh c.add-added.ensures.done c.add-added.ensures.stays
     (λ free is. linked_after_add (g.E.Engine.meaning c.self.inside.tree.engine) (g.E.Engine.meaning c.add-added.new.self.engine)
     (components_of g.E.Engine c.self.inside.tree) (components_of g.E.Engine c.add-added.new.self) c.self.inside.links
-    c.self.invariant c.add-added.ensures.meaning
+    c.self.invariant c.add-added.ensures.same.meaning
     c.args.parent.0 (class_or_none (g.E.Engine.meaning c.self.inside.tree.engine) c.args.kit c.args.number)
     c.args.name.now c.args.config.now c.args.turns _ free is)
     (λ is. linked_same (g.E.Engine.meaning c.self.inside.tree.engine) (g.E.Engine.meaning c.add-added.new.self.engine)
     (components_of g.E.Engine c.self.inside.tree) (components_of g.E.Engine c.add-added.new.self) c.self.inside.links
-    c.self.invariant c.add-added.ensures.meaning is)
+    c.self.invariant c.add-added.ensures.same.meaning is)
 
 pub returns-clause-refused : goal.returns-clause-refused
 returns-clause-refused g c =

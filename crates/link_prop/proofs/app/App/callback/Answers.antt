@@ -8,7 +8,7 @@ pub invariant_of-self : goal.invariant_of-self
 invariant_of-self g c =
     linked_after_callback (g.E.Engine.meaning c.self.inside.tree.engine) (g.E.Engine.meaning c.callback.new.self.engine)
     (components_of g.E.Engine c.self.inside.tree) (components_of g.E.Engine c.callback.new.self) c.self.inside.links
-    c.self.invariant c.callback.ensures.meaning
+    c.self.invariant c.callback.ensures.same.meaning
     c.args.id.0 c.args.c c.args.slot c.args.turns _ c.callback.ensures.left
 
 pub returns-clause-marks : goal.returns-clause-marks

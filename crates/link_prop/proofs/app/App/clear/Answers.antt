@@ -10,11 +10,11 @@ invariant_of-self g c =
     after_result c.clear.result c.clear.ensures.done c.clear.ensures.stays
     (λ is. linked_after_clear (g.E.Engine.meaning c.self.inside.tree.engine) (g.E.Engine.meaning c.clear.new.self.engine)
     (components_of g.E.Engine c.self.inside.tree) (components_of g.E.Engine c.clear.new.self) c.self.inside.links
-    c.self.invariant c.clear.ensures.meaning
+    c.self.invariant c.clear.ensures.same.meaning
     c.args.id.0 is)
     (λ is. linked_same (g.E.Engine.meaning c.self.inside.tree.engine) (g.E.Engine.meaning c.clear.new.self.engine)
     (components_of g.E.Engine c.self.inside.tree) (components_of g.E.Engine c.clear.new.self) c.self.inside.links
-    c.self.invariant c.clear.ensures.meaning
+    c.self.invariant c.clear.ensures.same.meaning
     (ap (components_of g.E.Engine) is))
 
 pub returns-clause-marks : goal.returns-clause-marks

@@ -26,7 +26,7 @@ invariant_of-self g c =
     let m = g.E.Engine.meaning c.self.inside.tree.engine in
     let start = components_of g.E.Engine c.self.inside.tree in
     linked_if m (g.E.Engine.meaning c.copy_all.new.tree.engine) start (components_of g.E.Engine c.copy_all.new.tree) c.self.inside.links
-    c.self.invariant c.copy_all.ensures.meaning _ (sym (ap (λ (s : Counted). s.left) (c.copy_all.ensures.copied 0)))
+    c.self.invariant c.copy_all.ensures.same.meaning _ (sym (ap (λ (s : Counted). s.left) (c.copy_all.ensures.copied 0)))
     (alike_copies m c.args.turns (to_z w64 (of_z w64 c.args.ticks)) c.into_component.result.now (record { left = start; traps = 0 }))
 
 pub returns-clause-few : goal.returns-clause-few

@@ -19,7 +19,7 @@ invariant_of-self g c =
     linked_after_delete m a c.args.id.0 c.args.turns _ links (c.links_taken_out_are_gone.ensures.at ids links)
     (λ q. c.links_taken_out_are_gone.ensures.fewer_at ids links q) c.self.invariant
     (g.E.Engine.meaning c.delete.new.self.engine) (components_of g.E.Engine c.delete.new.self) c.remove_at.new.self
-    c.delete.ensures.meaning c.in-Ok.ensures.done
+    c.delete.ensures.same.meaning c.in-Ok.ensures.done
     (c.remove_at.ensures ids (subst (AreMarked c.marks_of-leaving.result) (c.as_slice.ensures.value ∙ c.subtree-gone.ensures.ids) c.marks_of-leaving.ensures))
 
 pub returns-in-Ok-clause-marks : goal.returns-in-Ok-clause-marks

@@ -10,11 +10,11 @@ invariant_of-self g c =
     after_result c.invoke.result c.invoke.ensures.done c.invoke.ensures.stays
     (λ is. linked_after_invoke (g.E.Engine.meaning c.self.inside.tree.engine) (g.E.Engine.meaning c.invoke.new.self.engine)
     (components_of g.E.Engine c.self.inside.tree) (components_of g.E.Engine c.invoke.new.self) c.self.inside.links
-    c.self.invariant c.invoke.ensures.meaning
+    c.self.invariant c.invoke.ensures.same.meaning
     c.args.id.0 (record { 0 = c.args.slot }) c.args.arg.now c.args.turns _ is)
     (λ is. linked_same (g.E.Engine.meaning c.self.inside.tree.engine) (g.E.Engine.meaning c.invoke.new.self.engine)
     (components_of g.E.Engine c.self.inside.tree) (components_of g.E.Engine c.invoke.new.self) c.self.inside.links
-    c.self.invariant c.invoke.ensures.meaning
+    c.self.invariant c.invoke.ensures.same.meaning
     (ap (components_of g.E.Engine) is))
 
 pub returns-clause-marks : goal.returns-clause-marks

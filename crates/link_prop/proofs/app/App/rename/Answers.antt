@@ -10,11 +10,11 @@ invariant_of-self g c =
     after_result c.rename.result c.rename.ensures.done c.rename.ensures.stays
     (λ is. linked_after_rename (g.E.Engine.meaning c.self.inside.tree.engine) (g.E.Engine.meaning c.rename.new.self.engine)
     (components_of g.E.Engine c.self.inside.tree) (components_of g.E.Engine c.rename.new.self) c.self.inside.links
-    c.self.invariant c.rename.ensures.meaning
+    c.self.invariant c.rename.ensures.same.meaning
     c.args.id.0 c.args.name.now is)
     (λ is. linked_same (g.E.Engine.meaning c.self.inside.tree.engine) (g.E.Engine.meaning c.rename.new.self.engine)
     (components_of g.E.Engine c.self.inside.tree) (components_of g.E.Engine c.rename.new.self) c.self.inside.links
-    c.self.invariant c.rename.ensures.meaning
+    c.self.invariant c.rename.ensures.same.meaning
     (ap (components_of g.E.Engine) is))
 
 pub returns-clause-marks : goal.returns-clause-marks

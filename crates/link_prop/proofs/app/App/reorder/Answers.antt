@@ -10,11 +10,11 @@ invariant_of-self g c =
     after_result c.reorder.result c.reorder.ensures.done c.reorder.ensures.stays
     (λ is. linked_after_reorder (g.E.Engine.meaning c.self.inside.tree.engine) (g.E.Engine.meaning c.reorder.new.self.engine)
     (components_of g.E.Engine c.self.inside.tree) (components_of g.E.Engine c.reorder.new.self) c.self.inside.links
-    c.self.invariant c.reorder.ensures.meaning
+    c.self.invariant c.reorder.ensures.same.meaning
     c.args.id.0 c.args.children.now is)
     (λ is. linked_same (g.E.Engine.meaning c.self.inside.tree.engine) (g.E.Engine.meaning c.reorder.new.self.engine)
     (components_of g.E.Engine c.self.inside.tree) (components_of g.E.Engine c.reorder.new.self) c.self.inside.links
-    c.self.invariant c.reorder.ensures.meaning
+    c.self.invariant c.reorder.ensures.same.meaning
     (ap (components_of g.E.Engine) is))
 
 pub returns-clause-marks : goal.returns-clause-marks

@@ -10,11 +10,11 @@ invariant_of-self g c =
     after_result c.write.result c.write.ensures.done c.write.ensures.stays
     (λ is. linked_after_write (g.E.Engine.meaning c.self.inside.tree.engine) (g.E.Engine.meaning c.write.new.self.engine)
     (components_of g.E.Engine c.self.inside.tree) (components_of g.E.Engine c.write.new.self) c.self.inside.links
-    c.self.invariant c.write.ensures.meaning
+    c.self.invariant c.write.ensures.same.meaning
     c.args.id.0 c.args.slot c.args.value.now c.args.turns _ is)
     (λ is. linked_same (g.E.Engine.meaning c.self.inside.tree.engine) (g.E.Engine.meaning c.write.new.self.engine)
     (components_of g.E.Engine c.self.inside.tree) (components_of g.E.Engine c.write.new.self) c.self.inside.links
-    c.self.invariant c.write.ensures.meaning
+    c.self.invariant c.write.ensures.same.meaning
     (ap (components_of g.E.Engine) is))
 
 pub returns-clause-marks : goal.returns-clause-marks

@@ -27,7 +27,7 @@ pub visit_all-requires-clause-is_kept : goal.visit_all-requires-clause-is_kept
 visit_all-requires-clause-is_kept g c =
     let kept = c.requires.stands.1.is_kept in
     let m = code_of g.E.Engine c.args.self.now in
-    kept_by g.E.Engine c.args.self.now _ kept c.cycle-end.ensures.meaning
+    kept_by g.E.Engine c.args.self.now _ kept c.cycle-end.ensures.same.meaning
     (subst (λ (x : Cycled). Whole m x.application) (sym c.cycle-end.ensures.cycled)
     (c.a_cycle_keeps_whole.ensures.cycle m (application_of g.E.Engine c.args.self.now.app) c.args.self.now.turns _
     kept.code kept.whole))
@@ -52,7 +52,7 @@ returns g c = record {
       (to_z-of_z w64 c.moment-moment.result fits ∙ c.moment-moment.ensures now.sessions sessions) in
       let after : Node = record now { application = (cycle_of m s now).application } in
       let told = subst (λ (x : Meaning). IsTold g.E.Engine c.visit_all.new.self (at_places x after) c.visit_all.new.out)
-      c.cycle-end.ensures.meaning
+      c.cycle-end.ensures.same.meaning
       (c.visit_all.ensures.told after (record {
         application = ap (λ (x : Cycled). x.application) cycled;
         sessions = sessions;
@@ -68,10 +68,10 @@ returns g c = record {
           windows = c.few_messages_are_sent.ensures.run m s n (passes c.args.ticks ∷ []) stands.windows;
         };
         same = record {
-          code = same.code ∙ c.cycle-end.ensures.meaning;
+          code = same.code ∙ c.cycle-end.ensures.same.meaning;
           setup = same.setup;
           fixed = same.fixed
-              ∙ c.cycle-end.ensures.steady;
+              ∙ c.cycle-end.ensures.same.steady;
         };
         sends = told.sends;
         few = at_most 496 _ _ told.sends (c.few_messages_are_sent.ensures.tick m s n c.args.ticks stands.windows);

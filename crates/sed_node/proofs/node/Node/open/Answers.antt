@@ -52,12 +52,12 @@ begun g c =
         subscribed = fun_ext (λ p. fun_ext (λ i. fun_ext (λ part. c.in_ok-subs.ensures.none p i part)));
       };
       is_kept = record {
-        code = subst IsWhole (sym c.begin.ensures.meaning) whole;
+        code = subst IsWhole (sym c.begin.ensures.same.meaning) whole;
         whole = subst (λ (x : Meaning). Whole x (application_of g.E.Engine c.begin.new.app))
-            (sym c.begin.ensures.meaning) begun;
+            (sym c.begin.ensures.same.meaning) begun;
         agree = c.subscribing_keeps_agreement.ensures.nothing _ _ c.in_ok-subs.ensures.none;
         room = λ part. subst (λ (x : Meaning). longest x.schema part ≤ room_for c.in_ok-subs.subs part)
-            (sym c.begin.ensures.meaning)
+            (sym c.begin.ensures.same.meaning)
             (subst (λ (n : ℕ). longest m.schema part ≤ n)
             (sym (c.in_ok-subs.ensures.room part ∙ ap (λ (s : Schema). longest s part) same)) (omega arith));
         turns = c.requires.turns;
