@@ -1,5 +1,5 @@
 //! The tree.
-ghost use Rattle.std.specs.Prelude.{◌≡◌, ◌<◌, ◌≤◌, ℕ, IsTrue, IsSome, IsSomeAnd, IfOk, IfSome, OnOk, OnErr};
+ghost use Rattle.std.specs.Prelude.{◌≡◌, ◌↔◌, ◌<◌, ◌≤◌, ℕ, IsTrue, IsSome, IsSomeAnd, IfOk, IfSome, OnOk, OnErr};
 ghost use Rattle.std.specs.Prelude.{MatchOption, MatchResult, Some, None, Ok, Err, length, slice_get, codes, []};
 ghost use Rattle.std.specs.FinMap as map;
 ghost use Rattle.std.specs.Option.{option_map};
@@ -59,7 +59,7 @@ impl<E: Engine> Tree<E> {
     ghost use Rattle.comp_tree.specs.Held.{components_of};
 
     /// The App alone, named `app`, over an engine without live places. Room for 4,096 components
-    /// and their children is taken here.
+    /// and their children is taken here, once the engine has taken the App.
     ///
     /// `DataFull` comes exactly where the App's data passes the engine's limit.
     pub fn new(alloc: Global, engine: E) -> Result<Tree<E>, AddRefusal>
@@ -68,19 +68,19 @@ impl<E: Engine> Tree<E> {
             ≡ first_components (E.meaning engine) (E.statics engine) (E.limit engine)) }
         ensures same { IfOk result (λ t. SameCode E.Engine engine t.engine) }
         ensures marks { IfOk result (λ t. (id at : ℕ) → marks_at t id at ≡ all_parts) }
-        ensures full { result ≡ Err AddRefusal.DataFull
-            → E.limit engine < (E.meaning engine).data_size (app_class (E.meaning engine)) }
+        ensures full { (result ≡ Err AddRefusal.DataFull)
+            ↔ (E.limit engine < (E.meaning engine).data_size (app_class (E.meaning engine))) }
         ensures fits { OnOk result ((E.meaning engine).data_size (app_class (E.meaning engine)) ≤ E.limit engine) }
     {
-        let mut nodes = match Nodes::new(alloc) {
-            Ok(nodes) => nodes,
-            Err(_) => return Err(AddRefusal::Memory),
-        };
         let kind = app_type(engine.schema());
         let mut engine = engine;
         let place = match engine.add(kind) {
             Ok(place) => place,
             Err(refusal) => return Err(refusal),
+        };
+        let mut nodes = match Nodes::new(alloc) {
+            Ok(nodes) => nodes,
+            Err(_) => return Err(AddRefusal::Memory),
         };
         nodes.insert(Id(0), app_node(kind, place));
         Ok(Tree { engine, nodes })
