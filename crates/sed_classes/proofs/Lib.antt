@@ -1,4 +1,6 @@
 pub mod Lists
 pub mod Places
+pub mod FirstPlaces
+pub mod Groups
 pub mod Climbs
 mod SysExamples

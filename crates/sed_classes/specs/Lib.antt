@@ -19,3 +19,4 @@ pub mod Faults
 pub mod Schema
 pub mod Entries
 pub mod FoundMembers
+pub mod Indexed

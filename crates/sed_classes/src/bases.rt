@@ -1,13 +1,17 @@
 //! The bases of classes.
-ghost use Rattle.std.specs.Prelude.{◌≡◌, ◌==◌, length, map, slice_get, unwrap_or, IfOk, None};
+ghost use Rattle.std.specs.Prelude.{◌≡◌, ◌==◌, ℕ, if◌then◌else◌, true, not, length, map, slice_get, unwrap_or};
+ghost use Rattle.std.specs.Prelude.{IfOk, OnOk, None};
+ghost use Rattle.std.specs.BTreeSet.{contains};
+ghost use Rattle.std.specs.Ordering.{nat_cmp};
 ghost use Rattle.std.specs.List.{list_any, range_with_len};
 ghost use Rattle.sed_classes.specs.Declarations as declared;
 ghost use Rattle.sed_classes.specs.Bases as bases;
 
 use crate::table::{Classes, is_buffer_name, is_text_name};
 use sed_units::TypeName;
-use sed_value::{Memory, is_among};
+use sed_value::Memory;
 use std::alloc::Global;
+use std::collections::BTreeSet;
 use std::marker::Model;
 
 // The place of `Obj`, the base of a class without `extends`.
@@ -106,14 +110,17 @@ impl<'a> Based<'a> {
         ensures { IfOk result (λ v. v.items ≡ bases.lineage self.now class) }
     {
         let mut far = Vec::new(alloc);
+        let mut seen = BTreeSet::new(alloc);
         far.push(class)?;
+        note(&mut seen, class)?;
         let mut next = self.base_of(class);
         let mut left = self.classes.len();
         'climb: while left > 0 {
             let Some(at) = next else {
                 return Ok(far);
             };
-            if is_among(&far, at) {
+            let is_new = note(&mut seen, at)?;
+            if !is_new {
                 return Ok(far);
             }
             far.push(at)?;
@@ -141,6 +148,16 @@ impl<'a> Based<'a> {
         }
         false
     }
+}
+
+// Puts a place among others, and says whether it is new.
+fn note(seen: &mut BTreeSet<usize>, place: usize) -> Result<bool, Memory>
+    ensures new { IfOk result (λ is_new. is_new ≡ not (contains nat_cmp seen.old place)) }
+    ensures put { OnOk result ((q : ℕ) →
+        contains nat_cmp seen.new q ≡ (if place == q then true else contains nat_cmp seen.old q)) }
+{
+    let is_new = seen.insert(place)?;
+    Ok(is_new)
 }
 
 // The base of each class, by its place.

@@ -1,12 +1,12 @@
 //! What a class has of its own and inherits.
-ghost use Rattle.std.specs.Prelude.{◌≡◌, drop, find};
+ghost use Rattle.std.specs.Prelude.{◌≡◌, drop, find, slice_get, take};
 ghost use Rattle.std.specs.Option.{option_copied, option_map};
 ghost use Rattle.std.specs.List.{list_any};
 ghost use Rattle.sed_classes.specs.Members as members;
 ghost use Rattle.sed_classes.specs.FoundMembers.{owned_of};
 
 use crate::members::has_name;
-use crate::table::Classes;
+use crate::table::{Classes, is_before};
 use sed_units::Member;
 
 impl<'a> Classes<'a> {
@@ -34,7 +34,14 @@ impl<'a> Classes<'a> {
     pub fn declares(&self, name: &[u8], class: usize) -> bool
         ensures { result ≡ members.declares self.now name.now class }
     {
-        is_declared(self.members(class), name)
+        self.place_of_member(name, class).is_some()
+    }
+
+    /// Whether a class itself declares a member of a name before its member of this number.
+    pub fn declares_before(&self, name: &[u8], class: usize, number: usize) -> bool
+        ensures { result ≡ list_any (members.has_name name.now) (take number (members.members_of self.now class)) }
+    {
+        is_before(self.place_of_member(name, class), number)
     }
 
     /// Whether one of some classes declares a member of a name.
@@ -54,11 +61,20 @@ pub struct Found<'a> {
 }
 
 impl<'a> Classes<'a> {
+    fn own_member(&self, name: &[u8], class: usize) -> Option<&Member>
+        ensures { option_copied result ≡ find (members.has_name name.now) (members.members_of self.now class) }
+    {
+        match self.place_of_member(name, class) {
+            Some(at) => member_at(self.members(class), at),
+            None => None,
+        }
+    }
+
     /// The first member of a name that a class itself declares.
     pub fn own_named(&self, name: &[u8], class: usize) -> Option<Found<'_>>
         ensures { option_map owned_of result ≡ members.own_named self.now name.now class }
     {
-        match first_named(self.members(class), name) {
+        match self.own_member(name, class) {
             Some(member) => Some(Found {
                 class,
                 kit: self.kit_of(class),
@@ -83,10 +99,10 @@ impl<'a> Classes<'a> {
     }
 }
 
-fn first_named<'a>(all: &'a [Member], name: &[u8]) -> Option<&'a Member>
-    ensures { option_copied result ≡ find (members.has_name name.now) all.now }
+fn member_at(all: &[Member], at: usize) -> Option<&Member>
+    ensures { option_copied result ≡ slice_get all.now at }
 {
-    all.iter().find(|member| has_name(member, name))
+    all.get(at)
 }
 
 /// Whether a member of a name is among these.

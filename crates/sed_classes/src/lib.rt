@@ -5,6 +5,9 @@
 //! inherits follows its bases. Each rule on classes and their members is a definition of its own, which gives the
 //! places at which units break it. The schema of units that break none is a function of them.
 //!
+//! The definitions search lists. The code doesn't: the first class of each name in a kit and the first member of each
+//! name in a class are put into ordered maps when the classes are gathered, and each name is found there.
+//!
 //! Two parties whose kits have the same checksums have the same slots: the canonical text of a kit names its classes
 //! with their bases and the slots that each adds, and the checksum is taken of that text. `canonical_text` and
 //! `checksum` are exactly their definitions.
@@ -13,9 +16,11 @@
 mod bases;
 mod digest;
 mod entry;
+mod index;
 mod inherited;
 mod kit_units;
 mod members;
+mod name_places;
 mod source_type;
 mod sys;
 mod table;

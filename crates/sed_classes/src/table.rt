@@ -1,17 +1,20 @@
 //! All classes of a program, found by their places and by their names.
-ghost use Rattle.std.specs.Prelude.{◌≡◌, ◌==◌, IfOk, position, length, slice_get, take};
-ghost use Rattle.std.specs.Option.{option_copied, option_map};
+ghost use Rattle.std.specs.Prelude.{◌≡◌, ◌==◌, IfOk, false, nat_lt, position, length, slice_get, take};
+ghost use Rattle.std.specs.Option.{option_copied, option_map, option_map_or};
 ghost use Rattle.std.specs.List.{list_any};
 ghost use Rattle.std.specs.Str.{bytes_eq};
 ghost use Rattle.sed_classes.specs.Declarations as declared;
-ghost use Rattle.sed_classes.specs.Entries.{declarations, declaration_of, is_entry_named};
+ghost use Rattle.sed_classes.specs.Entries.{declarations, declaration_of};
+ghost use Rattle.sed_classes.specs.Members as members;
 ghost use Rattle.sed_classes.specs.SysSource.{sys_classes};
 ghost use Rattle.sed_classes.specs.Names as names;
 
 use crate::entry::{Entry, entries};
+use crate::index::{Places, place_in};
 use crate::kit_units::KitUnits;
+use crate::name_places::{class_names, member_names};
 use sed_units::{Class, TypeName};
-use sed_value::{KitName, Memory, front_of};
+use sed_value::{KitName, Memory};
 use std::alloc::Global;
 use std::marker::Model;
 
@@ -20,15 +23,16 @@ use std::marker::Model;
 pub struct Classes<'a> {
     kits: &'a [KitUnits],
     all: Vec<Entry<'a>>,
+    names: Vec<Places<'a>>,
+    members: Vec<Places<'a>>,
 }
 
 impl<'a> Model for Classes<'a> {
-    ghost use Rattle.std.specs.Prelude.{◌≡◌, List};
+    ghost use Rattle.std.specs.Prelude.{List};
     ghost use Rattle.std.specs.Coded.{coded_list};
     ghost use Rattle.sed_classes.specs.declared.kit_units.KitUnits.{KitUnits};
     ghost use Rattle.sed_classes.specs.contracts.kit_units.KitUnits as k;
-    ghost use Rattle.sed_classes.specs.Declarations.{all_classes};
-    ghost use Rattle.sed_classes.specs.Entries.{declarations};
+    ghost use Rattle.sed_classes.specs.Indexed.{IsIndexed};
 
     ghost Value = { List KitUnits };
 
@@ -36,7 +40,7 @@ impl<'a> Model for Classes<'a> {
 
     ghost view = { λ t. t.kits.now };
 
-    ghost invariant = { λ t. declarations t.all.items ≡ all_classes t.kits.now };
+    ghost invariant = { λ t. IsIndexed t.kits.now t.all.items t.names.items t.members.items };
 }
 
 impl<'a> Classes<'a> {
@@ -46,7 +50,14 @@ impl<'a> Classes<'a> {
         ensures { IfOk result (λ t. t ≡ kits.now) }
     {
         let all = entries(alloc, sys, kits)?;
-        Ok(Classes { kits, all })
+        let names = class_names(alloc, &all)?;
+        let members = member_names(alloc, &all)?;
+        Ok(Classes {
+            kits,
+            all,
+            names,
+            members,
+        })
     }
 
     /// How many there are.
@@ -76,7 +87,7 @@ impl<'a> Classes<'a> {
     fn class_in(&self, name: &[u8], kit: usize) -> Option<usize>
         ensures { result ≡ names.class_in self.now name.now kit }
     {
-        place_of(&self.all, name, kit)
+        place_in(&self.names, kit, name)
     }
 
     fn class_in_named(&self, name: &[u8], kit: &[u8]) -> Option<usize>
@@ -138,7 +149,14 @@ impl<'a> Classes<'a> {
     pub fn is_named_before(&self, name: &[u8], kit: usize, class: usize) -> bool
         ensures { result ≡ list_any (names.is_named name.now kit) (take class (declared.all_classes self.now)) }
     {
-        is_named_first(&self.all, class, name, kit)
+        is_before(self.class_in(name, kit), class)
+    }
+
+    /// The place of the first member of a name among those that a class itself declares.
+    pub fn place_of_member(&self, name: &[u8], class: usize) -> Option<usize>
+        ensures { result ≡ position (members.has_name name.now) (members.members_of self.now class) }
+    {
+        place_in(&self.members, class, name)
     }
 
     /// The class that a type name in this kit stands for, by its place.
@@ -161,30 +179,14 @@ fn entry_of<'a, 'b>(all: &'b [Entry<'a>], class: usize) -> Option<&'b Entry<'a>>
     all.get(class)
 }
 
-fn is_entry_among(all: &[Entry<'_>], name: &[u8], kit: usize) -> bool
-    ensures { result ≡ list_any (is_entry_named name.now kit) all.now }
+/// Whether a place is there, and is before this one.
+pub fn is_before(place: Option<usize>, end: usize) -> bool
+    ensures { result ≡ option_map_or (λ at. nat_lt at end) place false }
 {
-    all.iter().any(|entry| entry.kit == kit && entry.class.name.bytes.as_slice() == name)
-}
-
-// Whether one of the first classes is of this kit and has this name.
-fn is_named_first(all: &[Entry<'_>], count: usize, name: &[u8], kit: usize) -> bool
-    ensures { result ≡ list_any (names.is_named name.now kit) (take count (declarations all.now)) }
-{
-    is_entry_among(front_of(all, count), name, kit)
-}
-
-fn entry_place(all: &[Entry<'_>], name: &[u8], kit: usize) -> Option<usize>
-    ensures { result ≡ position (is_entry_named name.now kit) all.now }
-{
-    all.iter().position(|entry| entry.kit == kit && entry.class.name.bytes.as_slice() == name)
-}
-
-// The place of the first class of this name in this kit.
-fn place_of(all: &[Entry<'_>], name: &[u8], kit: usize) -> Option<usize>
-    ensures { result ≡ position (names.is_named name.now kit) (declarations all.now) }
-{
-    entry_place(all, name, kit)
+    match place {
+        Some(at) => at < end,
+        None => false,
+    }
 }
 
 fn kit_place(kits: &[KitUnits], name: &[u8]) -> Option<usize>
