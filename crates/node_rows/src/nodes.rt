@@ -121,12 +121,17 @@ fn store<E: Engine>(case: &mut Case, app: App<E>, plan: &Plan)
 {
     let alloc = case.alloc();
     let Ok(mut disk) = MemDisk::new(alloc, Vec::new(alloc), BYTES, CALLS, Vec::new(alloc)) else {
+        drop(app);
         return case.fail(CaseFault::Memory);
     };
     match make(&mut disk, SLOT, plan.file.as_slice()) {
         Ok(store) => open(case, app, store, &mut disk, plan),
-        Err(_) => case.fail(CaseFault::BadInput),
+        Err(_) => {
+            drop(app);
+            case.fail(CaseFault::BadInput);
+        }
     }
+    drop(disk);
 }
 
 // Opens the node at the first moment of the clock.
@@ -135,9 +140,12 @@ fn open<E: Engine, D: Disk>(case: &mut Case, app: App<E>, store: Store, disk: &m
     requires stores { IsTrue (D.meaning disk.old).tells → AllStores store (D.meaning disk.old) }
 {
     let Ok(users) = Users::read(case.alloc(), USERS) else {
+        drop(app);
         return case.fail(CaseFault::BadInput);
     };
     let Ok(mut clock) = clock_of(case, plan) else {
+        drop(users);
+        drop(app);
         return case.fail(CaseFault::Memory);
     };
     let moment = clock.now();
@@ -158,6 +166,7 @@ fn run<E: Engine, D: Disk>(
     requires stores { IsTrue (D.meaning disk.old).tells → AllStores (setup_of node).slot (D.meaning disk.old) }
 {
     let Ok(mut link) = link_of(case, plan) else {
+        drop(node);
         return case.fail(CaseFault::Memory);
     };
     let mut text = Collected::new(case.alloc());

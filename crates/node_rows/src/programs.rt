@@ -112,7 +112,10 @@ fn act<E: Engine>(case: &mut Case, engine: E, plan: &Plan)
     let added = tree.add(Id(0), 1, 0, plan.name.as_bytes(), &[0; 4], turns, 0);
     let id = match added {
         Ok(id) => id,
-        Err(refusal) => return case.show(&refusal),
+        Err(refusal) => {
+            drop(tree);
+            return case.show(&refusal);
+        }
     };
     let mut moment = 0i64;
     for cycle in 0..plan.cycles {
@@ -123,6 +126,7 @@ fn act<E: Engine>(case: &mut Case, engine: E, plan: &Plan)
         execute(case, &mut tree, id, turns, moment);
     }
     tell_properties(case, &tree, id);
+    drop(tree);
 }
 
 fn execute<E: Engine>(case: &mut Case, tree: &mut Tree<E>, id: Id, turns: u32, moment: i64)

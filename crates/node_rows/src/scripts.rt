@@ -103,6 +103,7 @@ fn act<E: Engine>(case: &mut Case, engine: E, script: &str)
         }
         do_step(case, &mut stage, step);
     }
+    drop(stage);
 }
 
 fn subs_of(case: &mut Case, schema: &Schema, script: &str) -> Option<Subs> {

@@ -95,6 +95,27 @@ fn poll_in(case: &mut Case, text: &str) -> Polling {
     }
 }
 
+// The link of these polls.
+fn link_in(case: &mut Case, plan: &str, polls: &str) -> Option<Watched<MemLink>> {
+    let alloc = case.alloc();
+    let mut to_come = Vec::new(alloc);
+    for poll in polls.split_terminator(';') {
+        let poll = poll_in(case, poll.trim());
+        held(case, to_come.push(poll));
+    }
+    let link = MemLink::new(alloc, to_come, TOLD, planned(case, plan, "l"));
+    Some(Watched::new(alloc, held(case, link)?))
+}
+
+// The disk of a store's file with this content.
+fn disk_in(case: &mut Case, plan: &str, content: &[u8]) -> Option<Watched<MemDisk>> {
+    let alloc = case.alloc();
+    let bytes = planned(case, plan, "b").first().copied().unwrap_or(BYTES);
+    let content = copied(case, content);
+    let disk = MemDisk::new(alloc, content, bytes, CALLS, planned(case, plan, "d"));
+    Some(Watched::new(alloc, held(case, disk)?))
+}
+
 /// What stands for the outside.
 #[derive(Drop)]
 pub struct World {
@@ -117,31 +138,32 @@ impl World {
         content: &[u8],
         polls: &str,
     ) -> Option<World> {
-        let alloc = case.alloc();
-        let mut to_come = Vec::new(alloc);
-        for poll in polls.split_terminator(';') {
-            let poll = poll_in(case, poll.trim());
-            held(case, to_come.push(poll));
-        }
-        let files = MemFiles::new(files_in(case, files), planned(case, plan, "r"));
+        let link = link_in(case, plan, polls)?;
+        let Some(disk) = disk_in(case, plan, content) else {
+            drop(link);
+            return None;
+        };
+        let clock = MemClock::new(case.alloc(), planned(case, plan, "t"), TOLD);
+        let Some(clock) = held(case, clock) else {
+            drop(disk);
+            drop(link);
+            return None;
+        };
         let room = planned(case, plan, "m").first().copied().unwrap_or(ROOM);
-        let bytes = planned(case, plan, "b").first().copied().unwrap_or(BYTES);
-        let link = MemLink::new(alloc, to_come, TOLD, planned(case, plan, "l"));
-        let clock = MemClock::new(alloc, planned(case, plan, "t"), TOLD);
-        let disk = MemDisk::new(
-            alloc,
-            copied(case, content),
-            bytes,
-            CALLS,
-            planned(case, plan, "d"),
-        );
-        let sink = MemSink::new(alloc, room, planned(case, plan, "p"));
+        let sink = MemSink::new(case.alloc(), room, planned(case, plan, "p"));
+        let Some(sink) = held(case, sink) else {
+            drop(clock);
+            drop(disk);
+            drop(link);
+            return None;
+        };
+        let files = MemFiles::new(files_in(case, files), planned(case, plan, "r"));
         Some(World {
             files,
-            link: Watched::new(alloc, held(case, link)?),
-            clock: held(case, clock)?,
-            disk: Watched::new(alloc, held(case, disk)?),
-            sink: held(case, sink)?,
+            link,
+            clock,
+            disk,
+            sink,
         })
     }
 
