@@ -1,11 +1,15 @@
 mod Bytes
 pub mod Moments
+mod Ranges
 mod Newest
 mod Torn
 mod Stages
 mod Whole
+mod SlotWritten
 mod PageSteps
 mod Made
+mod MadeBytes
+mod MadeSyncs
 mod Entries
 mod Found
 mod Opened

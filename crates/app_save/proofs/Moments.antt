@@ -1,7 +1,7 @@
 -- How one call of a disk follows another.
 use Rattle.std.proofs.Common.{◌≡◌, inl, inr, ◌≤◌, ℕ, List, length, IsTrue, refl, sym, ◌∙◌, ap, subst, arith, Result, Ok, Err}
 use Rattle.std.proofs.lemmas.Bool.{cases_lt}
-use Rattle.disk_model.specs.Disk.{Image, Meaning, Elapses, During, MarksUp, SyncsUp, Torn, IsTorn, Holds, Keeps, Writes, Syncs}
+use Rattle.disk_model.specs.Disk.{Image, Meaning, Elapses, During, CountsUp, MarksUp, SyncsUp, Torn, IsTorn, Holds, Keeps, Writes, Syncs}
 use Rattle.app_save.specs.Saving.{SinceSync, SyncsOnce}
 use Rattle.app_save.specs.Stages.{Lands, Settled}
 
@@ -48,24 +48,30 @@ no_time a = record {
 pub no_marks : (a : Meaning) → MarksUp a a 0
 no_marks a told = record { until = λ u from to. absurd (omega (arith, from, to)); at_end = omega arith }
 
+pub no_syncs : (a : Meaning) → SyncsUp a a 0
+no_syncs a told = record { until = λ u from to. absurd (omega (arith, from, to)); at_end = omega arith }
+
 pub now_alone : (a : Meaning) (u : ℕ) (i : Image) → a.now ≤ u → u ≤ a.now → a.leaves u i → a.leaves a.now i
 now_alone a u i from to left = subst (λ (n : ℕ). a.leaves n i) (let e : u ≡ a.now = omega (arith, from, to) in e) left
 
--- marks of a call that makes none, and then of another
-pub then_marks : (a b c : Meaning) (by : ℕ) → Elapses a b → Elapses b c → MarksUp a b 0 → MarksUp b c by → MarksUp a c by
-then_marks a b c by one two first second told = record {
-  until = λ u from to. elim (cases_lt u b.now) [
-    | inl in_first ↦ two.past_marks told_b u (omega (arith, in_first)) ∙ (first told).until u from in_first
-    | inr in_second ↦ (second told_b).until u in_second to ∙ same
+-- a count of a call that adds nothing, and then of another
+then_counts : (a b c : ℕ) (f g h : ℕ → ℕ) (by : ℕ) → ((u : ℕ) → u ≤ b → h u ≡ g u) → CountsUp a b f g 0 → CountsUp b c g h by → CountsUp a c f h by
+then_counts a b c f g h by past first second = record {
+  until = λ u from to. elim (cases_lt u b) [
+    | inl in_first ↦ past u (omega (arith, in_first)) ∙ first.until u from in_first
+    | inr in_second ↦ second.until u in_second to ∙ same
   ];
-  at_end = let end = (second told_b).at_end in omega (arith, end, same);
+  at_end = let end = second.at_end in omega (arith, end, same);
 }
   where
-    told_b : IsTrue b.tells_marks
-    told_b = one.told_marks ∙ told
+    same : g b ≡ f a
+    same = let end = first.at_end in omega (arith, end)
 
-    same : b.marks b.now ≡ a.marks a.now
-    same = let end = (first told).at_end in omega (arith, end)
+pub then_marks : (a b c : Meaning) (by : ℕ) → Elapses a b → Elapses b c → MarksUp a b 0 → MarksUp b c by → MarksUp a c by
+then_marks a b c by one two first second told = then_counts a.now b.now c.now a.marks b.marks c.marks by (two.past_marks (one.told_marks ∙ told)) (first told) (second (one.told_marks ∙ told))
+
+pub then_syncs : (a b c : Meaning) (by : ℕ) → Elapses a b → Elapses b c → SyncsUp a b 0 → SyncsUp b c by → SyncsUp a c by
+then_syncs a b c by one two first second told = then_counts a.now b.now c.now a.syncs b.syncs c.syncs by (two.past_syncs (one.told_syncs ∙ told)) (first told) (second (one.told_syncs ∙ told))
 
 pub torn_self : (at n : ℕ) (d : Image) → Torn at n d d
 torn_self at n d = record { same = λ i out small. refl; no_shorter = omega arith; no_longer = omega arith }
@@ -120,6 +126,38 @@ then_since a b c P told told_syncs one two first second u i from to more left = 
   | inr in_second ↦ second u i in_second to left
 ]
 
+-- where no sync answered Ok nothing is said
+pub since_none : (a b : Meaning) (P : Image → Type 0) → IsTrue a.tells_syncs → SyncsUp a b 0 → SinceSync a b P
+since_none a b P told up u i from to more left = elim (cases_lt u b.now) [
+  | inl before ↦ let count = (up told).until u from before in absurd (omega (arith, more, count))
+  | inr ended ↦
+      let e : u ≡ b.now = omega (arith, to, ended) in
+      let here : b.syncs u ≡ b.syncs b.now = ap b.syncs e in
+      let end = (up told).at_end in absurd (omega (arith, more, here, end))
+]
+
+-- where no call was made neither
+pub since_self : (a : Meaning) (P : Image → Type 0) → SinceSync a a P
+since_self a P u i from to more left = let e : u ≡ a.now = omega (arith, from, to) in let here : a.syncs u ≡ a.syncs a.now = ap a.syncs e in absurd (omega (arith, more, here))
+
+-- one sync that answered Ok
+pub since_sync : (a b : Meaning) (P : Image → Type 0) → IsTrue a.tells_syncs → SyncsUp a b 1 → ((i : Image) → b.leaves b.now i → P i) → SinceSync a b P
+since_sync a b P told up now u i from to more left = elim (cases_lt u b.now) [
+  | inl before ↦ let count = (up told).until u from before in absurd (omega (arith, more, count))
+  | inr ended ↦ let e : u ≡ b.now = omega (arith, to, ended) in now i (subst (λ (n : ℕ). b.leaves n i) e left)
+]
+
+-- a first call that makes none
+pub since_later : (a b c : Meaning) (P : Image → Type 0) → IsTrue a.tells_syncs → Elapses a b → Elapses b c → SyncsUp a b 0 → SinceSync b c P → SinceSync a c P
+since_later a b c P told one two up since u i from to more left =
+    let end = (up told).at_end in
+    elim (cases_lt u b.now) [
+      | inl before ↦
+          let same = two.past_syncs (one.told_syncs ∙ told) u (omega (arith, before)) in
+          let count = (up told).until u from before in absurd (omega (arith, more, same, count))
+      | inr behind ↦ since u i behind to (omega (arith, more, end)) left
+    ]
+
 -- a last call that keeps everything and makes no sync
 pub since_kept : (a b c : Meaning) (P : Image → Type 0) → IsTrue a.tells → IsTrue a.tells_syncs → Elapses a b → Elapses b c → SinceSync a b P → Keeps b c → SyncsUp b c 0 → SinceSync a c P
 since_kept a b c P told told_syncs one two first keeps syncs u i from to more left = elim (cases_lt u b.now) [
@@ -150,10 +188,7 @@ then_synced a b c one once none told =
 pub settled_sync : {T E : Type 0} (x : T) (a b : Meaning) → Syncs {E = E} (Ok x) a b → SyncsUp a b 1 → Settled {E = E} (Ok x) a b
 settled_sync x a b syncs up = record {
   during = syncs.during;
-  since = λ told u i from to more left. elim (cases_lt u b.now) [
-    | inl before ↦ let count = (up told).until u from before in absurd (omega (arith, more, count))
-    | inr ended ↦ let e : u ≡ b.now = omega (arith, to, ended) in syncs.durable i (subst (λ (n : ℕ). b.leaves n i) e left)
-  ];
+  since = λ told. since_sync a b (λ i. i ≡ a.content) told up syncs.durable;
   kept = syncs.kept;
   rests = λ i left. syncs.durable i left ∙ sym syncs.kept;
 }

@@ -2,12 +2,13 @@
 use Rattle.std.proofs.Common.{◌≡◌, ◌≢◌, ◌⊎◌, inl, inr, ◌+◌, ◌*◌, ◌-◌, ◌/◌, ◌<◌, ◌≤◌, min, ℕ, IsTrue, List, length, take, drop, get_or, get_or-take, get_or-drop, refl, sym, ◌∙◌, ap, subst, arith, length-drop, Result}
 use Rattle.std.proofs.lemmas.Bool.{cases_lt, cases_eq}
 use Rattle.std.proofs.lemmas.List.{length-take-le}
-use Rattle.disk_model.specs.Disk.{Image, Meaning, Elapses, During, Torn, Holds, Writes}
+use Rattle.disk_model.specs.Disk.{Image, Meaning, Elapses, During, Torn, IsTorn, Holds, Writes}
 use Rattle.app_save.specs.Store.{AreSlots}
 use Rattle.app_save.specs.Saving.{HasPage}
 use Rattle.app_save.specs.Stages.{Closed, IsClosed}
 use Rattle.app_save.proofs.Moments.{then_during, at_end, now_alone}
 use Rattle.app_save.proofs.Torn.{behind_gate}
+use Rattle.app_save.proofs.Ranges.{then_range, during_wider}
 
 -- after q pages
 pub record SoFar (S slot other : ℕ) (payload : List ℕ) (q : ℕ) (start now : Meaning) : Type 0 where
@@ -120,3 +121,9 @@ page_below q len below = omega (arith, below)
 
 pub all_pages : (len q i : ℕ) → (len + 511) / 512 ≤ q → i < len → i < 512 * q
 all_pages len q i le small = omega (arith, le, small)
+
+-- a page is in the range of the payload
+pub page_touches : (other : ℕ) (payload : List ℕ) (q : ℕ) (page : List ℕ) → 512 * q < length payload → length page ≡ min 512 (length payload - 512 * q) → (a m n : Meaning) → IsTrue a.tells → Elapses a m → Elapses m n → During a m (IsTorn (other + 6) (length payload) a) → During m n (IsTorn (other + 6 + 512 * q) (length page) m)
+    → During a n (IsTorn (other + 6) (length payload) a)
+page_touches other payload q page below size a m n told one two first second = then_range (other + 6) (length payload) a m n told one two first
+    (during_wider (other + 6 + 512 * q) (length page) (other + 6) (length payload) m n (omega arith) (grind (arith, size, below)) second)

@@ -1,4 +1,5 @@
 pub mod Store
+pub mod Bytes
 pub mod Saving
 pub mod Run
 pub mod Slots

@@ -1,7 +1,9 @@
 -- What a save leaves of a store, moment by moment.
-use Rattle.std.specs.Prelude.{◌≡◌, ◌⊎◌, ◌+◌, ◌*◌, ◌<◌, ◌≤◌, ℕ, IsTrue, List, length, slice_index}
-use Rattle.disk_model.specs.Disk.{Image, Meaning}
-use Rattle.app_save.specs.Store.{IsStore, IsNewest, AreSlots, Opens}
+use Rattle.std.specs.Prelude.{◌≡◌, ◌⊎◌, ◌+◌, ◌*◌, ◌%◌, ◌<◌, ◌≤◌, ℕ, IsTrue, List, length, slice_index}
+use Rattle.disk_model.specs.Disk.{Image, Meaning, Torn}
+use Rattle.disk_model.specs.Written.{written}
+use Rattle.app_save.specs.Bytes.{slot_bytes}
+use Rattle.app_save.specs.Store.{IsStore, IsNewest, AreSlots, Opens, generation_at}
 
 -- Every image that a crash now may leave is a whole store with slots of S bytes.
 abbrev pub AllStores : ℕ → Meaning → Type 0
@@ -10,6 +12,10 @@ AllStores S m = (c : Image) → m.leaves m.now c → IsStore S c
 -- Every image that a crash now may leave opens to this payload.
 abbrev pub AllOpen : ℕ → List ℕ → Meaning → Type 0
 AllOpen S payload m = (c : Image) → m.leaves m.now c → Opens S c payload
+
+-- A crash at this moment leaves this image and no other.
+abbrev pub LeavesOnly : Meaning → ℕ → Image → Type 0
+LeavesOnly m u image = (c : Image) → m.leaves u c → c ≡ image
 
 -- The image opens to what some image at the start opens to, or to the payload of this save.
 pub record OpensAsBegun (S : ℕ) (payload : List ℕ) (start : Meaning) (image : Image) : Type 0 where
@@ -40,3 +46,23 @@ KeepsPages begins payload file image = (q : ℕ) → HasPage begins payload file
 abbrev pub KeepsEqualPages : ℕ → List ℕ → Image → Image → Type 0
 KeepsEqualPages S payload file image = (slot other : ℕ) → AreSlots S slot other
     → IsNewest file slot other → KeepsPages (other + 6) payload file image
+
+-- So it is of the newest slot of this file, and of the other one, which a save writes.
+abbrev pub OfSlots : ℕ → Image → (ℕ → ℕ → Type 0) → Type 0
+OfSlots S file P = (slot other : ℕ) → AreSlots S slot other → IsNewest file slot other → P slot other
+
+-- The image is the file but for the bytes that a save of this payload writes: the gate, the length, the generation and
+-- as many bytes behind them as the payload has, all in the slot that isn't newest.
+abbrev pub TouchesSlot : ℕ → List ℕ → Image → Image → Type 0
+TouchesSlot S payload file image = OfSlots S file (λ slot other. Torn other (6 + length payload) file image)
+
+-- Every crash leaves the file with the payload in the slot that wasn't newest, behind an open gate and in the
+-- generation behind that of the newest one. All other bytes are those of the file.
+abbrev pub WritesSlot : ℕ → List ℕ → Image → Meaning → Type 0
+WritesSlot S payload file m = OfSlots S file (λ slot other. LeavesOnly m m.now
+    (written file other (slot_bytes 0xa5 ((generation_at file slot + 1) % 3) payload)))
+
+-- In every image that a crash leaves the slot that wasn't newest is, and its generation is the one behind.
+abbrev pub Renews : ℕ → Image → Meaning → Type 0
+Renews S file m = OfSlots S file (λ slot other. (c : Image) → m.leaves m.now c
+    → IsNewest c other slot × (generation_at c other ≡ (generation_at file slot + 1) % 3))

@@ -2,11 +2,11 @@
 ghost use Rattle.std.specs.Prelude.{◌≡◌, ◌≢◌, ◌⊎◌, ◌+◌, ◌*◌, ◌<◌, ◌≤◌, ◌↔◌, [], false, length, IsTrue, IsErr, IsErrOf};
 ghost use Rattle.std.specs.Prelude.{IsOk, IfOk, OnOk, OnErr};
 ghost use Rattle.sed_outside.specs.Cause.{Rose, HasCause};
-ghost use Rattle.disk_model.specs.Disk.{Elapses, During, MarksUp, Keeps};
-ghost use Rattle.app_save.specs.Saving.{AllOpen};
+ghost use Rattle.disk_model.specs.Disk.{Elapses, During, MarksUp, SyncsUp, Keeps};
+ghost use Rattle.app_save.specs.Saving.{AllOpen, LeavesOnly, SinceSync};
 ghost use Rattle.app_save.specs.Run.{IsRun};
 ghost use Rattle.app_save.specs.Stages.{IsSaved};
-ghost use Rattle.app_save.specs.Making.{IsBlank, NoneLonger};
+ghost use Rattle.app_save.specs.Making.{IsBlank, NoneLonger, NewOrNone, SyncsThrough, made_store, stages_made};
 
 use crate::refusal::SaveRefusal;
 use crate::save::{behind_gate, write_through};
@@ -23,6 +23,7 @@ fn write_zeros<D: Disk>(disk: &mut D, len: u32) -> Result<(), DiskFault>
         → During (D.meaning disk.old) (D.meaning disk.new) (λ c. length c ≤ len) }
     ensures time { Elapses (D.meaning disk.old) (D.meaning disk.new) }
     ensures marks { MarksUp (D.meaning disk.old) (D.meaning disk.new) 0 }
+    ensures syncs { SyncsUp (D.meaning disk.old) (D.meaning disk.new) 0 }
     ensures attached { (D.meaning disk.new).attached ≡ (D.meaning disk.old).attached }
     ensures cause { HasCause (D.meaning disk.old).faults (D.meaning disk.new).faults (IsErr result) }
 {
@@ -43,6 +44,12 @@ fn write_store<D: Disk>(disk: &mut D, slot: u32, payload: &[u8]) -> Result<(), D
     requires empty { IsTrue (D.meaning disk.old).tells → length (D.meaning disk.old).content ≡ 0 }
     ensures saved { IsTrue (D.meaning disk.old).tells
         → OnOk result (IsSaved slot (slot + 6) 0 payload.now (D.meaning disk.new)) }
+    ensures exact { IsTrue (D.meaning disk.old).tells
+        → OnOk result (LeavesOnly (D.meaning disk.new) (D.meaning disk.new).now (made_store slot payload.now)) }
+    ensures syncs { IsTrue (D.meaning disk.old).tells → IsTrue (D.meaning disk.old).tells_syncs
+        → OnOk result (SyncsThrough (D.meaning disk.new) (D.meaning disk.old).now (stages_made slot payload.now)) }
+    ensures since { IsTrue (D.meaning disk.old).tells → IsTrue (D.meaning disk.old).tells_syncs
+        → SinceSync (D.meaning disk.old) (D.meaning disk.new) (NewOrNone slot payload.now) }
     ensures bound { IsTrue (D.meaning disk.old).tells → NoneLonger (2 * (slot + 6)) (D.meaning disk.old)
         → During (D.meaning disk.old) (D.meaning disk.new) (λ c. length c ≤ 2 * (slot + 6)) }
     ensures time { Elapses (D.meaning disk.old) (D.meaning disk.new) }
@@ -62,8 +69,9 @@ fn write_store<D: Disk>(disk: &mut D, slot: u32, payload: &[u8]) -> Result<(), D
 /// takes no memory. Where the payload is longer than a slot nothing is asked of the disk, and where the file isn't
 /// empty nothing is written.
 ///
-/// After Ok every crash leaves a store that opens to the payload, until the next save, and one mark was made. After
-/// `Device` the file may be neither empty nor a store.
+/// After Ok every crash leaves one file, byte for byte that of a new store, which opens to the payload, until the next
+/// save; one mark was made. Three syncs answered Ok: behind the zeros, behind all but the gate, and behind the gate.
+/// After `Device` the file may be neither empty nor a store; from the first sync on a crash leaves the new store or none.
 pub fn make<D: Disk>(disk: &mut D, slot: u32, payload: &[u8]) -> Result<Store, SaveRefusal>
     requires some { 1 ≤ slot }
     requires small { slot ≤ 4194304 }
@@ -71,6 +79,12 @@ pub fn make<D: Disk>(disk: &mut D, slot: u32, payload: &[u8]) -> Result<Store, S
 
     // a crash at any moment of the call, and after it
     ensures made { IsTrue (D.meaning disk.old).tells → OnOk result (AllOpen slot payload.now (D.meaning disk.new)) }
+    ensures exact { IsTrue (D.meaning disk.old).tells
+        → OnOk result (LeavesOnly (D.meaning disk.new) (D.meaning disk.new).now (made_store slot payload.now)) }
+    ensures syncs { IsTrue (D.meaning disk.old).tells → IsTrue (D.meaning disk.old).tells_syncs
+        → OnOk result (SyncsThrough (D.meaning disk.new) (D.meaning disk.old).now (stages_made slot payload.now)) }
+    ensures since { IsTrue (D.meaning disk.old).tells → IsTrue (D.meaning disk.old).tells_syncs
+        → SinceSync (D.meaning disk.old) (D.meaning disk.new) (NewOrNone slot payload.now) }
     ensures bound { IsTrue (D.meaning disk.old).tells → NoneLonger 0 (D.meaning disk.old)
         → During (D.meaning disk.old) (D.meaning disk.new) (λ c. length c ≤ 2 * (slot + 6)) }
     ensures time { Elapses (D.meaning disk.old) (D.meaning disk.new) }

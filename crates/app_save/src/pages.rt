@@ -2,7 +2,7 @@
 ghost use Rattle.std.specs.Prelude.{◌≡◌, ◌+◌, ◌≤◌, ◌<◌, ◌↔◌, ℕ, length, take, drop, slice_index, IsTrue, IsErr, IfOk};
 ghost use Rattle.std.specs.Prelude.{OnOk};
 ghost use Rattle.sed_outside.specs.Cause.{HasCause};
-ghost use Rattle.disk_model.specs.Disk.{Elapses, During, Writes, Holds, Keeps, MarksUp, largest_store};
+ghost use Rattle.disk_model.specs.Disk.{Elapses, During, IsTorn, Writes, Holds, Keeps, MarksUp, largest_store};
 ghost use Rattle.app_save.specs.Store.{AreSlots};
 ghost use Rattle.app_save.specs.Stages.{Closed, IsClosed};
 
@@ -76,6 +76,8 @@ pub fn write_pages<D: Disk>(
     ensures written { IsTrue (D.meaning disk.old).tells
         → OnOk result ((i : ℕ) → i < length payload.now
         → slice_index (D.meaning disk.new).content (place.now.other + 6 + i) ≡ slice_index payload.now i) }
+    ensures touches { IsTrue (D.meaning disk.old).tells → During (D.meaning disk.old) (D.meaning disk.new)
+        (IsTorn (place.now.other + 6) (length payload.now) (D.meaning disk.old)) }
     ensures time { Elapses (D.meaning disk.old) (D.meaning disk.new) }
     ensures marks { MarksUp (D.meaning disk.old) (D.meaning disk.new) 0 }
     ensures attached { (D.meaning disk.new).attached ≡ (D.meaning disk.old).attached }

@@ -1,10 +1,12 @@
 //! The steps of a save: settle, close the other gate, fill the slot behind it, open the gate.
-ghost use Rattle.std.specs.Prelude.{◌≡◌, ◌⊎◌, ◌+◌, ◌*◌, ◌%◌, ◌≤◌, ◌<◌, false, length, slice_index, IsTrue, IsErr, IfOk};
-ghost use Rattle.std.specs.Prelude.{OnOk};
+ghost use Rattle.std.specs.Prelude.{◌≡◌, ◌⊎◌, ◌+◌, ◌*◌, ◌%◌, ◌≤◌, ◌<◌, ◌++◌, ◌∷◌, [], false, length, slice_index};
+ghost use Rattle.std.specs.Prelude.{IsTrue, IsErr, IfOk, OnOk, is_ok, if◌then◌else◌};
 ghost use Rattle.sed_outside.specs.Cause.{HasCause};
-ghost use Rattle.disk_model.specs.Disk.{Elapses, During, MarksUp, Rests, largest_store};
+ghost use Rattle.disk_model.specs.Disk.{Elapses, During, MarksUp, SyncsUp, Rests, Torn, IsTorn, Holds, largest_store};
 ghost use Rattle.app_save.specs.Store.{IsStore, AreSlots, generation_at};
+ghost use Rattle.app_save.specs.Bytes.{header_bytes, slot_bytes};
 ghost use Rattle.app_save.specs.Saving.{AllStores, AllOpen, OpensAsBegun, SinceSync, KeepsEqualPages};
+ghost use Rattle.app_save.specs.Saving.{TouchesSlot, WritesSlot, Renews};
 ghost use Rattle.app_save.specs.Slots.{IsPlace};
 ghost use Rattle.app_save.specs.Stages.{Stays, Closed, Saved, IsClosed, IsFilled, IsSaved, Lands, Settled};
 
@@ -23,6 +25,12 @@ pub fn write_save<D: Disk>(disk: &mut D, slot: u32, payload: &[u8]) -> Result<()
     ensures pages { IsTrue (D.meaning disk.old).tells → IsTrue (D.meaning disk.old).tells_syncs →
         SinceSync (D.meaning disk.old) (D.meaning disk.new)
         (KeepsEqualPages slot payload.now (D.meaning disk.old).content) }
+    ensures touches { IsTrue (D.meaning disk.old).tells → IsTrue (D.meaning disk.old).tells_syncs →
+        SinceSync (D.meaning disk.old) (D.meaning disk.new) (TouchesSlot slot payload.now (D.meaning disk.old).content) }
+    ensures writes { IsTrue (D.meaning disk.old).tells
+        → OnOk result (WritesSlot slot payload.now (D.meaning disk.old).content (D.meaning disk.new)) }
+    ensures renews { IsTrue (D.meaning disk.old).tells
+        → OnOk result (Renews slot (D.meaning disk.old).content (D.meaning disk.new)) }
     ensures time { Elapses (D.meaning disk.old) (D.meaning disk.new) }
     ensures marks { MarksUp (D.meaning disk.old) (D.meaning disk.new) 0 }
     ensures unmarked { OnOk result ((D.meaning disk.new).is_marked ≡ false) }
@@ -70,6 +78,10 @@ fn write_slot<D: Disk>(
         ⊎ Saved slot place.now.newest place.now.other payload.now c) }
     ensures saved { IsTrue (D.meaning disk.old).tells
         → OnOk result (IsSaved slot place.now.newest place.now.other payload.now (D.meaning disk.new)) }
+    ensures touches { IsTrue (D.meaning disk.old).tells → During (D.meaning disk.old) (D.meaning disk.new)
+        (IsTorn place.now.other (6 + length payload.now) (D.meaning disk.old)) }
+    ensures holds { IsTrue (D.meaning disk.old).tells → OnOk result (Holds place.now.other
+        (slot_bytes 0xa5 place.now.generation payload.now) (D.meaning disk.new).content) }
     ensures time { Elapses (D.meaning disk.old) (D.meaning disk.new) }
     ensures marks { MarksUp (D.meaning disk.old) (D.meaning disk.new) 0 }
     ensures unmarked { OnOk result ((D.meaning disk.new).is_marked ≡ false) }
@@ -100,6 +112,8 @@ fn close_gate<D: Disk>(
     ensures closed { IsTrue (D.meaning disk.old).tells
         → OnOk result (IsClosed slot place.now.newest place.now.other payload.now
         (D.meaning disk.old).content (D.meaning disk.new)) }
+    ensures touches { IsTrue (D.meaning disk.old).tells → During (D.meaning disk.old) (D.meaning disk.new)
+        (IsTorn place.now.other (6 + length payload.now) (D.meaning disk.old)) }
     ensures time { Elapses (D.meaning disk.old) (D.meaning disk.new) }
     ensures marks { MarksUp (D.meaning disk.old) (D.meaning disk.new) 0 }
     ensures attached { (D.meaning disk.new).attached ≡ (D.meaning disk.old).attached }
@@ -116,6 +130,7 @@ pub fn write_through<D: Disk>(disk: &mut D, at: u64, bytes: &[u8]) -> Result<(),
     requires { at + length bytes.now ≤ largest_store }
     ensures lands { IsTrue (D.meaning disk.old).tells
         → Lands at bytes.now result (D.meaning disk.old) (D.meaning disk.new) }
+    ensures syncs { SyncsUp (D.meaning disk.old) (D.meaning disk.new) (if is_ok result then 1 else 0) }
     ensures time { Elapses (D.meaning disk.old) (D.meaning disk.new) }
     ensures marks { MarksUp (D.meaning disk.old) (D.meaning disk.new) 0 }
     ensures unmarked { OnOk result ((D.meaning disk.new).is_marked ≡ false) }
@@ -132,6 +147,7 @@ pub fn behind_gate(len: u32, generation: u8) -> [u8; 5]
     ensures len { 16777216 * slice_index result 0 + 65536 * slice_index result 1
         + 256 * slice_index result 2 + slice_index result 3 ≡ len }
     ensures generation { slice_index result 4 ≡ generation }
+    ensures bytes { result ≡ header_bytes generation len }
 {
     let [high, upper, lower, low] = len.to_be_bytes();
     [high, upper, lower, low, generation]
@@ -152,6 +168,10 @@ fn fill<D: Disk>(disk: &mut D, slot: u32, place: &Place, payload: &[u8]) -> Resu
     ensures filled { IsTrue (D.meaning disk.old).tells
         → OnOk result (IsFilled slot place.now.newest place.now.other payload.now
         (D.meaning disk.old).content (D.meaning disk.new)) }
+    ensures touches { IsTrue (D.meaning disk.old).tells → During (D.meaning disk.old) (D.meaning disk.new)
+        (IsTorn place.now.other (6 + length payload.now) (D.meaning disk.old)) }
+    ensures holds { IsTrue (D.meaning disk.old).tells → OnOk result (Holds (place.now.other + 1)
+        (header_bytes place.now.generation (length payload.now) ++ payload.now) (D.meaning disk.new).content) }
     ensures time { Elapses (D.meaning disk.old) (D.meaning disk.new) }
     ensures marks { MarksUp (D.meaning disk.old) (D.meaning disk.new) 0 }
     ensures attached { (D.meaning disk.new).attached ≡ (D.meaning disk.old).attached }
@@ -178,6 +198,12 @@ fn open_gate<D: Disk>(
         ⊎ Saved slot place.now.newest place.now.other payload.now c) }
     ensures saved { IsTrue (D.meaning disk.old).tells
         → OnOk result (IsSaved slot place.now.newest place.now.other payload.now (D.meaning disk.new)) }
+    ensures touches { IsTrue (D.meaning disk.old).tells → During (D.meaning disk.old) (D.meaning disk.new)
+        (IsTorn place.now.other (6 + length payload.now) (D.meaning disk.old)) }
+    ensures gate { IsTrue (D.meaning disk.old).tells
+        → OnOk result (Torn place.now.other 1 (D.meaning disk.old).content (D.meaning disk.new).content) }
+    ensures holds { IsTrue (D.meaning disk.old).tells
+        → OnOk result (Holds place.now.other (0xa5 ∷ []) (D.meaning disk.new).content) }
     ensures time { Elapses (D.meaning disk.old) (D.meaning disk.new) }
     ensures marks { MarksUp (D.meaning disk.old) (D.meaning disk.new) 0 }
     ensures unmarked { OnOk result ((D.meaning disk.new).is_marked ≡ false) }

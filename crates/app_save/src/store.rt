@@ -5,6 +5,7 @@ ghost use Rattle.sed_outside.specs.Cause.{Rose, HasCause};
 ghost use Rattle.disk_model.specs.Disk.{Elapses, During, MarksUp};
 ghost use Rattle.app_save.specs.Store.{Opens};
 ghost use Rattle.app_save.specs.Saving.{AllStores, AllOpen, OpensAsBegun, SinceSync, KeepsEqualPages};
+ghost use Rattle.app_save.specs.Saving.{TouchesSlot, WritesSlot, Renews};
 ghost use Rattle.app_save.specs.Run.{Saves, IsRun};
 
 use crate::load::load_newest;
@@ -53,7 +54,9 @@ impl Store {
     /// payload. After Ok every crash leaves one that opens to the payload, until the next save, and one mark was made.
     /// After `Device` it may open to either; the next save begins anew and needs nothing else of this one. What was
     /// saved before is kept in pages of 512 bytes: from the first sync on, a page of the payload that already stood in
-    /// the slot is never torn.
+    /// the slot is never torn. From that sync on nothing outside the slot that isn't newest is written, and there no more
+    /// than the payload and what stands in front of it; after Ok these bytes are exactly the payload's, in the next
+    /// generation.
     pub fn save<D: Disk>(&mut self, disk: &mut D, payload: &[u8]) -> Result<(), SaveRefusal>
         requires stores { IsTrue (D.meaning disk.old).tells → AllStores self.old (D.meaning disk.old) }
         ensures same { self.new ≡ self.old }
@@ -68,6 +71,15 @@ impl Store {
         ensures pages { IsTrue (D.meaning disk.old).tells → IsTrue (D.meaning disk.old).tells_syncs →
             SinceSync (D.meaning disk.old) (D.meaning disk.new)
             (KeepsEqualPages self.old payload.now (D.meaning disk.old).content) }
+
+        // the bytes that it writes
+        ensures touches { IsTrue (D.meaning disk.old).tells → IsTrue (D.meaning disk.old).tells_syncs →
+            SinceSync (D.meaning disk.old) (D.meaning disk.new)
+            (TouchesSlot self.old payload.now (D.meaning disk.old).content) }
+        ensures writes { IsTrue (D.meaning disk.old).tells
+            → OnOk result (WritesSlot self.old payload.now (D.meaning disk.old).content (D.meaning disk.new)) }
+        ensures renews { IsTrue (D.meaning disk.old).tells
+            → OnOk result (Renews self.old (D.meaning disk.old).content (D.meaning disk.new)) }
         ensures time { Elapses (D.meaning disk.old) (D.meaning disk.new) }
 
         // marks, and a run of many saves

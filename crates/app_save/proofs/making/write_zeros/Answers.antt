@@ -1,14 +1,14 @@
 use Rattle.std.proofs.Common.{◌≡◌, ◌∙◌, ◌<◌, ◌≤◌, ◌*◌, ◌-◌, ◌+◌, min, ℕ, List, length, take, replicate, refl, arith}
 use Rattle.std.proofs.lemmas.List.{length-take-le, length-replicate}
 use Rattle.disk_model.specs.Disk.{Image}
-use Rattle.app_save.proofs.Moments.{then_time, then_marks, then_during, no_time, no_marks, now_alone}
+use Rattle.app_save.proofs.Moments.{then_time, then_marks, then_syncs, then_during, no_time, no_marks, no_syncs, now_alone}
 use Rattle.app_save.proofs.Made.{blank_further, blank_none, blank_all, zero_bytes, none_longer}
 use Rattle.app_save.proofs.making.write_zeros.Goals as goal
 
 pub loop-q-init : goal.loop-q-init
 loop-q-init g c =
     let a = g.D.Disk.meaning c.args.disk.now in
-    record { time = no_time a; marks = no_marks a; attached = refl; faults = refl; blank = λ told. blank_none c.args.len a.content (c.requires.empty told); bound = λ told short u i from to left. short i (now_alone a u i from to left) }
+    record { time = no_time a; marks = no_marks a; syncs = no_syncs a; attached = refl; faults = refl; blank = λ told. blank_none c.args.len a.content (c.requires.empty told); bound = λ told short u i from to left. short i (now_alone a u i from to left) }
 
 pub loop-q-preserved : goal.loop-q-preserved
 loop-q-preserved g c =
@@ -27,6 +27,7 @@ loop-q-preserved g c =
     record {
       time = then_time a m n inv.time e.time;
       marks = then_marks a m n 0 inv.time e.time inv.marks e.marks;
+      syncs = then_syncs a m n 0 inv.time e.time inv.syncs e.syncs;
       attached = e.attached ∙ inv.attached;
       faults = e.cause.steady (λ failed. cc failed) ∙ inv.faults;
       blank = λ told.

@@ -1,5 +1,5 @@
 use Rattle.std.proofs.Common.{◌≡◌, ◌≤◌, ◌*◌, min, length, IsTrue}
-use Rattle.disk_model.specs.Disk.{Elapses, During, MarksUp}
+use Rattle.disk_model.specs.Disk.{Elapses, During, MarksUp, SyncsUp}
 use Rattle.app_save.specs.Making.{IsBlank, NoneLonger}
 use Rattle.app_save.proofs.making.write_zeros.Given as goal
 
@@ -7,6 +7,7 @@ abbrev pub invariant-loop-q : goal.invariant-loop-q
 invariant-loop-q g l = record {
   time : Elapses (g.D.Disk.meaning l.initial.disk) (g.D.Disk.meaning l.disk);
   marks : MarksUp (g.D.Disk.meaning l.initial.disk) (g.D.Disk.meaning l.disk) 0;
+  syncs : SyncsUp (g.D.Disk.meaning l.initial.disk) (g.D.Disk.meaning l.disk) 0;
   attached : (g.D.Disk.meaning l.disk).attached ≡ (g.D.Disk.meaning l.initial.disk).attached;
   faults : (g.D.Disk.meaning l.disk).faults ≡ (g.D.Disk.meaning l.initial.disk).faults;
   blank : IsTrue (g.D.Disk.meaning l.initial.disk).tells → IsBlank (min (512 * l.q) l.len) (g.D.Disk.meaning l.disk).content;

@@ -1,4 +1,6 @@
 use Rattle.app_save.proofs.Stages.{closing_during, closing_done, closed_during, closed_already}
+use Rattle.std.proofs.Common.{◌+◌, length, arith}
+use Rattle.app_save.proofs.Ranges.{during_wider, during_none}
 use Rattle.app_save.proofs.save.close_gate.Goals as goal
 
 pub returns-then-place-clause-during : goal.returns-then-place-clause-during
@@ -23,3 +25,10 @@ returns-clause-closed g c told =
     let a = g.D.Disk.meaning c.args.disk.now in
     let place = c.requires.place told in
     closed_already c.args.slot c.args.place.now.newest c.args.place.now.other c.requires.slots c.args.payload.now c.requires.fits a a (c.requires.rests told) (c.requires.store told) place.newest (place.is_shut c.if-place.false)
+
+pub returns-then-place-clause-touches : goal.returns-then-place-clause-touches
+returns-then-place-clause-touches g c told =
+    during_wider c.args.place.now.other 1 c.args.place.now.other (6 + length c.args.payload.now) (g.D.Disk.meaning c.args.disk.now) (g.D.Disk.meaning c.write_through.new.disk) (omega arith) (omega arith) (c.write_through.ensures.lands told).during
+
+pub returns-clause-touches : goal.returns-clause-touches
+returns-clause-touches g c told = during_none c.args.place.now.other (6 + length c.args.payload.now) (g.D.Disk.meaning c.args.disk.now)

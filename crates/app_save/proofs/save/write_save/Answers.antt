@@ -1,5 +1,6 @@
 use Rattle.std.proofs.Common.{◌∙◌, IsTrue}
 use Rattle.app_save.proofs.Whole.{settled_moments, settled_pages, save_moments, save_pages, save_done}
+use Rattle.app_save.proofs.SlotWritten.{settled_touches, save_touches, save_writes, save_renews}
 use Rattle.app_save.proofs.save.write_save.Goals as goal
 
 pub returns-in_err-place-clause-moments : goal.returns-in_err-place-clause-moments
@@ -37,3 +38,44 @@ returns-clause-saved g c told =
     let place = c.in_ok-place.place in
     save_done c.args.slot place.newest place.other c.requires.small c.in_ok-place.ensures.slots c.args.payload.now a b (g.D.Disk.meaning c.write_slot.new.disk) told (c.requires.stores told) (g.met.D.Disk.is_disk c.args.disk.now told)
     (c.in_ok-place.ensures.settled told).kept (c.in_ok-place.ensures.place told).newest c.settle.ensures.time c.write_slot.ensures.time (c.write_slot.ensures.during told_b) c.write_slot.result (c.write_slot.ensures.saved told_b)
+
+pub returns-in_err-place-clause-touches : goal.returns-in_err-place-clause-touches
+returns-in_err-place-clause-touches g c told told_syncs =
+    settled_touches c.settle.result c.args.slot c.args.payload.now (g.D.Disk.meaning c.args.disk.now) (g.D.Disk.meaning c.settle.new.disk) told_syncs (c.settle.ensures.settled told)
+
+pub returns-clause-touches : goal.returns-clause-touches
+returns-clause-touches g c told told_syncs =
+    let a = g.D.Disk.meaning c.args.disk.now in
+    let b = g.D.Disk.meaning c.settle.new.disk in
+    let told_b : IsTrue b.tells = c.settle.ensures.time.told ∙ told in
+    let place = c.in_ok-place.place in
+    let settled = c.in_ok-place.ensures.settled told in
+    save_touches c.args.slot place.newest place.other c.in_ok-place.ensures.slots c.args.payload.now c.requires.fits a b (g.D.Disk.meaning c.write_slot.new.disk) told (c.requires.stores told) (g.met.D.Disk.is_disk c.args.disk.now told)
+    settled.kept settled.rests (c.in_ok-place.ensures.place told).newest c.settle.ensures.time c.write_slot.ensures.time (c.write_slot.ensures.touches told_b) told_syncs
+    (settled_touches c.settle.result c.args.slot c.args.payload.now a b told_syncs (c.settle.ensures.settled told))
+
+pub returns-clause-writes : goal.returns-clause-writes
+returns-clause-writes g c told =
+    let a = g.D.Disk.meaning c.args.disk.now in
+    let b = g.D.Disk.meaning c.settle.new.disk in
+    let d = g.D.Disk.meaning c.write_slot.new.disk in
+    let told_b : IsTrue b.tells = c.settle.ensures.time.told ∙ told in
+    let told_d : IsTrue d.tells = c.write_slot.ensures.time.told ∙ told_b in
+    let place = c.in_ok-place.place in
+    let settled = c.in_ok-place.ensures.settled told in
+    save_writes c.args.slot place.newest place.other c.in_ok-place.ensures.slots c.args.payload.now c.requires.fits a b d told (c.requires.stores told) (g.met.D.Disk.is_disk c.args.disk.now told)
+    settled.kept settled.rests (c.in_ok-place.ensures.place told).newest c.settle.ensures.time c.write_slot.ensures.time (c.write_slot.ensures.touches told_b)
+    place.generation (c.in_ok-place.ensures.place told).next (g.met.D.Disk.is_disk c.write_slot.new.disk told_d) c.write_slot.result (c.write_slot.ensures.saved told_b) (c.write_slot.ensures.holds told_b)
+
+pub returns-clause-renews : goal.returns-clause-renews
+returns-clause-renews g c told =
+    let a = g.D.Disk.meaning c.args.disk.now in
+    let b = g.D.Disk.meaning c.settle.new.disk in
+    let d = g.D.Disk.meaning c.write_slot.new.disk in
+    let told_b : IsTrue b.tells = c.settle.ensures.time.told ∙ told in
+    let told_d : IsTrue d.tells = c.write_slot.ensures.time.told ∙ told_b in
+    let place = c.in_ok-place.place in
+    let settled = c.in_ok-place.ensures.settled told in
+    save_renews c.args.slot place.newest place.other c.in_ok-place.ensures.slots c.args.payload.now c.requires.fits a b d told (c.requires.stores told) (g.met.D.Disk.is_disk c.args.disk.now told)
+    settled.kept settled.rests (c.in_ok-place.ensures.place told).newest c.settle.ensures.time c.write_slot.ensures.time (c.write_slot.ensures.touches told_b)
+    place.generation (c.in_ok-place.ensures.place told).next (g.met.D.Disk.is_disk c.write_slot.new.disk told_d) c.write_slot.result (c.write_slot.ensures.saved told_b) (c.write_slot.ensures.holds told_b)

@@ -1,6 +1,8 @@
-use Rattle.std.proofs.Common.{◌∙◌, ◌+◌, ◌%◌, ℕ, sym, ap, IsTrue}
+use Rattle.std.proofs.Common.{◌∙◌, ◌+◌, ◌%◌, ℕ, length, sym, ap, IsTrue}
 use Rattle.app_save.proofs.Moments.{then_time}
 use Rattle.app_save.proofs.Stages.{throughout_first, throughout_closed, throughout_all, closed_again, filled_again}
+use Rattle.app_save.proofs.Ranges.{then_range}
+use Rattle.app_save.proofs.SlotWritten.{opened_done}
 use Rattle.app_save.proofs.save.write_slot.Goals as goal
 
 pub fill-requires-clause-next : goal.fill-requires-clause-next
@@ -41,3 +43,28 @@ returns-clause-during g c told =
     let both = then_time a b d c.close_gate.ensures.time c.fill.ensures.time in
     let first = throughout_closed c.args.slot c.args.place.now.newest c.args.place.now.other c.args.payload.now a.content a b d told c.close_gate.ensures.time c.fill.ensures.time (c.close_gate.ensures.during told) closed (c.fill.ensures.during told_b) in
     throughout_all c.args.slot c.args.place.now.newest c.args.place.now.other c.args.payload.now a.content a b d (g.D.Disk.meaning c.open_gate.new.disk) told c.close_gate.ensures.time c.fill.ensures.time both c.open_gate.ensures.time first closed (c.in_ok-fill.ensures.filled told_b) (c.open_gate.ensures.during told_d)
+
+pub returns-in_err-fill-clause-touches : goal.returns-in_err-fill-clause-touches
+returns-in_err-fill-clause-touches g c told =
+    let b = g.D.Disk.meaning c.close_gate.new.disk in
+    let told_b : IsTrue b.tells = c.close_gate.ensures.time.told ∙ told in
+    then_range c.args.place.now.other (6 + length c.args.payload.now) (g.D.Disk.meaning c.args.disk.now) b (g.D.Disk.meaning c.fill.new.disk) told c.close_gate.ensures.time c.fill.ensures.time (c.close_gate.ensures.touches told) (c.fill.ensures.touches told_b)
+
+pub returns-clause-touches : goal.returns-clause-touches
+returns-clause-touches g c told =
+    let a = g.D.Disk.meaning c.args.disk.now in
+    let b = g.D.Disk.meaning c.close_gate.new.disk in
+    let d = g.D.Disk.meaning c.fill.new.disk in
+    let told_b : IsTrue b.tells = c.close_gate.ensures.time.told ∙ told in
+    let told_d : IsTrue d.tells = c.fill.ensures.time.told ∙ told_b in
+    then_range c.args.place.now.other (6 + length c.args.payload.now) a d (g.D.Disk.meaning c.open_gate.new.disk) told (then_time a b d c.close_gate.ensures.time c.fill.ensures.time) c.open_gate.ensures.time
+    (then_range c.args.place.now.other (6 + length c.args.payload.now) a b d told c.close_gate.ensures.time c.fill.ensures.time (c.close_gate.ensures.touches told) (c.fill.ensures.touches told_b)) (c.open_gate.ensures.touches told_d)
+
+pub returns-clause-holds : goal.returns-clause-holds
+returns-clause-holds g c told =
+    let b = g.D.Disk.meaning c.close_gate.new.disk in
+    let d = g.D.Disk.meaning c.fill.new.disk in
+    let told_b : IsTrue b.tells = c.close_gate.ensures.time.told ∙ told in
+    let told_d : IsTrue d.tells = c.fill.ensures.time.told ∙ told_b in
+    opened_done c.open_gate.result c.args.place.now.other c.args.place.now.generation c.args.payload.now d.content (g.D.Disk.meaning c.open_gate.new.disk).content
+    (c.in_ok-fill.ensures.holds told_b) (c.open_gate.ensures.gate told_d) (c.open_gate.ensures.holds told_d)
