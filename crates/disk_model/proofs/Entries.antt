@@ -7,7 +7,7 @@ use Rattle.disk_model.specs.Disk.{Image}
 use Rattle.disk_model.specs.Held.{Held}
 use Rattle.disk_model.specs.Written.{written}
 use Rattle.disk_model.specs.Replay.{Call, wrote, calls_by, State, begun, after, after_all}
-use Rattle.disk_model.specs.Recorded.{Tape, with_entry, with_mark, HasEntry, Tries, call_of, bytes_behind, calls_of, size_of, is_call, IsRecord}
+use Rattle.disk_model.specs.Recorded.{Tape, with_entry, with_mark, Tries, call_of, bytes_behind, calls_of, size_of, is_call, IsRecord}
 use Rattle.disk_model.specs.declared.journal.Entry.{Entry}
 use Rattle.disk_model.specs.declared.journal.Entry.TheVariants.{Wrote, Synced, Other, Marked}
 use Rattle.disk_model.proofs.Steps.{after_push}

@@ -1,13 +1,12 @@
 -- What a call adds to the record, by the entries before and after it.
-use Rattle.std.proofs.Common.{◌≡◌, ◌≢◌, ℕ, Bool, true, false, IsTrue, List, [], ◌∷◌, ◌++◌, length, drop, sum_by, refl, sym, ◌∙◌, ap}
-use Rattle.disk_model.specs.Held.{Held}
-use Rattle.disk_model.specs.Replay.{Call, wrote, other, marked, InMemory, HasRoom, HasBytes}
-use Rattle.disk_model.specs.Recorded.{Tape, with_entry, with_mark, HasEntry, Tries, FitsLog, call_of, calls_of, size_of}
+use Rattle.std.proofs.Common.{◌≡◌, ℕ, false, IsTrue, List, [], ◌∷◌, ◌++◌, drop, sum_by, ◌∙◌, ap}
+use Rattle.disk_model.specs.Replay.{Call, marked, InMemory, HasRoom}
+use Rattle.disk_model.specs.Recorded.{Tape, with_entry, with_mark, HasEntry, Tries, call_of, calls_of, size_of}
 use Rattle.disk_model.specs.Records.{Records, RecordsMark}
 use Rattle.disk_model.specs.declared.journal.Entry.{Entry}
-use Rattle.disk_model.specs.declared.journal.Entry.TheVariants.{Wrote, Other, Marked}
-use Rattle.disk_model.proofs.Entries.{calls_push, calls_write}
-use Rattle.disk_model.proofs.Fits.{has_room, room_is, has_bytes, bytes_fit}
+use Rattle.disk_model.specs.declared.journal.Entry.TheVariants.{Marked}
+use Rattle.disk_model.proofs.Entries.{calls_push}
+use Rattle.disk_model.proofs.Fits.{has_room, room_is}
 
 module _ (old new : InMemory) (log : List ℕ) (before now : Tape) (first : new.history.first ≡ old.history.first) (was : calls_of log before.entries ≡ old.history.calls)
     (was_marked : before.is_marked ≡ old.history.is_marked) (limit : before.limit ≡ old.bounds.limit) (marks : new.history.is_marked ≡ now.is_marked) where
