@@ -319,13 +319,15 @@ fn is_slot_elsewhere(based: &Based<'_>, class: usize, lineage: &[usize], member:
     (is_property(member) || is_action(member)) && !is_among(lineage, COMPONENT)
 }
 
-fn is_wrong_property(classes: &Classes<'_>, kit: usize, member: &Member) -> bool
+/// Whether a property is of a type that none may have.
+pub fn is_wrong_property(classes: &Classes<'_>, kit: usize, member: &Member) -> bool
     ensures { result ≡ rules.is_wrong_property classes.now kit member.now }
 {
     is_property(member) && is_no_property_type(classes.type_of(kit, &member.kind))
 }
 
-fn is_wrong_action(classes: &Classes<'_>, kit: usize, member: &Member) -> bool
+/// Whether an action has a result or parameters that none may have.
+pub fn is_wrong_action(classes: &Classes<'_>, kit: usize, member: &Member) -> bool
     ensures { result ≡ rules.is_wrong_action classes.now kit member.now }
 {
     is_action(member) && is_no_action(classes, kit, member)
