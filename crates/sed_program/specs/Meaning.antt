@@ -22,7 +22,7 @@ use Rattle.sed_classes.specs.Values.{constant_of, read_constant}
 use Rattle.sed_program.specs.Fields.{field_number, static_number}
 use Rattle.sed_program.specs.Methods.{signature_of}
 use Rattle.sed_program.specs.Texts.{text_number}
-use Rattle.sed_program.specs.Types.{number_of, place_of, form_of}
+use Rattle.sed_program.specs.Types.{number_of, place_of, used, used_form}
 
 -- ---- members
 
@@ -47,13 +47,17 @@ define_value units o (Some i) = initial_value units o i
 abbrev pub define_constant : List KitUnits → Owned → Option Constant
 define_constant units o = plain_constant (define_value units o (form_value o.member.form))
 
+-- and what a use of it finds
+abbrev pub used_constant : List KitUnits → Owned → Option Constant
+used_constant units o = used units o.kit o.member (define_constant units o)
+
 abbrev pub member_of : List KitUnits → Owned → Member
 member_of units o =
     if is_method o.member then member.Method
-    else if is_define o.member then member.Define (define_constant units o)
-    else if is_static o.member then member.Static (form_of units o.kit o.member)
+    else if is_define o.member then member.Define (used_constant units o)
+    else if is_static o.member then member.Static (used_form units o.kit o.member)
     (static_number units o.class o.member.name.bytes)
-    else member.Field (form_of units o.kit o.member) (field_number units o.class o.member.name.bytes)
+    else member.Field (used_form units o.kit o.member) (field_number units o.class o.member.name.bytes)
 
 -- ---- classes, by their numbers
 

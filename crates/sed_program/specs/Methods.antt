@@ -9,7 +9,7 @@ use Rattle.sed_classes.specs.Members.{Owned, owned, kit_of, members_of, form_par
 use Rattle.sed_classes.specs.Members.{is_static, overrides}
 use Rattle.sed_classes.specs.Schema.{class_order}
 use Rattle.sed_program.specs.Fields.{before_class, place_named}
-use Rattle.sed_program.specs.Types.{param_kind, result_kind}
+use Rattle.sed_program.specs.Types.{used_param, used_result}
 
 -- the methods that the class at a place itself declares
 abbrev pub own_methods : List KitUnits → ℕ → List Member
@@ -42,8 +42,8 @@ signature units o = record {
   number = method_number units o.class o.member.name.bytes;
   is_static = is_static o.member;
   is_abstract = has_word word.Abstract o.member.modifiers;
-  params = map (param_kind units o.kit) (form_params o.member.form);
-  result = result_kind units o.kit o.member;
+  params = map (used_param units o.kit o.member) (form_params o.member.form);
+  result = used_result units o.kit o.member;
 }
 
 abbrev pub signature_of : List KitUnits → Owned → Option Signature

@@ -1,6 +1,6 @@
 -- What the types of a source are in a program: the forms of fields, and the kinds of parameters and results. Classes
--- have their numbers in the schema there.
-use Rattle.std.specs.Prelude.{ℕ, if◌then◌else◌, List, Option, Some, None, slice_get}
+-- have their numbers in the schema there. A use finds less: nothing of a member whose type breaks rule 8.
+use Rattle.std.specs.Prelude.{ℕ, Bool, ◌||◌, if◌then◌else◌, List, Option, Some, None, slice_get}
 use Rattle.std.specs.Option.{option_map}
 use Rattle.sed_value.specs.declared.slot_type.Primitive.{Primitive}
 use Rattle.sed_value.specs.declared.slot_type.Primitive.TheVariants as prim
@@ -15,6 +15,7 @@ use Rattle.sed_classes.specs.declared.kit_units.KitUnits.{KitUnits}
 use Rattle.sed_classes.specs.declared.source_type.SourceType.{SourceType}
 use Rattle.sed_classes.specs.declared.source_type.SourceType.TheVariants.{Void, Prim, Text, SizedText, Buf, Array}
 use Rattle.sed_classes.specs.declared.source_type.SourceType.TheVariants.{Object}
+use Rattle.sed_classes.specs.MemberRules.{is_wrong_property, is_wrong_action}
 use Rattle.sed_classes.specs.Objects.{has_form}
 use Rattle.sed_classes.specs.Schema.{class_order, type_number}
 use Rattle.sed_classes.specs.Types.{type_of}
@@ -73,3 +74,22 @@ param_kind units kit p = kind_of_type units (type_of units kit p.kind)
 -- the kind of what a method in a kit answers
 abbrev pub result_kind : List KitUnits → ℕ → Member → Option Kind
 result_kind units kit m = result_of_type units (type_of units kit m.kind)
+
+-- ---- uses
+
+-- the type of a member breaks rule 8: that of a property, or the result and the parameters of an action
+abbrev pub is_wrong_slot : List KitUnits → ℕ → Member → Bool
+is_wrong_slot units kit m = is_wrong_property units kit m || is_wrong_action units kit m
+
+-- what a use finds of a member of a kit, where this is what its type says
+abbrev pub used : {X : Type 0} → List KitUnits → ℕ → Member → Option X → Option X
+used units kit m found = if is_wrong_slot units kit m then None else found
+
+abbrev pub used_form : List KitUnits → ℕ → Member → Option FieldForm
+used_form units kit m = used units kit m (form_of units kit m)
+
+abbrev pub used_param : List KitUnits → ℕ → Member → Param → Option Kind
+used_param units kit m p = used units kit m (param_kind units kit p)
+
+abbrev pub used_result : List KitUnits → ℕ → Member → Option Kind
+used_result units kit m = used units kit m (result_kind units kit m)

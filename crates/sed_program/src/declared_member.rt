@@ -7,7 +7,7 @@ ghost use Rattle.sed_program.specs.Methods as methods;
 ghost use Rattle.sed_program.specs.Tables as tables;
 
 use crate::ordered::Ordered;
-use sed_classes::{is_define, is_method, is_static, params_of, says_abstract};
+use sed_classes::{is_define, is_method, is_static, says_abstract};
 use sed_names::{Constant, Member as Meaning, Signature};
 use sed_rules::{Plain, constant_of, read_value};
 use sed_units::{Init, Member, MemberForm};
@@ -69,6 +69,22 @@ impl<'a, 'b> Ordered<'a, 'b> {
         }
     }
 
+    // What a use of a define of a class of a kit reads.
+    fn used_constant(
+        &self,
+        alloc: Global,
+        class: usize,
+        kit: usize,
+        member: &Member,
+    ) -> Result<Option<Constant>, Memory>
+        ensures { IfOk result (λ c. c ≡ meaning.used_constant self.now (owned class kit member.now)) }
+    {
+        if self.is_wrong_slot(kit, member) {
+            return Ok(None);
+        }
+        self.define_constant(alloc, class, kit, member)
+    }
+
     // What the name of a member that a class of a kit declares means.
     fn member_of(
         &self,
@@ -83,16 +99,16 @@ impl<'a, 'b> Ordered<'a, 'b> {
             return Ok(Meaning::Method);
         }
         if is_define(member) {
-            let constant = self.define_constant(alloc, class, kit, member)?;
+            let constant = self.used_constant(alloc, class, kit, member)?;
             return Ok(Meaning::Define(constant));
         }
         let name = member.name.bytes.as_slice();
         if is_static(member) {
             let number = self.static_number(class, name)?;
-            return Ok(Meaning::Static(self.form_of(kit, member), number));
+            return Ok(Meaning::Static(self.used_form(kit, member), number));
         }
         let number = self.field_number(class, name)?;
-        Ok(Meaning::Field(self.form_of(kit, member), number))
+        Ok(Meaning::Field(self.used_form(kit, member), number))
     }
 
     // What a call must know of a method that a class of a kit declares.
@@ -106,13 +122,13 @@ impl<'a, 'b> Ordered<'a, 'b> {
         ensures { IfOk result (λ s. s ≡ methods.signature self.now (owned class kit member.now)) }
     {
         let number = self.method_number(class, member.name.bytes.as_slice())?;
-        let params = self.param_kinds(alloc, kit, params_of(member))?;
+        let params = self.used_params(alloc, kit, member)?;
         Ok(Signature {
             number,
             is_static: is_static(member),
             is_abstract: says_abstract(member),
             params: Items::new(params),
-            result: self.result_kind(kit, member),
+            result: self.used_result(kit, member),
         })
     }
 
