@@ -1,5 +1,5 @@
 -- Each body of the program is a body of its method.
-use Rattle.std.proofs.Common.{◌≡◌, ◌≤◌, ℕ, List, get_or, length, slice_get, Option, Some, None, All, IfSome, refl, sym, ◌∙◌, subst, arith}
+use Rattle.std.proofs.Common.{◌≡◌, ◌≤◌, ℕ, List, get_or, length, slice_get, Option, Some, None, All, IfSome, refl, sym, ap, ◌∙◌, subst, arith}
 use Rattle.std.proofs.lemmas.Option.{slice_get-get_or}
 use Rattle.sed_units.specs.Tree.{Tree}
 use Rattle.sed_units.specs.declared.leaves.Param.{Param}
@@ -17,19 +17,22 @@ use Rattle.sed_terms.specs.Faults.{all_faults}
 use Rattle.sed_terms.specs.Seen.{stmt_term}
 use Rattle.sed_body_laws.specs.NestedBodies.{IsShallow, IsShallowForm}
 use Rattle.sed_classes.specs.declared.kit_units.KitUnits.{KitUnits}
-use Rattle.sed_classes.specs.Members.{form_body, form_params, members_of}
+use Rattle.sed_classes.specs.Members.{form_body, form_params, kit_of, members_of}
 use Rattle.sed_program.specs.Meaning.{names_of}
 use Rattle.sed_program.specs.Methods.{MethodAt, methods_of}
 use Rattle.sed_program.specs.Outlined.{IsHead, IsOutlined}
+use Rattle.sed_program.specs.Types.{result_kind, used_result}
 use Rattle.sed_statements.specs.declared.enclosing.Enclosing.{Enclosing}
 use Rattle.sed_statements.specs.Methods.{judge_method}
 use Rattle.sed_member_laws.proofs.Heads.{headed}
+use Rattle.sed_member_laws.specs.Faultless.{AreFree}
 use Rattle.sed_member_laws.specs.TypedHeads.{IsTypedHead}
 use Rattle.sed_body_laws.specs.Bodies.{IsHeadOf, IsTypedBody, Means}
 use Rattle.sed_check.specs.Bodies.{HasTree, IsBodyOf, enclosing_of}
 use Rattle.sed_check.proofs.Keeping.{IsKept}
 use Rattle.sed_check.proofs.Naming.{param_same}
-use Rattle.sed_check.proofs.Standing.{member_at}
+use Rattle.sed_check.proofs.Standing.{IsMemberAt, member_at}
+use Rattle.sed_check.proofs.Used.{used_is}
 
 -- ---- what is said elsewhere of a body without a fault: it is typed, and nests no deeper than its source may
 
@@ -46,13 +49,22 @@ NestFew =
 
 -- ---- heads
 
-head_of : (units : List KitUnits) (program : Program) (e : MethodAt) (m : Method) → IsHead units e m →
-    IsTypedHead program m →
+-- what a body may return is what its method answers
+result_used : (units : List KitUnits) → AreFree units → (e : MethodAt) → IsMemberAt units e →
+    used_result units e.owned.kit e.owned.member ≡ result_kind units e.owned.kit e.owned.member
+result_used units f e is =
+    ap (λ kit. used_result units kit e.owned.member) is.2
+    ∙ used_is units f e.owned.class is.0 e.owned.member is.1
+    (result_kind units (kit_of units e.owned.class) e.owned.member)
+    ∙ sym (ap (λ kit. result_kind units kit e.owned.member) is.2)
+
+head_of : (units : List KitUnits) (program : Program) → AreFree units → (e : MethodAt) (m : Method) →
+    IsMemberAt units e → IsHead units e m → IsTypedHead program m →
     IsHeadOf program (names_of units e.owned.kit) (enclosing_of units e) (form_params e.owned.member.form) m
-head_of units program e m h t = record {
+head_of units program f e m at h t = record {
   class = sym h.class;
   static = sym h.static;
-  result = sym h.result;
+  result = result_used units f e at ∙ sym h.result;
   params = h.params ∙ param_same units e.owned.kit (form_params e.owned.member.form);
   class_there = t.class;
   result_there = t.result;
@@ -65,13 +77,14 @@ shallow_body : (f : MemberForm) (all : List Tree) → IsShallowForm f → form_b
 shallow_body (form.Field value) all s e = cc
 shallow_body (form.Method params body) all s e = subst (λ b. IfSome b IsShallow) e s
 
-body_is : (units : List KitUnits) (program : Program) → AreTyped program → NestFew → (e : MethodAt) (m : Method) →
-    Means program (names_of units e.owned.kit) → IsHead units e m → IsTypedHead program m → IsKept e.owned.member →
+body_is : (units : List KitUnits) (program : Program) → AreFree units → AreTyped program → NestFew →
+    (e : MethodAt) (m : Method) → Means program (names_of units e.owned.kit) → IsMemberAt units e →
+    IsHead units e m → IsTypedHead program m → IsKept e.owned.member →
     (all : List Tree) (body : Stmt) → form_body e.owned.member.form ≡ Some all → m.body ≡ Some body →
     HasTree units e (Some all) (Some body) → IsBody program m body
-body_is units program typed few e m means h t kept all body from is tree =
+body_is units program f typed few e m means at h t kept all body from is tree =
     let b : IsTypedBody program m body = typed (names_of units e.owned.kit) (enclosing_of units e)
-    (form_params e.owned.member.form) m means (head_of units program e m h t) all body is tree.0 in
+    (form_params e.owned.member.form) m means (head_of units program f e m at h t) all body is tree.0 in
     record {
       storable = b.storable;
       numbered = b.numbered;
@@ -81,10 +94,11 @@ body_is units program typed few e m means h t kept all body from is tree =
           tree.0 (shallow_body e.owned.member.form all kept.shallow from);
     }
 
-has_body : (units : List KitUnits) (program : Program) → AreTyped program → NestFew → (e : MethodAt) (m : Method) →
-    Means program (names_of units e.owned.kit) → IsHead units e m → IsTypedHead program m → IsKept e.owned.member →
+has_body : (units : List KitUnits) (program : Program) → AreFree units → AreTyped program → NestFew →
+    (e : MethodAt) (m : Method) → Means program (names_of units e.owned.kit) → IsMemberAt units e →
+    IsHead units e m → IsTypedHead program m → IsKept e.owned.member →
     IsBodyOf units e m.body → IfSome m.body (IsBody program m)
-has_body units program typed few e m means h t kept tree =
+has_body units program f typed few e m means at h t kept tree =
     by_parts (form_body e.owned.member.form) m.body refl refl tree
   where
     by_parts : (all : Option (List Tree)) (body : Option Stmt) → form_body e.owned.member.form ≡ all → m.body ≡ body →
@@ -92,16 +106,16 @@ has_body units program typed few e m means h t kept tree =
     by_parts all None from is has = tt
     by_parts None (Some body) from is has = absurd has
     by_parts (Some all) (Some body) from is has =
-        body_is units program typed few e m means h t kept all body from is has
+        body_is units program f typed few e m means at h t kept all body from is has
 
-pub have_bodies : (units : List KitUnits) (program : Program) → AreTyped program → NestFew →
+pub have_bodies : (units : List KitUnits) (program : Program) → AreFree units → AreTyped program → NestFew →
     ((kit : ℕ) → Means program (names_of units kit)) → IsOutlined units program →
     All (IsTypedHead program) program.methods →
     ((class i : ℕ) (x : Member) → slice_get (members_of units class) i ≡ Some x → IsKept x) →
     ((i : ℕ) (e : MethodAt) (m : Method) → slice_get (methods_of units) i ≡ Some e →
     slice_get program.methods i ≡ Some m → IsBodyOf units e m.body) →
     All (λ (m : Method). IfSome m.body (IsBody program m)) program.methods
-have_bodies units program typed few means p heads kept bodies i d lt =
+have_bodies units program f typed few means p heads kept bodies i d lt =
     let at : slice_get program.methods i ≡ Some (get_or program.methods i d) =
     slice_get-get_or program.methods i d lt in
     let h = headed units (methods_of units) program.methods p.methods i (get_or program.methods i d) at in
@@ -109,11 +123,13 @@ have_bodies units program typed few means p heads kept bodies i d lt =
     has_body
     units
     program
+    f
     typed
     few
     h.0
     (get_or program.methods i d)
     (means h.0.owned.kit)
+    member
     h.2
     (heads i d lt)
     (kept h.0.owned.class member.0 h.0.owned.member member.1)

@@ -12,7 +12,7 @@ use Rattle.sed_classes.specs.Bases.{lineage}
 use Rattle.sed_classes.specs.Members.{Owned, form_body, form_params, has_name, is_method, kit_of, members_of, nearest, owned}
 use Rattle.sed_program.specs.Methods.{MethodAt, method_number, signature, signature_of}
 use Rattle.sed_program.specs.Outlined.{IsHead, IsOutlined, is_there}
-use Rattle.sed_program.specs.Types.{param_kind, place_of, result_kind}
+use Rattle.sed_program.specs.Types.{place_of, result_kind, used_param, used_result}
 use Rattle.sed_program.specs.Ordered.{IsOrdered, number}
 use Rattle.sed_member_laws.specs.Faultless.{AreFree}
 use Rattle.sed_member_laws.proofs.Fit.{storable_kind}
@@ -22,6 +22,7 @@ use Rattle.sed_member_laws.proofs.Own.{same_name}
 use Rattle.sed_member_laws.proofs.Declaring.{body_there, declared_at, no_body, number_there, params_there, some_and}
 use Rattle.sed_member_laws.proofs.Found.{find_is}
 use Rattle.sed_member_laws.specs.Found.{method_no}
+use Rattle.sed_check.proofs.Used.{used_is, used_params_are}
 
 -- ---- a method that a name stands for
 
@@ -49,8 +50,14 @@ method_means units c f o p k place name w at near is =
     head.1
     (record {
       static = is_head.static;
-      result = ap (λ x. result_kind units x w.member) kit ∙ sym is_head.result;
-      params = ap (λ x. map (param_kind units x) (form_params w.member.form)) kit ∙ sym is_head.params;
+      result =
+          ap (λ x. used_result units x w.member) kit
+          ∙ used_is units f w.class inside.0 w.member inside.1 (result_kind units (kit_of units w.class) w.member)
+          ∙ sym is_head.result;
+      params =
+          ap (λ x. map (used_param units x w.member) (form_params w.member.form)) kit
+          ∙ used_params_are units f w.class inside.0 w.member inside.1 (form_params w.member.form)
+          ∙ sym is_head.params;
       there = λ i x e.
           storable_kind
           c.program

@@ -23,6 +23,7 @@ mod AsRead
 mod Keeping
 mod Spelling
 mod Standing
+mod Used
 mod Emptying
 mod Naming
 mod Bodying

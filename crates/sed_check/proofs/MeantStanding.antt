@@ -20,9 +20,9 @@ use Rattle.sed_classes.specs.Members.{Owned, has_name, is_define, is_instance_fi
 use Rattle.sed_classes.specs.Objects.{is_inline}
 use Rattle.sed_classes.specs.Types.{is_field_type, type_of}
 use Rattle.sed_program.specs.Fields.{field_number, static_number}
-use Rattle.sed_program.specs.Meaning.{define_constant, member_of}
+use Rattle.sed_program.specs.Meaning.{define_constant, member_of, used_constant}
 use Rattle.sed_program.specs.Outlined.{IsOutlined}
-use Rattle.sed_program.specs.Types.{form_of, form_of_type, number_of, place_of}
+use Rattle.sed_program.specs.Types.{form_of, form_of_type, number_of, place_of, used_form}
 use Rattle.sed_program.specs.Ordered.{IsOrdered}
 use Rattle.sed_member_laws.specs.Faultless.{AreFree, Keeps}
 use Rattle.sed_member_laws.proofs.Fit.{field_type, form_is}
@@ -33,6 +33,7 @@ use Rattle.sed_member_laws.proofs.Words.{static_no_property}
 use Rattle.sed_member_laws.proofs.Declaring.{some_and}
 use Rattle.sed_member_laws.proofs.FieldsAt.{field_at, instance_no_method, member_form, static_at, static_no_method, there_in}
 use Rattle.sed_check.specs.Means.{HaveDefines}
+use Rattle.sed_check.proofs.Used.{used_is}
 
 -- ---- a static is no Buf
 
@@ -95,16 +96,18 @@ said units name w place near =
 field_means : (units : List KitUnits) (c : Context) → AreFree units → IsOrdered units c.program →
     (k place : ℕ) (name : List ℕ) (w : Owned) →
     place_of units k ≡ Some place → Said units name w place → is_instance_field w.member ≡ true →
-    IsMember c k (member.Field (form_of units w.kit w.member) (field_number units w.class w.member.name.bytes))
+    IsMember c k (member.Field (used_form units w.kit w.member) (field_number units w.class w.member.name.bytes))
 field_means units c f o k place name w at s is t e =
     let own = found_filtered (has_name w.member.name.bytes) is_instance_field
     (members_of units w.class) w.member s.first is in
     let known = member_form units c.program f o w.class s.at w.member s.there (instance_no_method w.member is) in
     some_and
     (λ x. field_form c.program (kind.Object t) (field_number units w.class w.member.name.bytes) ≡ Some x)
-    (form_of units w.kit w.member)
+    (used_form units w.kit w.member)
     known.0
-    (ap (λ kit. form_of units kit w.member) s.kit ∙ known.1)
+    (ap (λ kit. used_form units kit w.member) s.kit
+    ∙ used_is units f w.class s.at w.member s.there (form_of units (kit_of units w.class) w.member)
+    ∙ known.1)
     (ap (λ n. option_map (λ (x : Field). x.form) (slice_get (typed.fields c.program n)
     (field_number units w.class w.member.name.bytes))) e
     ∙ ap
@@ -130,16 +133,18 @@ field_means units c f o k place name w at s is t e =
 static_means : (units : List KitUnits) (c : Context) → AreFree units → IsOrdered units c.program →
     IsOutlined units c.program → (k place : ℕ) (name : List ℕ) (w : Owned) →
     Said units name w place → is_static_field w.member ≡ true → is_static w.member ≡ true →
-    IsMember c k (member.Static (form_of units w.kit w.member) (static_number units w.class w.member.name.bytes))
+    IsMember c k (member.Static (used_form units w.kit w.member) (static_number units w.class w.member.name.bytes))
 static_means units c f o p k place name w s is static =
     let own = found_filtered (has_name w.member.name.bytes) is_static_field
     (members_of units w.class) w.member s.first is in
     let known = member_form units c.program f o w.class s.at w.member s.there (static_no_method w.member is) in
     some_and
     (λ x. (static_form c.program (static_number units w.class w.member.name.bytes) ≡ Some x) × IsNoBuf x)
-    (form_of units w.kit w.member)
+    (used_form units w.kit w.member)
     known.0
-    (ap (λ kit. form_of units kit w.member) s.kit ∙ known.1) (
+    (ap (λ kit. used_form units kit w.member) s.kit
+    ∙ used_is units f w.class s.at w.member s.there (form_of units (kit_of units w.class) w.member)
+    ∙ known.1) (
       ap (λ l. option_map (λ (x : Field). x.form) (slice_get l
           (static_number units w.class w.member.name.bytes))) p.statics
           ∙ ap
@@ -163,12 +168,19 @@ member_means units c f v o p k place name w at near same = by_tests (is_method w
     by_tests : (a b d : Bool) → is_method w.member ≡ a → is_define w.member ≡ b → is_static w.member ≡ d →
         IsMember c k
         (if a then member.Method
-        else if b then member.Define (define_constant units w)
-        else if d then member.Static (form_of units w.kit w.member) (static_number units w.class w.member.name.bytes)
-        else member.Field (form_of units w.kit w.member) (field_number units w.class w.member.name.bytes))
+        else if b then member.Define (used_constant units w)
+        else if d then member.Static (used_form units w.kit w.member) (static_number units w.class w.member.name.bytes)
+        else member.Field (used_form units w.kit w.member) (field_number units w.class w.member.name.bytes))
     by_tests true b d x y z = tt
     by_tests false true d x y z =
-        subst (λ u. IsSomeAnd (define_constant units u) IsConstant) (sym same) (v.value w.class s.at w.member s.there y)
+        let here : Owned = owned w.class (kit_of units w.class) w.member in
+        subst
+        (λ u. IsSomeAnd (used_constant units u) IsConstant)
+        (sym same)
+        (subst
+        (λ r. IsSomeAnd r IsConstant)
+        (sym (used_is units f w.class s.at w.member s.there (define_constant units here)))
+        (v.value w.class s.at w.member s.there y))
     by_tests false false true x y z =
         static_means units c f o p k place name w s (three (is_method w.member) (is_define w.member)
         (is_static w.member) x y z) z

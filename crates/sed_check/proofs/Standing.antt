@@ -14,9 +14,11 @@ use Rattle.sed_check.specs.Bodies.{AreBodies, IsBodyOf}
 
 -- ---- the member that a method is
 
--- it stands among the members of its class
+-- it stands among the members of its class, and has the kit of that
 abbrev pub IsMemberAt : List KitUnits → MethodAt → Type 0
-IsMemberAt units e = (at : ℕ) × (slice_get (members_of units e.owned.class) at ≡ Some e.owned.member)
+IsMemberAt units e =
+    (at : ℕ) × (slice_get (members_of units e.owned.class) at ≡ Some e.owned.member)
+    × (e.owned.kit ≡ kit_of units e.owned.class)
 
 member_in : (units : List KitUnits) (c : ℕ × ℕ) (j : ℕ) (e : MethodAt) → slice_get (methods_in units c) j ≡ Some e →
     IsMemberAt units e
@@ -36,7 +38,7 @@ member_in units c j e h =
         subst
         (IsMemberAt units)
         (some_is (record { class = c.0; owned = owned c.1 (kit_of units c.1) m }) e g)
-        (there.0, there.1)
+        (there.0, there.1, refl)
 
 pub member_at : (units : List KitUnits) (i : ℕ) (e : MethodAt) → slice_get (methods_of units) i ≡ Some e →
     IsMemberAt units e

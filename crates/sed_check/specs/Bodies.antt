@@ -18,7 +18,7 @@ use Rattle.sed_classes.specs.Faults.{placed_in}
 use Rattle.sed_classes.specs.Members.{form_body, form_params, is_static}
 use Rattle.sed_program.specs.Meaning.{names_of}
 use Rattle.sed_program.specs.Methods.{MethodAt, methods_of}
-use Rattle.sed_program.specs.Types.{type_no, result_kind}
+use Rattle.sed_program.specs.Types.{type_no, used_result}
 use Rattle.sed_statements.specs.declared.enclosing.Enclosing.{Enclosing}
 use Rattle.sed_statements.specs.Methods.{judge_method, judge_params}
 
@@ -28,7 +28,7 @@ use Rattle.sed_statements.specs.Methods.{judge_method, judge_params}
 abbrev pub enclosing_of : List KitUnits → MethodAt → Enclosing
 enclosing_of units e = record {
   body = record { class = type_no e.class; is_static = is_static e.owned.member };
-  result = result_kind units e.owned.kit e.owned.member;
+  result = used_result units e.owned.kit e.owned.member;
 }
 
 -- with a body

@@ -23,7 +23,7 @@ fn enclosing(ordered: &Ordered<'_, '_>, number: u16, class: usize, member: &Memb
             class: TypeNo(number),
             is_static: is_static(member),
         },
-        result: ordered.result_kind(kit, member),
+        result: ordered.used_result(kit, member),
     }
 }
 

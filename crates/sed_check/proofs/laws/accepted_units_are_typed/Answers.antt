@@ -30,6 +30,7 @@ returns c = λ units cycles program few named read free spelled.
     (have_bodies
     units
     program
+    f
     (c.sound_bodies_are_bodies.ensures program)
     (c.sound_bodies_are_shallow.ensures.depth all_faults)
     (λ kit. means units program kit o (λ class is_static locals result.
