@@ -27,7 +27,7 @@ use scode_sound::verified_images_are_whole;
 use scode_state::{parts_lie_within, read_buf, read_value, write_buf, write_value};
 use sed_engine::{Place, what_is_kept_fits};
 use sed_typed::{SlotNo, TypeNo};
-use sed_value::{int_to_long, low_byte, low_short, Prim, SlotBuf, Value};
+use sed_value::{Prim, SlotBuf, Value, int_to_long, low_byte, low_short};
 
 /// Whether two properties of a class are kept in one field.
 pub fn is_same_field(image: &Image, t: TypeNo, a: SlotNo, b: SlotNo) -> bool
