@@ -55,10 +55,13 @@ pub fn check<F: Files>(alloc: Global, names: &[String], files: &mut F) -> Result
         ComesOrWants (words_of.Check (words_of.texts names.now)) (of_reads reads) result) }
 {
     match kits_program(alloc, names, files) {
-        Ok(_) => match done_text(alloc) {
-            Ok(text) => Ok(text),
-            Err(_) => Err(Refusal::Memory),
-        },
+        Ok(program) => {
+            drop(program);
+            match done_text(alloc) {
+                Ok(text) => Ok(text),
+                Err(_) => Err(Refusal::Memory),
+            }
+        }
         Err(refusal) => Err(refusal),
     }
 }

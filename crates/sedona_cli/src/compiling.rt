@@ -43,7 +43,13 @@ pub fn image_written<F: Files>(
         Err(refusal) => return Err(refusal),
     };
     match image_text(alloc, &program) {
-        Ok(text) => write_output(alloc, out, text.as_slice(), files),
-        Err(Memory) => Err(Refusal::Memory),
+        Ok(text) => {
+            drop(program);
+            write_output(alloc, out, text.as_slice(), files)
+        }
+        Err(Memory) => {
+            drop(program);
+            Err(Refusal::Memory)
+        }
     }
 }

@@ -81,7 +81,10 @@ fn record_inputs<F: Files>(
     };
     let users = match users_with(alloc, words.users, words.user, files) {
         Ok(users) => users,
-        Err(refusal) => return Err(refusal),
+        Err(refusal) => {
+            drop(program);
+            return Err(refusal);
+        }
     };
     match node_secret(alloc, words.secret, files) {
         Ok(secret) => Ok(RecordInputs {
@@ -89,7 +92,10 @@ fn record_inputs<F: Files>(
             users,
             secret,
         }),
-        Err(refusal) => Err(refusal),
+        Err(refusal) => {
+            drop(program);
+            Err(refusal)
+        }
     }
 }
 

@@ -147,11 +147,17 @@ pub fn read_inputs<F: Files>(
     };
     let users = match node_users(alloc, words.users, files) {
         Ok(users) => users,
-        Err(refusal) => return Err(refusal),
+        Err(refusal) => {
+            drop(code);
+            return Err(refusal);
+        }
     };
     let secret = match node_secret(alloc, words.secret, files) {
         Ok(secret) => secret,
-        Err(refusal) => return Err(refusal),
+        Err(refusal) => {
+            drop(code);
+            return Err(refusal);
+        }
     };
     match record_text(alloc, file, files) {
         Ok(text) => Ok(Inputs {
@@ -160,7 +166,10 @@ pub fn read_inputs<F: Files>(
             secret,
             text,
         }),
-        Err(refusal) => Err(refusal),
+        Err(refusal) => {
+            drop(code);
+            Err(refusal)
+        }
     }
 }
 
@@ -181,7 +190,10 @@ pub fn node_inputs<F: Files>(
     };
     let users = match node_users(alloc, words.users, files) {
         Ok(users) => users,
-        Err(refusal) => return Err(refusal),
+        Err(refusal) => {
+            drop(code);
+            return Err(refusal);
+        }
     };
     match node_secret(alloc, words.secret, files) {
         Ok(secret) => Ok(NodeInputs {
@@ -189,6 +201,9 @@ pub fn node_inputs<F: Files>(
             users,
             secret,
         }),
-        Err(refusal) => Err(refusal),
+        Err(refusal) => {
+            drop(code);
+            Err(refusal)
+        }
     }
 }

@@ -7,6 +7,9 @@
 //! command is a row of steps, a module of its own, and what it leaves. `replay` puts its text piece by piece as it
 //! runs, the others theirs when all else is done. The program `sedona` calls it with the system's files, its disk and
 //! standard output.
+//!
+//! A program, an image, an application or a node that is not handed on is let go by `drop`, at each exit that still has
+//! it: what a scope lets go of by itself is checked part by part, at each of its exits.
 #![tactic(auto)]
 
 mod coming;

@@ -57,8 +57,14 @@ fn run_ready<E: Engine, L: Link, C: Clock, D: Disk, O: Sink>(
 {
     let mut node = node;
     match live(&mut node, disk, link, clock, cycles, period, out) {
-        Ok(()) => Status::Done,
-        Err(_) => Status::SinkFault,
+        Ok(()) => {
+            drop(node);
+            Status::Done
+        }
+        Err(_) => {
+            drop(node);
+            Status::SinkFault
+        }
     }
 }
 
@@ -92,7 +98,10 @@ fn run_app<L: Link, C: Clock, D: Disk, O: Sink>(
     let (store, app) = held;
     match link.bind(words.port) {
         Ok(()) => {}
-        Err(_) => return refuse(alloc, &Refusal::LinkFault, out),
+        Err(_) => {
+            drop(app);
+            return refuse(alloc, &Refusal::LinkFault, out);
+        }
     }
     let moment = clock.now();
     match node_of(alloc, words.node, app, store, users, secret, moment) {

@@ -102,11 +102,17 @@ pub fn open_app<D: Disk>(
 {
     match attach_store(disk, words.store) {
         Ok(()) => {}
-        Err(refusal) => return Err(refusal),
+        Err(refusal) => {
+            drop(code);
+            return Err(refusal);
+        }
     }
     match open_with_slot(alloc, disk) {
         Ok(found) => app_in(alloc, code, words.limit, found),
-        Err(refusal) => Err(refusal),
+        Err(refusal) => {
+            drop(code);
+            Err(refusal)
+        }
     }
 }
 

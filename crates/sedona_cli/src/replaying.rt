@@ -73,8 +73,14 @@ fn play<E: Engine, D: Disk, O: Sink>(
     let mut node = node;
     match Records::open(text) {
         Ok(records) => match replay(&mut node, records, disk, out) {
-            Ok(()) => Status::Done,
-            Err(_) => Status::SinkFault,
+            Ok(()) => {
+                drop(node);
+                Status::Done
+            }
+            Err(_) => {
+                drop(node);
+                Status::SinkFault
+            }
         },
         Err(_) => unreachable!(),
     }

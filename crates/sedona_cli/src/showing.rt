@@ -42,8 +42,14 @@ fn printed(
         Err(refusal) => return Err(of_app(refusal)),
     };
     match application_text(alloc, &app) {
-        Ok(text) => Ok(text),
-        Err(Memory) => Err(Refusal::Memory),
+        Ok(text) => {
+            drop(app);
+            Ok(text)
+        }
+        Err(Memory) => {
+            drop(app);
+            Err(Refusal::Memory)
+        }
     }
 }
 
@@ -63,11 +69,17 @@ fn shown_of<D: Disk>(
 {
     match attach_store(disk, store) {
         Ok(()) => {}
-        Err(refusal) => return Err(refusal),
+        Err(refusal) => {
+            drop(program);
+            return Err(refusal);
+        }
     }
     match open_store(alloc, disk) {
         Ok(payload) => printed(alloc, program, limit, payload.as_slice()),
-        Err(refusal) => Err(refusal),
+        Err(refusal) => {
+            drop(program);
+            Err(refusal)
+        }
     }
 }
 

@@ -18,6 +18,6 @@ returns-in-Ok-image_text-clause-leaves g c =
     compile_leaves g.F.Files c.args.files.now c.kits_program.new.files c.args.out.now (texts c.args.names.now) c.kits_program.result c.kits_program.ensures c.write_output.new.files c.in-Ok.program c.as_slice.result.now c.write_output.result
     c.in-Ok.is (subst (λ (b : List ℕ). IsImageOf c.in-Ok.program b) (sym c.as_slice.ensures) c.in-Ok-image_text.ensures) c.write_output.ensures.written
 
-pub returns-clause-asks : goal.returns-clause-asks
-returns-clause-asks g c =
+pub returns-in-Err-image_text-clause-asks : goal.returns-in-Err-image_text-clause-asks
+returns-in-Err-image_text-clause-asks g c =
     compile_wanted g.F.Files c.args.files.now c.kits_program.new.files c.args.out.now (texts c.args.names.now) c.kits_program.result c.kits_program.ensures

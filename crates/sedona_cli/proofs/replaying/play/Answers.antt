@@ -9,8 +9,8 @@ returns-in-Ok-replay g c = λ asked inputs a same ready.
     c.replay.ensures.time c.replay.ensures.attached c.requires.stores c.replay.ensures.stores _ _ _ _ c.replay.result c.in-Ok-replay.field-0 c.in-Ok-replay.is c.replay.ensures.cause
     (c.replay.ensures.replayed _ ready.stands)
 
-pub returns-in-Ok : goal.returns-in-Ok
-returns-in-Ok g c = λ asked inputs a same ready.
+pub returns-in-Err-replay : goal.returns-in-Err-replay
+returns-in-Err-replay g c = λ asked inputs a same ready.
     plays_stopped g.E.Engine g.D.Disk asked inputs a c.args.node c.replay.new.node ready c.in-Ok.records (subst (λ (t : List ℕ). IsRecord t c.in-Ok.records) (sym same) c.in-Ok.ensures.found) c.args.disk.now c.replay.new.disk
     c.replay.ensures.time c.replay.ensures.attached c.requires.stores c.replay.ensures.stores _ _ _ _ c.replay.result c.in-Err-replay.field-0 c.in-Err-replay.is c.replay.ensures.cause
     (c.replay.ensures.stopped _ ready.stands)
