@@ -8,12 +8,12 @@ use Rattle.comp_tree.specs.Application.{Application}
 use Rattle.comp_tree.specs.Whole.{Whole}
 use Rattle.link_prop.specs.Linked.{application_of}
 use Rattle.sub_table.specs.declared.part.Part.{Part}
-use Rattle.sox_events.specs.Due.{MarksAgree, longest, room_for, subscriptions}
+use Rattle.sox_events.specs.Due.{AllMarksAgree, longest, room_for, subscriptions}
 use Rattle.sed_node.specs.Standing.{AreTurns, IsKept, code_of}
 use Rattle.sed_node.specs.declared.kept.Kept.{Kept}
 
 pub kept_by : {E : Type 0} (g : Ghosts E) (old new : Kept E) → IsKept g old → code_of g new ≡ code_of g old
-    → Whole (code_of g old) (application_of g new.app) → MarksAgree g new.app (subscriptions new.subs)
+    → Whole (code_of g old) (application_of g new.app) → AllMarksAgree g new.app (subscriptions new.subs)
     → ((part : Part) → room_for new.subs part ≡ room_for old.subs part) → new.turns ≡ old.turns → IsKept g new
 kept_by g old new kept code whole agree room turns = record {
   code = subst IsWhole (sym code) kept.code;

@@ -5,7 +5,7 @@ use Rattle.sed_engine.specs.Code.{Meaning}
 use Rattle.sed_engine.specs.Whole.{IsWhole}
 use Rattle.comp_tree.specs.Whole.{Whole}
 use Rattle.link_prop.specs.Linked.{application_of}
-use Rattle.sox_events.specs.Due.{HasRoom, MarksAgree, subscriptions}
+use Rattle.sox_events.specs.Due.{AllMarksAgree, HasRoom, subscriptions}
 use Rattle.dasp_session.specs.Standing.{StandsFor as SessionsStandFor}
 use Rattle.node_events.specs.Node.{KeepsWindows, Node, OnlyOfTheOpen, Setup}
 use Rattle.sed_node.specs.declared.kept.Kept.{Kept}
@@ -42,7 +42,7 @@ pub record Holds {E : Type 0} (g : Ghosts E) (kept : Kept E) (n : Node) : Type 0
 pub record IsKept {E : Type 0} (g : Ghosts E) (kept : Kept E) : Type 0 where
   pub code : IsWhole (code_of g kept)
   pub whole : Whole (code_of g kept) (application_of g kept.app)
-  pub agree : MarksAgree g kept.app (subscriptions kept.subs)
+  pub agree : AllMarksAgree g kept.app (subscriptions kept.subs)
   pub room : HasRoom (code_of g kept).schema kept.subs
   pub turns : AreTurns kept.turns
 

@@ -31,7 +31,8 @@ use sed_engine::Engine;
 use sed_outside::Addr;
 use sox_events::Subs;
 use sox_events::laws::{
-    agreement_lasts, events_are_of_what_differs, events_keep_agreement, subscribing_keeps_agreement,
+    agreement_is_of_the_live, agreement_lasts, events_are_of_what_differs, events_keep_agreement,
+    subscribing_keeps_agreement,
 };
 use sox_msg::{Reply, ReplyBody, Request, number_of, read_request};
 use sox_serve::{ReplyBuf, Served, refused_commands_change_nothing, serve};
@@ -215,6 +216,7 @@ impl<E: Engine> Kept<E> {
     {
         only_open_sessions_have_subscribed();
         events_keep_agreement::<E>();
+        agreement_is_of_the_live::<E>();
         events_are_of_what_differs::<E>();
         events_are_of_the_application::<E>();
         let mut text = [0; 498];

@@ -2,7 +2,7 @@
 ghost use Rattle.std.specs.Prelude.{◌≡◌, ◌<◌};
 ghost use Rattle.link_prop.specs.Linked.{application_of};
 ghost use Rattle.sub_table.specs.declared.part.Part.{Part as PartOf};
-ghost use Rattle.sox_events.specs.Due.{MarksAgree, room_for, subscriptions};
+ghost use Rattle.sox_events.specs.Due.{AllMarksAgree, room_for, subscriptions};
 ghost use Rattle.node_events.specs.Serving.{subscribed_after};
 ghost use Rattle.sed_node.specs.Subscribing.{IsSmall};
 
@@ -14,14 +14,14 @@ use sox_events::laws::subscribing_keeps_agreement;
 use sox_serve::Served;
 
 /// Subscribes and unsubscribes what a command from a place asks, once it has left an application. Where the marks
-/// agreed with what was subscribed, they still do.
+/// agreed with what was subscribed at every id, they still do.
 pub fn subscribe_as<E: Engine>(subs: &mut Subs, app: &App<E>, place: u8, asks: Served)
     requires place { place < 16 }
     requires small { IsSmall asks }
     ensures after { subscriptions subs.new
         ≡ subscribed_after asks place (application_of E.Engine app.now) (subscriptions subs.old) }
-    ensures agree { MarksAgree E.Engine app.now (subscriptions subs.old)
-        → MarksAgree E.Engine app.now (subscriptions subs.new) }
+    ensures agree { AllMarksAgree E.Engine app.now (subscriptions subs.old)
+        → AllMarksAgree E.Engine app.now (subscriptions subs.new) }
     ensures room { (part : PartOf) → room_for subs.new part ≡ room_for subs.old part }
 {
     events_are_of_the_application::<E>();

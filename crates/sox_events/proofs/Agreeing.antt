@@ -10,7 +10,7 @@ use Rattle.link_prop.specs.Linked.{Linked}
 use Rattle.sub_table.specs.declared.part.Part.{Part}
 use Rattle.sub_table.specs.Parts.{is_part}
 use Rattle.sub_table.specs.Table.{Subscriptions, is_at}
-use Rattle.sox_events.specs.Due.{Gives, MarksAgree, Passes, Those, bytes_of, differs, is_due, is_due_after, is_watched, lives, marked, only}
+use Rattle.sox_events.specs.Due.{AllMarksAgree, Gives, MarksAgree, Passes, Those, bytes_of, differs, is_due, is_due_after, is_watched, lives, marked, only}
 use Rattle.sox_events.proofs.OnePart.{meant}
 use Rattle.sox_events.proofs.Passing.{bytes_on}
 
@@ -32,7 +32,7 @@ same_bytes l m bytes now el em e =
 
 module _ {E : Type 0} (g : Ghosts E) (a b : Linked E) (subs : Subscriptions) (place : ℕ) where
   -- a part with a last event and no mark now: it had none before, or it was passed, so it was not due
-  agrees_here : (k : Bool) (i : ℕ) (q : Part) (bytes : List ℕ) → MarksAgree g a subs → subs place i q ≡ Some (Some bytes)
+  agrees_here : (k : Bool) (i : ℕ) (q : Part) (bytes : List ℕ) → AllMarksAgree g a subs → subs place i q ≡ Some (Some bytes)
       → marked b place i q ≡ cond (k && is_watched g a subs place i q) false (marked a place i q)
       → (k ≡ true → is_due g a subs place i q ≡ false) → marked b place i q ≡ false → bytes_of g a i q ≡ bytes
   agrees_here k i q bytes agree e em passed clear = elim (cases_Bool (marked a place i q)) [
@@ -44,7 +44,7 @@ module _ {E : Type 0} (g : Ghosts E) (a b : Linked E) (subs : Subscriptions) (pl
         (sym (ap (λ (o : Option (Option (List ℕ))). option_map_or (is_due_after g a place i q) o false) e) ∙ passed both.0)
   ]
 
-  agrees_still : (k : ℕ → Bool) (p i : ℕ) (q : Part) (bytes : List ℕ) → MarksAgree g a subs → subs p i q ≡ Some (Some bytes)
+  agrees_still : (k : ℕ → Bool) (p i : ℕ) (q : Part) (bytes : List ℕ) → AllMarksAgree g a subs → subs p i q ≡ Some (Some bytes)
       → marked b p i q ≡ cond ((p == place && k p) && is_watched g a subs place i q) false (marked a p i q)
       → (p ≡ place → k p ≡ true → is_due g a subs place i q ≡ false) → marked b p i q ≡ false → bytes_of g a i q ≡ bytes
   agrees_still k p i q bytes agree e em passed clear = elim (cases_Bool (p == place)) [
@@ -60,7 +60,7 @@ module _ {E : Type 0} (g : Ghosts E) (a b : Linked E) (subs : Subscriptions) (pl
         (sym (em ∙ ap (λ (t : Bool). cond ((t && k p) && is_watched g a subs place i q) false (marked a p i q)) other) ∙ clear)
   ]
 
-  pub passing_agrees : (passed : Those) → Passes g a b subs place passed → MarksAgree g a subs → MarksAgree g b subs
+  pub passing_agrees : (passed : Those) → Passes g a b subs place passed → AllMarksAgree g a subs → AllMarksAgree g b subs
   passing_agrees passed w agree p i q bytes e clear =
       bytes_on g a b w.stays w.meaning i q
       ∙ agrees_still (λ n. passed i q) p i q bytes agree e (w.marks p i q) (λ here inside. w.none i q inside) clear
@@ -77,7 +77,7 @@ passed_then false o e out = absurd (let wrong : true ≡ false = sym e ∙ out i
 
 module _ {E : Type 0} (g : Ghosts E) (a b : Linked E) (subs after : Subscriptions) (place : ℕ) (passed : Those) (id : ℕ) (part : Part) (count : ℕ) (into now : List ℕ)
     (w : Gives g a b subs after place passed id part count into now) where
-  pub giving_agrees : MarksAgree g a subs → MarksAgree g b after
+  pub giving_agrees : AllMarksAgree g a subs → AllMarksAgree g b after
   giving_agrees agree p i q bytes e clear =
       bytes_on g a b w.stays w.meaning i q ∙ elim (cases_Bool (is_at place id p i && is_part part q)) [
         | inl given ↦
@@ -97,21 +97,22 @@ module _ {E : Type 0} (g : Ghosts E) (a b : Linked E) (subs after : Subscription
 
 -- ---- what differs
 
-same_verdict : (o : Option (Option (List ℕ))) (l m : Bool) (now : List ℕ) → ((bytes : List ℕ) → o ≡ Some (Some bytes) → m ≡ false → now ≡ bytes)
+same_verdict : (o : Option (Option (List ℕ))) (l m : Bool) (now : List ℕ) → ((bytes : List ℕ) → l ≡ true → o ≡ Some (Some bytes) → m ≡ false → now ≡ bytes)
     → option_map_or (λ (last : Option (List ℕ)). l && option_map_or (λ (b : List ℕ). m && not (pointwise nat_eq b now)) last true) o false
     ≡ option_map_or (λ (last : Option (List ℕ)). l && option_map_or (λ (b : List ℕ). not (pointwise nat_eq b now)) last true) o false
 same_verdict None l m now agree = refl
 same_verdict (Some None) l m now agree = refl
-same_verdict (Some (Some bytes)) l true now agree = refl
-same_verdict (Some (Some bytes)) l false now agree =
-    ap (λ (b : Bool). l && b) (sym (ap (λ (b : List ℕ). not (pointwise nat_eq bytes b)) (agree bytes refl refl) ∙ ap not (itself bytes)))
+same_verdict (Some (Some bytes)) false m now agree = refl
+same_verdict (Some (Some bytes)) true true now agree = refl
+same_verdict (Some (Some bytes)) true false now agree =
+    ap (λ (b : Bool). true && b) (sym (ap (λ (b : List ℕ). not (pointwise nat_eq bytes b)) (agree bytes refl refl refl) ∙ ap not (itself bytes)))
   where
     itself : (bytes : List ℕ) → pointwise nat_eq bytes bytes ≡ true
     itself bytes = nat_list_eq_equiv.refl bytes
 
 module _ {E : Type 0} (g : Ghosts E) (a b : Linked E) (subs : Subscriptions) (place : ℕ) (agree : MarksAgree g a subs) where
-  due_differs : (i : ℕ) (q : Part) → is_due g a subs place i q ≡ differs g a subs place i q
-  due_differs i q = same_verdict (subs place i q) (lives g a i) (marked a place i q) (bytes_of g a i q) (λ bytes e clear. agree place i q bytes e clear)
+  pub due_differs : (i : ℕ) (q : Part) → is_due g a subs place i q ≡ differs g a subs place i q
+  due_differs i q = same_verdict (subs place i q) (lives g a i) (marked a place i q) (bytes_of g a i q) (λ bytes live e clear. agree place i q bytes live e clear)
 
   pub passed_same : (passed : Those) → Passes g a b subs place passed → (i : ℕ) (q : Part) → passed i q ≡ true → differs g a subs place i q ≡ false
   passed_same passed w i q inside = sym (due_differs i q) ∙ w.none i q inside

@@ -83,10 +83,18 @@ is_last bytes kept = option_map_or (λ last. pointwise nat_eq last bytes) (unwra
 
 -- ---- agreement
 
--- the marks agree with the subscriptions: each subscribed part that has a last event and no mark has the bytes of that
--- event. It is said of every id, so of those of live components
+-- the marks agree with the subscriptions: each subscribed part of a live component that has a last event and no mark has
+-- the bytes of that event
 abbrev pub MarksAgree : {E : Type 0} → Ghosts E → Linked E → Subscriptions → Type 0
 MarksAgree g a subs =
+    (place id : ℕ) (part : Part) (bytes : List ℕ) → lives g a id ≡ true → subs place id part ≡ Some (Some bytes)
+    → marked a place id part ≡ false
+    → bytes_of g a id part ≡ bytes
+
+-- they agree so of every id, be it live or not. This is what is kept from event to event: an id that is not live may
+-- come to be live, and what its marks tell is of what it had before
+abbrev pub AllMarksAgree : {E : Type 0} → Ghosts E → Linked E → Subscriptions → Type 0
+AllMarksAgree g a subs =
     (place id : ℕ) (part : Part) (bytes : List ℕ) → subs place id part ≡ Some (Some bytes)
     → marked a place id part ≡ false
     → bytes_of g a id part ≡ bytes

@@ -1,7 +1,7 @@
 use Rattle.std.proofs.Common.{◌≡◌, true, refl, sym, ◌∙◌, subst, take, arith}
 use Rattle.sed_engine.specs.Code.{Meaning}
 use Rattle.comp_tree.specs.Whole.{Whole}
-use Rattle.sox_events.specs.Due.{MarksAgree, all_of_them, before_it, subscriptions}
+use Rattle.sox_events.specs.Due.{AllMarksAgree, all_of_them, before_it, subscriptions}
 use Rattle.node_events.specs.Events.{Telling, bytes_of, told}
 use Rattle.sed_node.specs.Doing.{IsTold}
 use Rattle.sed_node.specs.Standing.{code_of}
@@ -34,7 +34,8 @@ events-preserved g c =
     let subs = subscriptions c.events.self.subs in
     let what = c.events_are_of_what_differs.ensures.event c.events.self.app c.next_event.new.app subs
     (subscriptions c.next_event.new.self) place (before_it id part) id part
-    c.in-Some.count c.events.text c.next_event.new.into gives i.is_kept.agree in
+    c.in-Some.count c.events.text c.next_event.new.into gives
+    (c.agreement_is_of_the_live.ensures c.events.self.app subs i.is_kept.agree) in
     let new : Kept _ = record {
       app = c.next_event.new.app;
       sessions = c.post.new.self;
@@ -79,7 +80,7 @@ returns-in-None-clause-is_kept g c =
     let none = c.in-None.ensures.event in
     kept_by g.E.Engine c.events.self _ i.is_kept none.0.meaning
     (subst (Whole (code_of g.E.Engine c.events.self)) (sym none.0.stays) i.is_kept.whole)
-    (subst (MarksAgree g.E.Engine c.next_event.new.app) (sym none.1)
+    (subst (AllMarksAgree g.E.Engine c.next_event.new.app) (sym none.1)
     (c.events_keep_agreement.ensures.none c.events.self.app c.next_event.new.app (subscriptions c.events.self.subs)
     c.args.place all_of_them none.0 i.is_kept.agree))
     c.next_event.ensures.room refl
@@ -97,7 +98,8 @@ returns-in-None-clause-told g c = λ start is only.
     let r = i.told start is only in
     let new : Kept _ = record c.events.self { app = c.next_event.new.app; subs = c.next_event.new.self } in
     let nothing = c.events_are_of_what_differs.ensures.none c.events.self.app c.next_event.new.app
-    (subscriptions c.events.self.subs) c.args.place all_of_them none.0 i.is_kept.agree in
+    (subscriptions c.events.self.subs) c.args.place all_of_them none.0
+    (c.agreement_is_of_the_live.ensures c.events.self.app (subscriptions c.events.self.subs) i.is_kept.agree) in
     subst (λ (t : Telling). IsTold g.E.Engine new t c.events.out)
     (all_told_by_none g.E.Engine c.events_are_of_the_application.ensures.bytes
     c.events_are_of_the_application.ensures.due (code_of g.E.Engine c.args.self.now) c.events.self i.same.code
