@@ -9,8 +9,8 @@ ghost use Rattle.sed_classes.specs.MemberRules as rules;
 
 use sed_classes::{
     Based, Classes, Entry, SourceType, has_body, has_name, is_abstract_class, is_action,
-    is_argument_type, is_method, is_open, is_property, is_property_type, is_same_type,
-    is_unknown, is_void, overrides, params_of, says_abstract, says_virtual,
+    is_argument_type, is_method, is_open, is_property, is_property_type, is_same_type, is_unknown,
+    is_void, overrides, params_of, says_abstract, says_virtual,
 };
 use sed_faults::{Fault, broken_if};
 use sed_units::{Class, Member, Param};

@@ -10,7 +10,7 @@ pub returns : goal.returns
 returns c = λ d at.
     c.broken_if.ensures
     ∙ ap (λ taken. least (broken_if taken 4 c.args.member.now.at)) (
-      c.declares_before-taken.ensures
-      ∙ ap (λ bytes. list_any (has_name bytes) (take c.args.number (option_map_or (λ d. d.class.members) (class_at c.args.classes.now c.args.class) []))) c.as_slice.ensures
-      ∙ ap (λ found. list_any (has_name c.args.member.now.name.bytes) (take c.args.number (option_map_or (λ d. d.class.members) found []))) at
+    c.declares_before-taken.ensures
+    ∙ ap (λ bytes. list_any (has_name bytes) (take c.args.number (option_map_or (λ d. d.class.members) (class_at c.args.classes.now c.args.class) []))) c.as_slice.ensures
+    ∙ ap (λ found. list_any (has_name c.args.member.now.name.bytes) (take c.args.number (option_map_or (λ d. d.class.members) found []))) at
     )
