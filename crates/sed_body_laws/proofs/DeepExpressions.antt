@@ -80,7 +80,7 @@ stored_by_fits : {F : Type 0} (m : Marks F) (k : Names) (a : Option Arithmetic) 
 stored_by_fits m k None at may right n h d g x y nests f j = assigned_fits m k.below n h g d at may right x y nests f j
 stored_by_fits m k (Some a) at may right n h d g x y nests f j = compound_fits m a n h g d at may right x y nests f j
 
-first_sound : {F : Type 0} (P : Term → Type 0) (f : Before) (x : Judged Term F) (y : TypeNo →
+pub first_sound : {F : Type 0} (P : Term → Type 0) (f : Before) (x : Judged Term F) (y : TypeNo →
     Judged Term F) (z : Judged Term F) → IfSound x P → ((c : TypeNo) → IfSound (y c) P) → IfSound z P
     → IfSound (first_by f x y z) P
 first_sound P Value x y z a b c = a

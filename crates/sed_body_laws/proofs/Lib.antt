@@ -18,3 +18,11 @@ pub mod Slots
 pub mod Storable
 pub mod Beginning
 pub mod Bodies
+mod NeatRules
+mod NeatMembers
+mod NeatExpressions
+mod NeatStatements
+mod Vectors
+mod Chains
+mod ExprTrees
+mod StmtTrees

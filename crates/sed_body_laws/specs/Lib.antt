@@ -4,3 +4,5 @@ pub mod NestedBodies
 pub mod TermHeight
 pub mod Declared
 pub mod Bodies
+pub mod Neat
+pub mod Trees

@@ -4,13 +4,19 @@
 //! is unknown only with a fault. `specs/Nesting` counts the constructs that are open at a place of a source, and
 //! `specs/Levels` how high its typed tree may be. What the grammar derives nests at most 64 deep, and so its typed
 //! trees are at most 2,080 levels high; the judgement of bodies makes no construct of its own, so a sound body nests at
-//! most as deep as its source. Each law is the contract of a function that does nothing.
+//! most as deep as its source.
+//!
+//! A body in which no rule is broken has a tree, as far as a memory holds it: what it comes to is known and typed,
+//! nothing stands in it beside the parts of its nodes, and such a term is that of a flat tree. Each law is the contract
+//! of a function that does nothing.
 #![tactic(auto)]
 
 mod depth_laws;
 pub mod laws;
 mod nesting_laws;
+mod tree_laws;
 
 pub use depth_laws::{judged_bodies_are_shallow, sound_bodies_are_shallow};
 pub use laws::{judged_methods_are_typed, sound_bodies_are_bodies};
 pub use nesting_laws::derived_bodies_are_shallow;
+pub use tree_laws::{faultless_bodies_have_trees, judged_bodies_are_neat, typed_terms_have_trees};
