@@ -7,8 +7,8 @@
 //!
 //! Which inline objects would stand in themselves, of which classes there are none, and how many bytes an object of a
 //! class takes, is asked of all classes at once, in rounds: each goes one object deeper, until nothing changes or there
-//! are as many rounds as classes. What holds no object, or only such as are settled, is settled before. So nothing goes
-//! deeper on the stack than a call, however objects stand in one another.
+//! are as many rounds as classes. So nothing goes deeper on the stack than a call, however objects stand in one
+//! another.
 #![tactic(auto)]
 
 mod class_slots;
@@ -21,7 +21,6 @@ mod objects;
 mod order;
 mod rows;
 mod schema;
-mod settled;
 mod sizes;
 
 pub use class_slots::{shape_of, slots};
