@@ -51,15 +51,14 @@ fn member_name_fault(
     number: usize,
     member: &Member,
 ) -> Option<Fault>
-    requires lineage { lineage.now ≡ ancestry.lineage based.now class }
-    requires entry { class_at based.now class ≡ Some (declaration_of entry.now) }
+    requires { lineage.now ≡ ancestry.lineage based.now class }
     ensures { result ≡ least (faults.member_name_faults based.now class (declaration_of entry.now) number member.now) }
 {
     let classes = based.classes();
     let bases = behind_first(lineage);
     let names = joined(
         type_without_class(classes, entry.kit, &member.kind),
-        name_repeated(classes, class, number, member),
+        name_repeated(entry, number, member),
     );
     let inherited = joined(names, inherited_name_taken(classes, class, bases, member));
     joined(
@@ -92,8 +91,7 @@ fn member_fault(
     number: usize,
     member: &Member,
 ) -> Option<Fault>
-    requires lineage { lineage.now ≡ ancestry.lineage based.now class }
-    requires entry { class_at based.now class ≡ Some (declaration_of entry.now) }
+    requires { lineage.now ≡ ancestry.lineage based.now class }
     ensures { result ≡ least (faults.member_form_faults based.now class (declaration_of entry.now) number member.now) }
 {
     let own = joined(
@@ -112,8 +110,7 @@ fn members_fault(
     lineage: &[usize],
     entry: &Entry<'_>,
 ) -> Option<Fault>
-    requires lineage { lineage.now ≡ ancestry.lineage based.now class }
-    requires entry { class_at based.now class ≡ Some (declaration_of entry.now) }
+    requires { lineage.now ≡ ancestry.lineage based.now class }
     ensures { result ≡ least (said_from (faults.member_form_faults based.now class (declaration_of entry.now))
         0 entry.now.class.now.members) }
 {
