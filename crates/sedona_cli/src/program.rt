@@ -84,12 +84,12 @@ fn command<F: Files, L: Link, C: Clock, D: Disk, O: Sink>(
 /// | 0 | all was done |
 /// | 1 | exactly where the words are outside the table of words |
 /// | 2 | exactly where a manifest or a source is refused, the kits break a rule, or a method is too long |
-/// | 3 | only where a read of a file, or the write of the output file, failed in this call, and there always |
+/// | 3 | only where a read of a file or the write of the output file failed in this call, and there 3 or 7 comes |
 /// | 4 | only where the disk failed while the store was attached, made or opened |
 /// | 5 | exactly where the store's file is refused: not empty, for `new`; without an application, for the others |
 /// | 6 | exactly where the bytes of an image's file are no image, or a rule of the verifier is broken |
 /// | 7 | where memory was wanted, whatever else holds |
-/// | 8 | only where the sink failed as the text of status 0 was put, and there always; `replay` stops then |
+/// | 8 | only where the sink failed as the text of status 0 was put, and there 8 or 7 comes; `replay` stops then |
 /// | 9 | exactly where the bytes of a record's file are no record |
 /// | 10 | only where the link failed as `run` or `boot` asked for its port |
 /// | 11 | exactly where a users file is outside its grammar or lacks `gen`'s user, or a secret has under 20 bytes |
