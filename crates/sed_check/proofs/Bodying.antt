@@ -58,7 +58,7 @@ result_used units f e is =
     (result_kind units (kit_of units e.owned.class) e.owned.member)
     ∙ sym (ap (λ kit. result_kind units kit e.owned.member) is.2)
 
-head_of : (units : List KitUnits) (program : Program) → AreFree units → (e : MethodAt) (m : Method) →
+pub head_of : (units : List KitUnits) (program : Program) → AreFree units → (e : MethodAt) (m : Method) →
     IsMemberAt units e → IsHead units e m → IsTypedHead program m →
     IsHeadOf program (names_of units e.owned.kit) (enclosing_of units e) (form_params e.owned.member.form) m
 head_of units program f e m at h t = record {

@@ -32,3 +32,6 @@ pub mod Loads
 pub mod Ends
 pub mod KitsUnits
 pub mod Alike
+mod Outlines
+mod BodyTrees
+mod SpelledProgram

@@ -1,5 +1,5 @@
 -- The methods of a program beside the members that declare them and the trees of their bodies.
-use Rattle.std.proofs.Common.{◌≡◌, ℕ, zero, suc, List, [], ◌∷◌, map, slice_get, Option, Some, None, refl, sym, ◌∙◌, subst}
+use Rattle.std.proofs.Common.{◌≡◌, ℕ, zero, suc, true, List, [], ◌∷◌, map, slice_get, Option, Some, None, refl, sym, ◌∙◌, subst}
 use Rattle.std.specs.List.{enumerate_from}
 use Rattle.std.specs.Option.{option_map}
 use Rattle.std.proofs.lemmas.Option.{slice_get-map}
@@ -14,11 +14,11 @@ use Rattle.sed_check.specs.Bodies.{AreBodies, IsBodyOf}
 
 -- ---- the member that a method is
 
--- it stands among the members of its class, and has the kit of that
+-- it stands among the members of its class, has the kit of that, and is a method
 abbrev pub IsMemberAt : List KitUnits → MethodAt → Type 0
 IsMemberAt units e =
     (at : ℕ) × (slice_get (members_of units e.owned.class) at ≡ Some e.owned.member)
-    × (e.owned.kit ≡ kit_of units e.owned.class)
+    × (e.owned.kit ≡ kit_of units e.owned.class) × (is_method e.owned.member ≡ true)
 
 member_in : (units : List KitUnits) (c : ℕ × ℕ) (j : ℕ) (e : MethodAt) → slice_get (methods_in units c) j ≡ Some e →
     IsMemberAt units e
@@ -38,7 +38,7 @@ member_in units c j e h =
         subst
         (IsMemberAt units)
         (some_is (record { class = c.0; owned = owned c.1 (kit_of units c.1) m }) e g)
-        (there.0, there.1, refl)
+        (there.0, there.1, refl, there.2)
 
 pub member_at : (units : List KitUnits) (i : ℕ) (e : MethodAt) → slice_get (methods_of units) i ≡ Some e →
     IsMemberAt units e

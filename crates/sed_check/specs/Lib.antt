@@ -8,3 +8,4 @@ pub mod Means
 pub use Rattle.kit_sources.specs.Sources
 pub mod Refusals
 pub mod Loading
+pub mod Short

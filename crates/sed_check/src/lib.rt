@@ -9,7 +9,7 @@
 //! in the order of the program's methods; `elaborate` puts what is declared and what stands in bodies together. That
 //! the program is typed is a law, and rests on others: what is read of sources has names, literals and texts as
 //! checking asks of units; what names mean in units is what the program has that they spell; and what units without a
-//! fault declare is typed.
+//! fault declare is typed. That units without a fault have such a program is a law of its own.
 #![tactic(auto)]
 
 mod bodies;
@@ -26,6 +26,7 @@ mod meant_laws;
 mod member;
 mod numbers;
 mod outcomes;
+mod program_laws;
 mod read_laws;
 mod refusal;
 mod runnable_laws;
@@ -41,6 +42,7 @@ pub use loading::{load_kits, load_text};
 pub use meant_laws::{
     a_body_stands_in_what_is_meant, defines_have_values, names_mean_what_a_program_has,
 };
+pub use program_laws::accepted_units_have_a_program;
 pub use read_laws::units_are_read;
 pub use refusal::KitsRefusal;
 pub use runnable_laws::first_classes_run;
