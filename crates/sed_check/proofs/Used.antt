@@ -1,5 +1,5 @@
 -- Where no class breaks a rule, a use of a member finds what its type says.
-use Rattle.std.proofs.Common.{◌≡◌, ℕ, Bool, true, false, ◌||◌, if◌then◌else◌, List, [], ◌∷◌, map, slice_get, Option, Some, None, refl, sym, ap, ◌∙◌}
+use Rattle.std.proofs.Common.{◌≡◌, ℕ, Bool, true, false, ◌||◌, if◌then◌else◌, List, [], ◌∷◌, map, slice_get, Option, Some, None, refl, ap, ◌∙◌}
 use Rattle.sed_units.specs.declared.leaves.Param.{Param}
 use Rattle.sed_units.specs.declared.classes.Member.{Member}
 use Rattle.sed_classes.specs.declared.kit_units.KitUnits.{KitUnits}
