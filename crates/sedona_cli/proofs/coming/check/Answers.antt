@@ -6,7 +6,7 @@ use Rattle.sedona_cli.proofs.coming.check.Goals as goal
 
 pub returns-in-Ok-done_text : goal.returns-in-Ok-done_text
 returns-in-Ok-done_text g c =
-    comes_done g.F.Files c.args.files.now c.kits_program.new.files (KitsGenerated (texts c.args.names.now)) (λ p. done_text) c.in-Ok.field-0 c.kits_program.result c.in-Ok-done_text.text
+    comes_done g.F.Files c.args.files.now c.kits_program.new.files (KitsGenerated (texts c.args.names.now)) (λ p. done_text) c.in-Ok.program c.kits_program.result c.in-Ok-done_text.text
     c.in-Ok.is c.kits_program.ensures c.in-Ok-done_text.ensures
 
 pub returns-in-Err-done_text : goal.returns-in-Err-done_text
