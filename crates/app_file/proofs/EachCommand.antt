@@ -2,6 +2,7 @@
 use Rattle.std.proofs.Common.{ℕ, ℤ, ◌≡◌, ◌≤◌, false, subst}
 use Rattle.std.specs.Prelude.{IsTrue, List, ◌∷◌, Ok, Result, ◌==◌, length}
 use Rattle.std.specs.List.{All, list_any}
+use Rattle.sed_value.specs.declared.refusal.Refusal.{Refusal}
 use Rattle.sed_value.specs.declared.value.Value.{Value}
 use Rattle.sed_engine.specs.Code.{Meaning, Object, is_creatable, may_store, new_object, with_slot}
 use Rattle.sed_engine.specs.Whole.{IsObject, IsWhole}
@@ -50,7 +51,7 @@ module _ (m : Meaning) (code : IsWhole m) (stored : (o : Object) (slot : ℕ) (v
   whole_edit (Unsubscribe id) bytes done = after _ (allowed _ _ e done).1 whole
   whole_edit Version bytes done = after _ (same _ _ done) whole
     where
-      same : (x y : Edited) → ◌≡◌ {A = Result Edited ℕ} (Ok x) (Ok y) → x ≡ y
+      same : (x y : Edited) → ◌≡◌ {A = Result Edited Refusal} (Ok x) (Ok y) → x ≡ y
       same x y is = cc
   whole_edit (Write id slot value) bytes done =
       let may = allowed _ _ e done in after _ may.1 (whole_write m code stored a whole id slot value turns moment bytes may.0)

@@ -4,11 +4,12 @@ use Rattle.std.specs.Prelude.{Option, Some, None, slice_get}
 use Rattle.std.specs.FinMap as map
 use Rattle.std.proofs.lemmas.Bool.{cases_order}
 use Rattle.sed_value.specs.declared.kit.KitRef.{KitRef}
+use Rattle.sed_typed.specs.Spelled.{CanBeTold}
 use Rattle.sed_engine.specs.Code.{Meaning}
 use Rattle.sed_engine.specs.Whole.{HasTables}
 use Rattle.comp_tree.specs.Application.{Application}
 use Rattle.comp_tree.specs.Limits.{limit_passed}
-use Rattle.app_file.specs.Reading.{CanBeTold, DifferAt, HasWrongKits, IsFile, IsFront, IsNoFile, IsOverLimit, IsReadAs, Reading, StandsFor, no_file, wrong_kits, over_limit, file}
+use Rattle.app_file.specs.Reading.{DifferAt, HasWrongKits, IsFile, IsFront, IsNoFile, IsOverLimit, IsReadAs, Reading, StandsFor, no_file, wrong_kits, over_limit, file}
 use Rattle.app_file.specs.Rows.{rows_of}
 use Rattle.app_file.specs.Text.{IsTextOf, body_text, greatest_of}
 use Rattle.app_file.proofs.FrontsOfFiles.{one_front}

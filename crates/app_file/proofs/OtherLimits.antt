@@ -1,5 +1,6 @@
 -- What is read under one data limit is read under another.
 use Rattle.std.proofs.Common.{◌≡◌, ℕ, ◌≤◌, inl, inr, List, refl, sym, subst, ap, arith}
+use Rattle.sed_typed.specs.Spelled.{CanBeTold}
 use Rattle.disk_model.specs.Disk.{Image}
 use Rattle.app_save.specs.Store.{IsStore, Opens as OpensTo}
 use Rattle.sed_engine.specs.Code.{Meaning}
@@ -8,7 +9,7 @@ use Rattle.comp_tree.specs.Application.{Application}
 use Rattle.comp_tree.specs.Whole.{IsFormed, Whole}
 use Rattle.comp_tree.specs.Limits.{under}
 use Rattle.app_file.specs.Opens.{Opens}
-use Rattle.app_file.specs.Reading.{CanBeTold, IsFile, StandsFor}
+use Rattle.app_file.specs.Reading.{IsFile, StandsFor}
 use Rattle.app_file.specs.Text.{IsTextOf}
 use Rattle.app_file.proofs.OneApplication.{one_application}
 

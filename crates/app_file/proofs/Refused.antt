@@ -2,7 +2,6 @@
 use Rattle.std.proofs.Common.{ℕ, ◌≡◌, Bool, true, false, refl}
 use Rattle.std.specs.Prelude.{Option, Some, None, Result, Ok, Err, IsTrue, not, List, [], ◌∷◌, if◌then◌else◌}
 use Rattle.sed_value.specs.declared.refusal.Refusal.{Refusal}
-use Rattle.sed_value.specs.Refusal.{number_of_refusal}
 use Rattle.comp_tree.specs.Edit.{Edited, unless_refused}
 use Rattle.comp_tree.specs.Refusals.{first_refusal}
 
@@ -11,7 +10,7 @@ pub allowed : (r : Option Refusal) (x e : Edited) → unless_refused r x ≡ Ok 
 allowed None x e is = (refl, let same : x ≡ e = cc in same)
 allowed (Some refusal) x e is = absurd (no refusal is)
   where
-    no : (refusal : Refusal) → ◌≡◌ {A = Result Edited ℕ} (Err (number_of_refusal refusal)) (Ok e) → ⊥
+    no : (refusal : Refusal) → ◌≡◌ {A = Result Edited Refusal} (Err refusal) (Ok e) → ⊥
     no refusal is = cc
 
 -- ---- a table of which no row holds

@@ -5,8 +5,6 @@ use Rattle.std.specs.Int.{w32}
 use Rattle.sed_value.specs.Names.{is_kit_name}
 use Rattle.sed_value.specs.Value.{is_signed}
 use Rattle.sed_value.specs.declared.kit.KitRef.{KitRef}
-use Rattle.sed_typed.specs.declared.schema.ClassInfo.{ClassInfo}
-use Rattle.sed_typed.specs.declared.schema.Schema.{Schema}
 use Rattle.sed_engine.specs.Code.{Meaning}
 use Rattle.comp_tree.specs.Application.{Application}
 use Rattle.comp_tree.specs.Parts.{Kept}
@@ -98,12 +96,3 @@ IsRefusedFor m limit bytes (NotAnApp at) = IsReadAs m limit bytes no_file
 IsRefusedFor m limit bytes (WrongKits place in_file in_kits) = IsReadAs m limit bytes (wrong_kits place in_file in_kits)
 IsRefusedFor m limit bytes (OverLimit which) = IsReadAs m limit bytes (over_limit which)
 IsRefusedFor m limit bytes Memory = Unit {0}
-
--- ---- schemas
-
--- the kits and types of a schema are of the forms in which a file tells them, as in each that a program holds: names
--- of kits, checksums of 32 bits, numbers of types that are bytes
-pub record CanBeTold (schema : Schema) : Type 0 where
-  pub names : All (λ kit. IsTrue (is_kit_name kit.name)) schema.kits
-  pub checksums : All (λ kit. IsTrue (is_signed w32 kit.checksum)) schema.kits
-  pub numbers : All (λ (c : ClassInfo). c.number < 256) schema.classes

@@ -1,6 +1,7 @@
 //! Laws of the texts of applications. Each is the contract of a function that does nothing.
 ghost use Rattle.std.specs.Prelude.{◌≡◌, ◌≤◌, ℕ, List};
 ghost use Rattle.sed_value.specs.declared.kit.KitRef.{KitRef};
+ghost use Rattle.sed_typed.specs.Spelled.{CanBeTold};
 ghost use Rattle.disk_model.specs.Disk.{Image};
 ghost use Rattle.sed_engine.specs.Code.{Meaning};
 ghost use Rattle.sed_engine.specs.Whole.{HasTables};
@@ -8,7 +9,7 @@ ghost use Rattle.comp_tree.specs.Application.{Application, Link, children_of};
 ghost use Rattle.comp_tree.specs.Whole.{IsFormed};
 ghost use Rattle.comp_tree.specs.Limits.{under};
 ghost use Rattle.app_file.specs.Opens.{Opens};
-ghost use Rattle.app_file.specs.Reading.{CanBeTold, IsFile, IsFront, IsReadAs, Reading, StandsFor};
+ghost use Rattle.app_file.specs.Reading.{IsFile, IsFront, IsReadAs, Reading, StandsFor};
 ghost use Rattle.app_file.specs.Rows.{Row, rows_of};
 ghost use Rattle.app_file.specs.Telling.{RowsAgree, told_application, told_by, told_text};
 ghost use Rattle.app_file.specs.Text.{AppText, HasShortNames, OldText, old_version, version};

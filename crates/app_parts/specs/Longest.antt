@@ -4,6 +4,7 @@ use Rattle.sed_typed.specs.declared.schema.ClassInfo.{ClassInfo}
 use Rattle.sed_typed.specs.declared.schema.Schema.{Schema}
 use Rattle.sed_typed.specs.declared.schema.SlotInfo.{SlotInfo}
 use Rattle.sed_typed.specs.Sizes.{value_size}
+use Rattle.sed_value.specs.declared.limits.TheConstants.{LONGEST_PART}
 use Rattle.app_parts.specs.Values.{is_told}
 use Rattle.app_parts.specs.declared.values.Values.{Values}
 use Rattle.app_parts.specs.declared.values.Values.TheVariants.{Config, Runtime}
@@ -21,7 +22,7 @@ longest_values which (class ∷ classes) = max (min 400 (values_size which class
 -- links, and f
 abbrev pub longest_part : Schema → ℕ → ℕ
 longest_part schema letter =
-    if letter == 116 then 438
+    if letter == 116 then LONGEST_PART
     else if letter == 99 then longest_values Config schema.classes
     else if letter == 114 then longest_values Runtime schema.classes
     else if letter == 108 then 362

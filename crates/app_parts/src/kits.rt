@@ -10,14 +10,12 @@ ghost use Rattle.app_parts.specs.Told.{checksum_bytes, kits_bytes, most_kits};
 use crate::put::put_text;
 use sed_typed::Schema;
 use sed_value::KitRef;
+use sed_value::limits::LONGEST_SCHEMA;
 use sed_wire::Writer;
-
-/// How many bytes the kits of a schema have at most.
-pub const LONGEST_SCHEMA: usize = 465;
 
 /// Puts the kits of a schema in front of `into`: how many there are, at most 16, and the name and the checksum of each.
 /// It says how many bytes these are; what stood behind them stays.
-pub fn write_schema(schema: &Schema, into: &mut [u8; 465]) -> usize
+pub fn write_schema(schema: &Schema, into: &mut [u8; LONGEST_SCHEMA]) -> usize
     requires { length schema.now.kits ≤ most_kits }
     ensures kits { Puts (kits_bytes schema.now.kits) result into.old into.new }
     ensures schema { (m : Meaning) → m.schema ≡ schema.now → Puts (schema_bytes m) result into.old into.new }
@@ -27,12 +25,12 @@ pub fn write_schema(schema: &Schema, into: &mut [u8; 465]) -> usize
     writer.done()
 }
 
-/// Puts the kits of a schema, at most 16, behind what a writer has written: at most 465 bytes.
+/// Puts the kits of a schema, at most 16, behind what a writer has written: at most `LONGEST_SCHEMA` bytes.
 pub fn put_kits(writer: &mut Writer, schema: &Schema)
     requires few { length schema.now.kits ≤ most_kits }
-    requires room { 465 ≤ room writer.old }
+    requires room { LONGEST_SCHEMA ≤ room writer.old }
     ensures bytes { Appends writer.old writer.new (kits_bytes schema.now.kits) }
-    ensures short { length (kits_bytes schema.now.kits) ≤ 465 }
+    ensures short { length (kits_bytes schema.now.kits) ≤ LONGEST_SCHEMA }
 {
     let kits = schema.kits.as_slice();
     writer.put_u1(kits.len() as u8);

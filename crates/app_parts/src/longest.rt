@@ -7,14 +7,16 @@ ghost use Rattle.app_parts.specs.Values.{is_told};
 use crate::values::{Values, is_told_info};
 use sed_typed::{ClassInfo, Schema, SlotForm, SlotInfo};
 use sed_value::SlotType;
+use sed_value::limits::LONGEST_PART;
 
-/// How many bytes the part that a letter names has at most, of a component of any class of a schema: 438 for `t`, at
-/// most 400 for `c` and `r`, as the slots of the classes are, 362 for `l`, and 1 for `f`. No other letter names a part.
+/// How many bytes the part that a letter names has at most, of a component of any class of a schema: `LONGEST_PART` for
+/// `t`, at most 400 for `c` and `r`, as the slots of the classes are, 362 for `l`, and 1 for `f`. No other letter names
+/// a part.
 pub fn longest_part(schema: &Schema, part: u8) -> u16
     ensures { result ≡ longest_part schema.now part }
 {
     match part {
-        b't' => 438,
+        b't' => LONGEST_PART as u16,
         b'c' => longest_values(schema.classes.as_slice(), Values::Config),
         b'r' => longest_values(schema.classes.as_slice(), Values::Runtime),
         b'l' => 362,

@@ -17,15 +17,13 @@ use comp_tree::Entry;
 use link_prop::App;
 use sed_engine::Engine;
 use sed_value::Id;
+use sed_value::limits::LONGEST_PART;
 use sed_wire::Writer;
-
-/// How many bytes a part has at most.
-pub const LONGEST_PART: usize = 438;
 
 /// Puts the part of a component that a letter names in front of `into`, and says how many bytes it has, no more than
 /// any component of the code's schema may have; what stood behind it stays. The letters are `t`, `c`, `r`, `l` and `f`.
 /// For any other letter, and of an id that is not live, there is nothing to put.
-pub fn write_part<E: Engine>(app: &App<E>, id: Id, part: u8, into: &mut [u8; 438]) -> usize
+pub fn write_part<E: Engine>(app: &App<E>, id: Id, part: u8, into: &mut [u8; LONGEST_PART]) -> usize
     ensures bytes { Puts (part_bytes (E.meaning app.now.tree.engine) (application_of E.Engine app.now) id.0 part)
         result into.old into.new }
     ensures short { result ≤ longest_part (E.meaning app.now.tree.engine).schema part }
@@ -37,7 +35,7 @@ pub fn write_part<E: Engine>(app: &App<E>, id: Id, part: u8, into: &mut [u8; 438
 
 // Puts the part of a component that a letter names.
 fn put_part<E: Engine>(writer: &mut Writer, app: &App<E>, id: Id, part: u8)
-    requires { 438 ≤ room writer.old }
+    requires { LONGEST_PART ≤ room writer.old }
     ensures bytes { Appends writer.old writer.new
         (part_bytes (E.meaning app.now.tree.engine) (application_of E.Engine app.now) id.0 part) }
     ensures short { length (part_bytes (E.meaning app.now.tree.engine) (application_of E.Engine app.now) id.0 part)
@@ -53,7 +51,7 @@ fn put_part_told<E: Engine>(writer: &mut Writer, app: &App<E>, id: Id, entry: &E
     requires told { IsSomeAnd (map.get (components_of E.Engine app.now.tree).by_id id.0)
         (IsEntry (E.live app.now.tree.engine) entry.now) }
     requires few { entry.now.children ≤ most_children }
-    requires room { 438 ≤ room writer.old }
+    requires room { LONGEST_PART ≤ room writer.old }
     ensures bytes { Appends writer.old writer.new
         (part_bytes (E.meaning app.now.tree.engine) (application_of E.Engine app.now) id.0 part) }
     ensures short { length (part_bytes (E.meaning app.now.tree.engine) (application_of E.Engine app.now) id.0 part)

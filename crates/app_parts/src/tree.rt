@@ -11,18 +11,19 @@ use crate::put::{put_class, put_id, put_text};
 use comp_tree::{Entry, Tree};
 use sed_engine::Engine;
 use sed_value::Id;
+use sed_value::limits::LONGEST_PART;
 use sed_wire::Writer;
 
 /// Puts the class, the name, the parent, the permissions, which are always all, and the children of a component: at
-/// most 438 bytes.
+/// most `LONGEST_PART` bytes.
 pub fn put_tree_part<E: Engine>(writer: &mut Writer, tree: &Tree<E>, id: Id, entry: &Entry)
     requires children { entry.now.children ≡ length (children_of (components_of E.Engine tree.now).by_id id.0) }
     requires few { entry.now.children ≤ most_children }
-    requires room { 438 ≤ room writer.old }
+    requires room { LONGEST_PART ≤ room writer.old }
     ensures bytes { Appends writer.old writer.new
         (tree_bytes (E.meaning tree.now.engine) (components_of E.Engine tree.now).by_id id.0 entry.now) }
     ensures short { length (tree_bytes (E.meaning tree.now.engine) (components_of E.Engine tree.now).by_id
-        id.0 entry.now) ≤ 438 }
+        id.0 entry.now) ≤ LONGEST_PART }
 {
     put_class(writer, tree.schema(), entry.kind);
     put_text(writer, entry.name.as_bytes());

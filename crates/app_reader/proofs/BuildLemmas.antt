@@ -8,7 +8,7 @@ use Rattle.std.proofs.lemmas.List.{length-map}
 use Rattle.std.proofs.lemmas.Option.{slice_get-map}
 use Rattle.sed_engine.specs.Code.{Meaning, is_creatable}
 use Rattle.sed_engine.specs.Whole.{HasTables}
-use Rattle.comp_tree.specs.Application.{Application, ById, children_of, data_size_of, is_live, most_children, most_components, parent_of}
+use Rattle.comp_tree.specs.Application.{Application, ById, children_of, is_live, most_children, most_components, parent_of}
 use Rattle.comp_tree.specs.Loads.{AreToLoad, IsToLoad}
 use Rattle.comp_tree.specs.Shape.{IsTree}
 use Rattle.comp_tree.specs.declared.loaded.Loaded.{Loaded}
@@ -26,7 +26,7 @@ use Rattle.app_reader.specs.Ready.{AreReady, application_told, components_told}
 use Rattle.app_reader.specs.declared.ready.FormedRows.{FormedRows}
 use Rattle.app_reader.proofs.ClassLemmas.{app_creatable, other_creatable}
 use Rattle.app_reader.proofs.EntryLemmas.{loaded_are}
-use Rattle.app_reader.proofs.LimitLemmas.{AreLimitsTold, none_at, none_of_five, passes_none}
+use Rattle.app_reader.proofs.LimitLemmas.{AreLimitsTold, none_at, none_of_six, passes_none}
 
 -- ---- ids that ascend are apart
 
@@ -67,7 +67,7 @@ few_at lists each (Some k) = by_list (slice_get lists k) refl
 
 -- ---- each entry, and all of them
 
-module _ (m : Meaning) (tables : HasTables m) (rows : FormedRows) (ready : AreReady m rows) where
+module _ (m : Meaning) (limit : ℕ) (tables : HasTables m) (rows : FormedRows) (ready : AreReady m limit rows) where
   creatable : (k : ℕ) (r : FileRow) → slice_get rows.file.rows k ≡ Some r → IsTrue (is_creatable m r.kind.0)
   creatable zero r at =
       let app = of_some (IsAppRow m) (slice_get rows.file.rows 0) r ready.formed.app at in
@@ -78,24 +78,21 @@ module _ (m : Meaning) (tables : HasTables m) (rows : FormedRows) (ready : AreRe
 
   one_entry : (k : ℕ) (r : FileRow) → slice_get rows.file.rows k ≡ Some r → IsToLoad m (entry_of rows.file.rows rows.lists r)
   one_entry k r at =
-      let five = none_of_five _ _ _ _ _ ready.few in
+      let six = none_of_six _ _ _ _ _ _ ready.few in
       let places = places_of rows.file.rows rows.lists r.id.0 in
-      let few = few_at rows.lists (λ k list at. few_children (length list) (none_at (λ (list : List ℕ). nat_lt most_children (length list)) rows.lists k list five.3 at)) (place_of (tree_rows rows.file.rows) r.id.0) in
+      let few = few_at rows.lists (λ k list at. few_children (length list) (none_at (λ (list : List ℕ). nat_lt most_children (length list)) rows.lists k list six.3 at)) (place_of (tree_rows rows.file.rows) r.id.0) in
       let same : length (map_list (id_there rows.file.rows) places) ≡ length places = length-map places (id_there rows.file.rows) in
       record {
-        id = small_id r.id.0 (none_at (λ (t : TreeRow). nat_le most_components t.id) (tree_rows rows.file.rows) k (tree_row r) five.0 (slice_get-map tree_row rows.file.rows k ∙ ap (option_map tree_row) at));
+        id = small_id r.id.0 (none_at (λ (t : TreeRow). nat_le most_components t.id) (tree_rows rows.file.rows) k (tree_row r) six.0 (slice_get-map tree_row rows.file.rows k ∙ ap (option_map tree_row) at));
         creatable = creatable k r at;
         children = omega (arith, same, few);
         config = (at_each (IsToldRow m) rows.file.rows k r ready.told at).config;
       }
 
-  module _ (limits : AreLimitsTold m rows)
+  module _ (limits : AreLimitsTold m limit rows)
       (trees : (a : Application) → IsFormed m a → limit_passed m a ≡ None → IsTree (is_live a.components.by_id) (parent_of a.components.by_id) (children_of a.components.by_id)) where
-    -- how deep the components stand has nothing to do with the data limit, which may be as their data wants
     tree_of_rows : IsTree (is_live (components_told m rows)) (parent_of (components_told m rows)) (children_of (components_told m rows))
-    tree_of_rows =
-        let enough = data_size_of m (components_told m rows) in
-        trees (application_told m enough rows) (ready.application enough) (passes_none m rows limits enough ready.few (omega arith))
+    tree_of_rows = trees (application_told m limit rows) ready.application (passes_none m limit rows limits ready.few)
 
     pub are_to_load : AreToLoad m (entries_of rows.file.rows rows.lists)
     are_to_load = record {

@@ -19,3 +19,4 @@ pub mod LimitLemmas
 pub mod BuildLemmas
 pub mod ReadyLemmas
 pub mod WholeLemmas
+pub mod OverLemmas

@@ -1,11 +1,12 @@
 -- The limits of the application that rows tell.
-use Rattle.std.proofs.Common.{◌≡◌, ℕ, suc, Bool, true, List, [], ◌∷◌, ◌++◌, length, refl, ◌∙◌, ap, ap₂, arith}
-use Rattle.std.specs.Prelude.{Option, Some, ◌||◌, nat_le, nat_lt, slice_get, map as map_list}
+use Rattle.std.proofs.Common.{◌≡◌, ℕ, suc, Bool, true, List, [], ◌+◌, ◌∷◌, length, refl, sym, ◌∙◌, ap, ap₂, arith}
+use Rattle.std.specs.Prelude.{Option, Some, ◌||◌, nat_le, nat_lt, slice_get, sum_by, map as map_list}
 use Rattle.std.specs.Option.{option_map, option_map_or}
 use Rattle.std.specs.List.{list_any}
 use Rattle.std.specs.FinMap as map
 use Rattle.std.specs.FinMap.{is_sorted}
 use Rattle.std.specs.Ordering.{nat_cmp}
+use Rattle.std.proofs.lemmas.List.Sums.{sum_by-cons}
 use Rattle.std.proofs.lemmas.Option.{slice_get-map}
 use Rattle.sed_typed.specs.Classes.{reached}
 use Rattle.sed_engine.specs.Code.{Meaning}
@@ -16,7 +17,7 @@ use Rattle.app_front.specs.TreeRows.{Ascend, id_at, parent_in}
 use Rattle.app_front.specs.Tree.{children_in, list_at}
 use Rattle.app_front.specs.declared.tree_rows.TreeRow.{TreeRow}
 use Rattle.comp_tree.specs.Limits.{limits_passed}
-use Rattle.app_file.specs.Telling.{told_application, told_by, told_entries}
+use Rattle.app_file.specs.Telling.{told_application, told_by, told_component, told_entries}
 use Rattle.app_front.specs.Rows.{told_row}
 use Rattle.app_front.specs.declared.rows.FileRow.{FileRow}
 use Rattle.app_front.specs.declared.rows.FileRows.{FileRows}
@@ -24,7 +25,7 @@ use Rattle.app_reader.specs.FormedFile.{tree_row, tree_rows}
 use Rattle.app_reader.specs.Tells.{rows_told}
 use Rattle.app_reader.proofs.RowsById.{entries_are, keys_are, parent_of_is, sorted_of}
 use Rattle.app_front.proofs.TreePlaces.{found_place}
-use Rattle.app_reader.specs.Passed.{depth_in, passed_by}
+use Rattle.app_reader.specs.Passed.{data_of_rows, depth_in, passed_by}
 
 -- ---- lists
 
@@ -83,13 +84,26 @@ module _ (m : Meaning) (f : FileRows) (lists : List (List ℕ)) (limit : ℕ) (a
       ap (λ (es : List (ℕ × Component)). list_any (λ (c : Component). nat_lt most_children (length c.children)) (map_list (λ (e : ℕ × Component). e.1) es)) (entries_are m children f.rows sorted)
       ∙ many_by f.rows lists sizes list_of
 
-  pub limits_are : limits_passed m (told_application m children (rows_told f) f.links limit)
-      ≡ passed_by (tree_rows f.rows) lists f.links ++ (nat_lt limit (data_size_of m all), 6) ∷ []
+  -- ---- the data
+
+  sizes_by : (rows : List FileRow) → sum_by (λ (c : Component). m.data_size c.class) (map_list (λ (e : ℕ × Component). e.1) (told_entries m children (map_list told_row rows))) ≡ data_of_rows m rows
+  sizes_by [] = refl
+  sizes_by (r ∷ rows) =
+      sum_by-cons (λ (c : Component). m.data_size c.class) (told_component m (told_row r) (children r.id.0)) (map_list (λ (e : ℕ × Component). e.1) (told_entries m children (map_list told_row rows)))
+      ∙ ap (λ (n : ℕ). m.data_size r.kind.0 + n) (sizes_by rows)
+      ∙ sym (sum_by-cons (λ (r : FileRow). m.data_size r.kind.0) r rows)
+
+  sizes_are : data_size_of m all ≡ data_of_rows m f.rows
+  sizes_are =
+      ap (λ (es : List (ℕ × Component)). sum_by (λ (c : Component). m.data_size c.class) (map_list (λ (e : ℕ × Component). e.1) es)) (entries_are m children f.rows sorted)
+      ∙ sizes_by f.rows
+
+  pub limits_are : limits_passed m (told_application m children (rows_told f) f.links limit) ≡ passed_by m limit f.rows (tree_rows f.rows) lists f.links
   limits_are = λ i.
       (of_ids (λ id. nat_le most_components id) i, 1)
       ∷ (nat_lt most_links (length f.links), 2)
       ∷ (deep i, 3)
       ∷ (many i, 4)
       ∷ (of_ids (λ id. nat_lt most_links_at_component (length (links_at id f.links))) i, 5)
-      ∷ (nat_lt limit (data_size_of m all), 6)
+      ∷ (nat_lt limit (sizes_are i), 6)
       ∷ []

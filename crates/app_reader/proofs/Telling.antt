@@ -3,10 +3,11 @@ use Rattle.std.proofs.Common.{◌≡◌, ◌⊎◌, inl, inr, ℕ, List, ◌++�
 use Rattle.std.specs.Prelude.{map as map_list}
 use Rattle.std.specs.FinMap as map
 use Rattle.std.proofs.lemmas.List.Elements.{All-from_recursion}
+use Rattle.sed_typed.specs.Spelled.{CanBeTold}
 use Rattle.sed_engine.specs.Code.{Meaning}
 use Rattle.sed_engine.specs.Whole.{HasTables}
 use Rattle.comp_tree.specs.Application.{Application}
-use Rattle.app_file.specs.Reading.{CanBeTold, StandsFor}
+use Rattle.app_file.specs.Reading.{StandsFor}
 use Rattle.app_file.specs.Rows.{Row, rows_of}
 use Rattle.app_file.specs.Text.{HasShortNames, IsTextOf, body_text, file_text, front_text, greatest_of, old_version}
 use Rattle.app_front.specs.Rows.{AreRows}

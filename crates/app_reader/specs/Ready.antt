@@ -1,5 +1,5 @@
 -- Rows and links of a file that are ready to be made an application.
-use Rattle.std.specs.Prelude.{ℕ, ◌≡◌, List, length, None}
+use Rattle.std.specs.Prelude.{ℕ, ◌≡◌, Bool, List, length, None}
 use Rattle.std.specs.List.{All}
 use Rattle.sed_typed.specs.Contents.{Contents}
 use Rattle.sed_engine.specs.Code.{Meaning}
@@ -31,12 +31,15 @@ tree_with statics limit all = record { by_id = all; statics = statics; limit = l
 abbrev pub application_told : Meaning → ℕ → FormedRows → Application
 application_told m limit rows = told_application m (children_told rows) (rows_told rows.file) rows.file.links limit
 
--- rows and links hold together, and pass no limit but that of the data, which shows where components are made; so they
--- tell an application that is formed
-pub record AreReady (m : Meaning) (rows : FormedRows) : Type 0 where
+-- the limits that the rows and links pass, under a data limit
+abbrev pub passed_in : Meaning → ℕ → FormedRows → List (Bool × ℕ)
+passed_in m limit rows = passed_by m limit rows.file.rows (tree_rows rows.file.rows) rows.lists rows.file.links
+
+-- rows and links hold together, and pass no limit; so they tell an application that is formed
+pub record AreReady (m : Meaning) (limit : ℕ) (rows : FormedRows) : Type 0 where
   pub told : All (IsToldRow m) rows.file.rows
   pub formed : IsFormedFile m rows.file (children_told rows)
   pub size : length rows.lists ≡ length rows.file.rows
   pub within : StayWithin rows.lists
-  pub few : first_passed (passed_by (tree_rows rows.file.rows) rows.lists rows.file.links) ≡ None
-  pub application : (limit : ℕ) → IsFormed m (application_told m limit rows)
+  pub few : first_passed (passed_in m limit rows) ≡ None
+  pub application : IsFormed m (application_told m limit rows)

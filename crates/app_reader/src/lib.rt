@@ -28,7 +28,6 @@ mod reader;
 mod ready;
 mod row;
 mod rows;
-mod told;
 mod told_laws;
 
 pub use holding::{formed, tree_of};
@@ -40,7 +39,6 @@ pub use passed::limit_passed;
 pub use reader::read_app;
 pub use row::gives_its_values;
 pub use rows::greatest;
-pub use told::schema_can_be_told;
 pub use told_laws::{
     bytes_that_stand_are_rows, files_that_tell_are_formed, formed_files_tell, rows_that_tell_stand,
 };

@@ -6,34 +6,47 @@ ghost use Rattle.sub_table.specs.Links.{links_at};
 ghost use Rattle.comp_tree.specs.Limits.{first_passed};
 ghost use Rattle.app_front.specs.TreeRows.{Ascend};
 ghost use Rattle.app_front.specs.declared.tree_rows.TreeRow.{TreeRow as AnyRow};
-ghost use Rattle.app_reader.specs.Passed.{depth_in, passed_by};
+ghost use Rattle.app_reader.specs.Passed.{data_of_rows, depth_in, passed_by};
 
 use crate::depth::depth;
-use app_front::TreeRow;
+use app_front::{FileRow, TreeRow};
+use comp_tree::data_size;
+use sed_engine::Engine;
 use sed_value::Items;
 use sub_table::LinkRec;
 
 /// The number of the first limit that rows, the lists of their children and links pass: 1 an id of 4,096 or more, 2
 /// more than 8,192 links, 3 a row that stands more than 16 levels below the App's, 4 more than 200 children of one row,
-/// 5 more than 60 links at one. The ids of the rows ascend.
-pub fn limit_passed(rows: &[TreeRow], lists: &[Items<usize>], links: &[LinkRec]) -> Option<u8>
-    requires { Ascend rows.now }
-    ensures { result ≡ first_passed (passed_by rows.now lists.now links.now) }
+/// 5 more than 60 links at one, 6 more data of all rows than the engine's limit. `tree` is what the rows tell of the
+/// tree; their ids ascend.
+pub fn limit_passed<E: Engine>(
+    engine: &E,
+    rows: &[FileRow],
+    tree: &[TreeRow],
+    lists: &[Items<usize>],
+    links: &[LinkRec],
+) -> Option<u8>
+    requires { Ascend tree.now }
+    ensures { result ≡ first_passed (passed_by (E.meaning engine.now) (E.limit engine.now)
+        rows.now tree.now lists.now links.now) }
 {
-    if has_great_id(rows) {
+    if has_great_id(tree) {
         return Some(1);
     }
     if links.len() > 8192 {
         return Some(2);
     }
-    if has_deep(rows) {
+    if has_deep(tree) {
         return Some(3);
     }
     if has_many_children(lists) {
         return Some(4);
     }
-    if has_many_links(rows, links) {
+    if has_many_links(tree, links) {
         return Some(5);
+    }
+    if has_much_data(engine, rows) {
+        return Some(6);
     }
     None
 }
@@ -86,4 +99,19 @@ fn count_at(links: &[LinkRec], id: u16) -> usize
         .iter()
         .filter(|link| link.from.0 == id || link.to.0 == id)
         .count()
+}
+
+// Whether the data of all passes the engine's limit.
+fn has_much_data<E: Engine>(engine: &E, rows: &[FileRow]) -> bool
+    ensures { result ≡ nat_lt (E.limit engine.now) (data_of_rows (E.meaning engine.now) rows.now) }
+{
+    let mut left = engine.data_limit();
+    for row in rows {
+        let size = data_size(engine, row.kind);
+        if size > left {
+            return true;
+        }
+        left -= size;
+    }
+    false
 }

@@ -9,7 +9,7 @@ ghost use Rattle.app_reader.specs.Ready.{AreReady, application_told};
 
 use crate::{
     bytes_that_stand_are_rows, files_that_tell_are_formed, formed, formed_files_tell, limit_passed,
-    limits_of_rows_are_those_told, rows_that_tell_stand, schema_can_be_told, tree_of,
+    limits_of_rows_are_those_told, rows_that_tell_stand, tree_of,
 };
 use app_file::AppRefusal;
 use app_front::{FileRows, TreeRefusal, read_rows};
@@ -24,18 +24,17 @@ pub(crate) struct FormedRows {
     pub(crate) lists: Items<Items<usize>>,
 }
 
-// The rows and links of a file which hold together and pass no limit but that of the data, or why bytes are read as no
-// application, whatever the data limit is.
+// The rows and links of a file which hold together and pass no limit, or why bytes are read as no application.
 pub(crate) fn ready_rows<E: Engine>(
     alloc: Global,
     engine: &E,
     bytes: &[u8],
 ) -> Result<FormedRows, AppRefusal>
-    ensures ready { IfOk result (AreReady (E.meaning engine.now)) }
-    ensures stands { IfOk result (λ rows. (limit : ℕ)
-        → StandsFor (E.meaning engine.now) limit bytes.now (application_told (E.meaning engine.now) limit rows)) }
-    ensures refused { IfErr result (λ refusal. (limit : ℕ)
-        → IsRefusedFor (E.meaning engine.now) limit bytes.now refusal) }
+    ensures ready { IfOk result (AreReady (E.meaning engine.now) (E.limit engine.now)) }
+    ensures stands { IfOk result (λ rows. StandsFor (E.meaning engine.now) (E.limit engine.now) bytes.now
+        (application_told (E.meaning engine.now) (E.limit engine.now) rows)) }
+    ensures refused { IfErr result (λ refusal.
+        IsRefusedFor (E.meaning engine.now) (E.limit engine.now) bytes.now refusal) }
 {
     let _whole = engine.schema();
     files_that_tell_are_formed();
@@ -55,7 +54,13 @@ pub(crate) fn ready_rows<E: Engine>(
         Err(TreeRefusal::NoTree) => return Err(AppRefusal::NotAnApp { at: bytes.len() }),
         Err(TreeRefusal::Memory) => return Err(AppRefusal::Memory),
     };
-    if let Some(which) = limit_passed(tree.as_slice(), lists.as_slice(), file.links.as_slice()) {
+    if let Some(which) = limit_passed(
+        engine,
+        file.rows.as_slice(),
+        tree.as_slice(),
+        lists.as_slice(),
+        file.links.as_slice(),
+    ) {
         return Err(AppRefusal::OverLimit { which });
     }
     Ok(FormedRows { file, lists })
@@ -70,7 +75,6 @@ fn file_rows<E: Engine>(alloc: Global, engine: &E, bytes: &[u8]) -> Result<FileR
         → IsRefusedFor (E.meaning engine.now) limit bytes.now refusal) }
 {
     let schema = engine.schema();
-    schema_can_be_told(schema);
     bytes_that_stand_are_rows();
     read_rows(alloc, schema, bytes)
 }

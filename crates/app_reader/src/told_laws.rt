@@ -1,9 +1,10 @@
 //! Laws of rows. Each is the contract of a function that does nothing.
 ghost use Rattle.std.specs.Prelude.{◌≡◌, ℕ, List};
+ghost use Rattle.sed_typed.specs.Spelled.{CanBeTold};
 ghost use Rattle.sed_engine.specs.Code.{Meaning};
 ghost use Rattle.sed_engine.specs.Whole.{HasTables, IsWhole};
 ghost use Rattle.comp_tree.specs.Application.{Application, children_of};
-ghost use Rattle.app_file.specs.Reading.{CanBeTold, StandsFor};
+ghost use Rattle.app_file.specs.Reading.{StandsFor};
 ghost use Rattle.app_file.specs.Telling.{told_application};
 ghost use Rattle.app_front.specs.Rows.{AreRows};
 ghost use Rattle.app_front.specs.declared.rows.FileRows.{FileRows};

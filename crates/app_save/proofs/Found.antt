@@ -1,5 +1,6 @@
 -- What headers say of a store.
 use Rattle.std.proofs.Common.{◌≡◌, ◌≢◌, inl, inr, ◌+◌, ◌*◌, ◌%◌, ◌<◌, ◌≤◌, ℕ, Bool, true, false, length, refl, sym, ◌∙◌, ap, subst, arith}
+use Rattle.sed_value.specs.declared.limits.TheConstants.{LARGEST_SLOT}
 use Rattle.disk_model.specs.Disk.{Image}
 use Rattle.app_save.specs.Store.{IsOpen, IsSlot}
 use Rattle.app_save.specs.Slots.{IsHeader, IsFound}
@@ -33,13 +34,13 @@ stands_by S image slot other h o size header other_header sound other_sound is_o
   sound_other = is_slot S image other o other_header other_sound;
 }
 
-pub first_found : (S : ℕ) → S ≤ 4194304 → (first second : Header) → Sound S first → Sound S second → first.is_open ≡ true → (second.is_open ≡ true → first.generation ≡ (second.generation + 1) % 3)
+pub first_found : (S : ℕ) → S ≤ LARGEST_SLOT → (first second : Header) → Sound S first → Sound S second → first.is_open ≡ true → (second.is_open ≡ true → first.generation ≡ (second.generation + 1) % 3)
     → (image : Image) → length image ≡ 2 * (S + 6) → IsHeader image 0 first → IsHeader image (S + 6) second → IsFound image (record { slot = S; begins = 0; len = first.len })
 first_found S small first second sound other_sound is_open ahead image size header other_header =
     let stands = stands_by S image 0 (S + 6) first second size header other_header sound other_sound is_open ahead in
     record { store = stands_store S image 0 (S + 6) small (inl (refl, refl)) stands; other = S + 6; slots = inl (refl, refl); newest = stands.newest; length = header.length }
 
-pub second_found : (S : ℕ) → S ≤ 4194304 → (first second : Header) → Sound S first → Sound S second → second.is_open ≡ true → (first.is_open ≡ true → second.generation ≡ (first.generation + 1) % 3)
+pub second_found : (S : ℕ) → S ≤ LARGEST_SLOT → (first second : Header) → Sound S first → Sound S second → second.is_open ≡ true → (first.is_open ≡ true → second.generation ≡ (first.generation + 1) % 3)
     → (image : Image) → length image ≡ 2 * (S + 6) → IsHeader image 0 first → IsHeader image (S + 6) second → IsFound image (record { slot = S; begins = S + 6; len = second.len })
 second_found S small first second sound other_sound is_open ahead image size header other_header =
     let stands = stands_by S image (S + 6) 0 second first size other_header header other_sound sound is_open ahead in

@@ -2,6 +2,7 @@
 use Rattle.std.proofs.Common.{◌≡◌, inl, inr, ◌+◌, ◌*◌, ◌-◌, ◌/◌, ◌<◌, ◌≤◌, min, ℕ, List, [], ◌∷◌, length, take, get_or, get_or-take, replicate, refl, sym, ◌∙◌, ap, subst, arith, Result, Ok, Err, OnOk}
 use Rattle.std.proofs.lemmas.Bool.{cases_lt}
 use Rattle.std.proofs.lemmas.List.{get_or_past, get_or-replicate, length-take-le, length-replicate}
+use Rattle.sed_value.specs.declared.limits.TheConstants.{LARGEST_SLOT}
 use Rattle.disk_model.specs.Disk.{Image, Meaning, Elapses, During, Torn, IsTorn, Holds, Keeps}
 use Rattle.app_save.specs.Store.{IsOpen, length_at, Opens}
 use Rattle.app_save.specs.Saving.{AllOpen}
@@ -91,8 +92,15 @@ pub made_done : {T E : Type 0} (r : Result T E) (S : ℕ) (header payload : List
 made_done (Ok x) S header payload z b c d blank five fits torn_b holds_b torn_c holds_c lands len generation = record { rests = lands.rests; saved = made S header payload z.content b.content c.content d.content blank five fits torn_b holds_b torn_c holds_c lands.torn lands.holds len generation }
 made_done (Err e) S header payload z b c d blank five fits torn_b holds_b torn_c holds_c lands len generation = tt
 
+-- a piece of 512 zeros, cut at the end
+pub piece_length : (len q k : ℕ) → k ≡ min (len - 512 * q) 512 → length {A = ℕ} (take k (replicate 512 0)) ≡ k
+piece_length len q k is = let whole = length-replicate {A = ℕ} 512 0 in length-take-le k (replicate 512 0) (grind (arith, is, whole))
+
+pub piece_fits : (len q k : ℕ) → 512 * q < len → k ≡ min (len - 512 * q) 512 → 512 * q + length {A = ℕ} (take k (replicate 512 0)) ≤ len
+piece_fits len q k below is = let long = piece_length len q k is in grind (arith, long, is, below)
+
 -- and then every crash opens to the payload
-pub made_opens : (S : ℕ) (payload : List ℕ) (b c : Meaning) → S ≤ 4194304 → IsSaved S (S + 6) 0 payload b → Elapses b c → Keeps b c → AllOpen S payload c
+pub made_opens : (S : ℕ) (payload : List ℕ) (b c : Meaning) → S ≤ LARGEST_SLOT → IsSaved S (S + 6) 0 payload b → Elapses b c → Keeps b c → AllOpen S payload c
 made_opens S payload b c small is time keeps i left =
     let same = is.rests i (keeps.during c.now i time.later (omega arith) left) in
     subst (λ (d : Image). Opens S d payload) (sym same) (stands_opens S b.content 0 (S + 6) payload small (inl (refl, refl)) is.saved.stands is.saved.payload_is)

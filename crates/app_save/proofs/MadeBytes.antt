@@ -1,13 +1,12 @@
 -- The bytes of a store while it is made.
-use Rattle.std.proofs.Common.{◌≡◌, ◌≢◌, ◌⊎◌, inl, inr, ◌+◌, ◌*◌, ◌-◌, ◌<◌, ◌≤◌, ◌++◌, ◌∷◌, [], ℕ, List, length, get_or, replicate, refl, sym, ◌∙◌, ap, subst, arith, length-append}
+use Rattle.std.proofs.Common.{◌≡◌, ◌⊎◌, inl, inr, ◌+◌, ◌*◌, ◌-◌, ◌<◌, ◌≤◌, ◌++◌, ◌∷◌, [], ℕ, List, length, get_or, replicate, refl, sym, ◌∙◌, ap, subst, arith, length-append}
 use Rattle.std.proofs.lemmas.Bool.{cases_eq}
 use Rattle.std.proofs.lemmas.List.{ext_get_or, get_or-replicate, get_or_past, length-replicate}
 use Rattle.std.proofs.lemmas.Bool.{cases_lt}
 use Rattle.disk_model.specs.Disk.{Image, Torn, Holds}
-use Rattle.disk_model.specs.Written.{written}
 use Rattle.app_save.specs.Store.{IsOpen, IsStore}
 use Rattle.app_save.specs.Bytes.{header_bytes, slot_bytes}
-use Rattle.app_save.specs.Making.{IsBlank, blank_store, store_behind, made_store, NewOrNone}
+use Rattle.app_save.specs.Making.{IsBlank, store_behind, made_store, NewOrNone}
 use Rattle.app_save.proofs.Ranges.{wider, twice, holds_both, holds_still, is_written, over_zeros}
 
 zero_at : (n i : ℕ) → get_or {A = ℕ} (replicate n 0) i 0 ≡ 0

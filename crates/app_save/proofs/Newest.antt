@@ -1,5 +1,6 @@
 -- A store whose newest slot is known.
 use Rattle.std.proofs.Common.{◌≡◌, inl, inr, ◌+◌, ◌%◌, ◌<◌, ◌≤◌, ℕ, List, sym, ◌∙◌, ap, subst, arith}
+use Rattle.sed_value.specs.declared.limits.TheConstants.{LARGEST_SLOT}
 use Rattle.disk_model.specs.Disk.{Image}
 use Rattle.app_save.specs.Store.{IsOpen, IsSlot, IsStore, AreSlots, IsNewest, payload_at, Opens}
 use Rattle.app_save.specs.Stages.{Stands}
@@ -11,7 +12,7 @@ pub other_way : (S slot other : ℕ) → AreSlots S slot other → AreSlots S ot
 other_way S slot other (inl is) = inr (is.1, is.0)
 other_way S slot other (inr is) = inl (is.1, is.0)
 
-pub stands_store : (S : ℕ) (c : Image) (slot other : ℕ) → S ≤ 4194304 → AreSlots S slot other → Stands S c slot other → IsStore S c
+pub stands_store : (S : ℕ) (c : Image) (slot other : ℕ) → S ≤ LARGEST_SLOT → AreSlots S slot other → Stands S c slot other → IsStore S c
 stands_store S c slot other small (inl is) stands =
     let here : Stands S c 0 (S + 6) = subst (λ (n : ℕ). Stands S c n (S + 6)) is.0 (subst (λ (n : ℕ). Stands S c slot n) is.1 stands) in
     record {
@@ -33,7 +34,7 @@ stands_store S c slot other small (inr is) stands =
       differ = λ is_open _ same. not_same _ _ (here.newest.next is_open) (here.sound_other is_open).generation (sym same);
     }
 
-pub stands_opens : (S : ℕ) (c : Image) (slot other : ℕ) (payload : List ℕ) → S ≤ 4194304 → AreSlots S slot other → Stands S c slot other → payload_at c slot ≡ payload → Opens S c payload
+pub stands_opens : (S : ℕ) (c : Image) (slot other : ℕ) (payload : List ℕ) → S ≤ LARGEST_SLOT → AreSlots S slot other → Stands S c slot other → payload_at c slot ≡ payload → Opens S c payload
 stands_opens S c slot other payload small slots stands is = record {
   store = stands_store S c slot other small slots stands;
   slot = slot;

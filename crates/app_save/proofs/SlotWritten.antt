@@ -1,12 +1,12 @@
 -- The bytes that a save writes, from what was settled to what it leaves.
-use Rattle.std.proofs.Common.{◌≡◌, inl, inr, ◌+◌, ◌*◌, ◌%◌, ◌<◌, ◌≤◌, ◌++◌, ◌∷◌, [], ℕ, List, length, get_or, IsTrue, refl, sym, ◌∙◌, ap, subst, arith, length-append, Result, Ok, Err, OnOk}
-use Rattle.disk_model.specs.Disk.{Image, Meaning, Elapses, During, SyncsUp, Torn, IsTorn, Holds, Keeps, Rests}
+use Rattle.std.proofs.Common.{◌≡◌, inl, inr, ◌+◌, ◌*◌, ◌%◌, ◌<◌, ◌≤◌, ◌++◌, ◌∷◌, [], ℕ, List, length, get_or, IsTrue, sym, ◌∙◌, ap, subst, arith, length-append, Result, Ok, Err, OnOk}
+use Rattle.disk_model.specs.Disk.{Image, Meaning, Elapses, During, Torn, IsTorn, Holds, Keeps, Rests}
 use Rattle.disk_model.specs.Written.{written}
-use Rattle.app_save.specs.Store.{IsStore, AreSlots, IsNewest, generation_at}
+use Rattle.app_save.specs.Store.{AreSlots, IsNewest, generation_at}
 use Rattle.app_save.specs.Bytes.{header_bytes, slot_bytes}
-use Rattle.app_save.specs.Saving.{AllStores, SinceSync, LeavesOnly, OfSlots, TouchesSlot, WritesSlot, Renews}
+use Rattle.app_save.specs.Saving.{AllStores, SinceSync, TouchesSlot, WritesSlot, Renews}
 use Rattle.app_save.specs.Stages.{Stands, IsSaved, Settled}
-use Rattle.app_save.proofs.Moments.{then_since, torn_self, weaker, at_end}
+use Rattle.app_save.proofs.Moments.{then_since, torn_self, weaker}
 use Rattle.app_save.proofs.Newest.{store_stands, newest_is_one}
 use Rattle.app_save.proofs.Ranges.{holds_both, holds_still, is_written}
 

@@ -1,6 +1,7 @@
 -- A save as a whole: from what was settled to what it leaves.
 use Rattle.std.proofs.Common.{◌≡◌, ◌≢◌, ◌⊎◌, inl, inr, ◌+◌, ◌%◌, ◌<◌, ◌≤◌, ℕ, List, get_or, IsTrue, refl, sym, ◌∙◌, ap, subst, arith, Result, Ok, Err, OnOk}
 use Rattle.std.proofs.lemmas.Bool.{cases_eq}
+use Rattle.sed_value.specs.declared.limits.TheConstants.{LARGEST_SLOT}
 use Rattle.disk_model.specs.Disk.{Image, Meaning, Elapses, During, Keeps}
 use Rattle.app_save.specs.Store.{IsOpen, IsStore, AreSlots, IsNewest, generation_at, payload_at, Opens}
 use Rattle.app_save.specs.Saving.{AllStores, AllOpen, OpensAsBegun, SinceSync, KeepsPages, KeepsEqualPages}
@@ -42,7 +43,7 @@ pub settled_pages : {T E : Type 0} (r : Result T E) (S : ℕ) (payload : List �
 settled_pages r S payload a b told_syncs settled u i from to more left slot other slots newest =
     subst (λ (c : Image). KeepsPages (other + 6) payload a.content c) (sym (settled.since told_syncs u i from to more left)) (λ q has. has)
 
-module _ (S slot other : ℕ) (small : S ≤ 4194304) (slots : AreSlots S slot other) (payload : List ℕ) (a b c : Meaning) (told : IsTrue a.tells) (stores : AllStores S a) (left : a.leaves a.now a.content) (same : b.content ≡ a.content) (newest : IsNewest a.content slot other)
+module _ (S slot other : ℕ) (small : S ≤ LARGEST_SLOT) (slots : AreSlots S slot other) (payload : List ℕ) (a b c : Meaning) (told : IsTrue a.tells) (stores : AllStores S a) (left : a.leaves a.now a.content) (same : b.content ≡ a.content) (newest : IsNewest a.content slot other)
     (one : Elapses a b) (two : Elapses b c) (during : During b c (λ i. Stays S slot other payload b.content i ⊎ Saved S slot other payload i)) where
   begun : Stands S a.content slot other
   begun = store_stands S a.content slot other slots (stores a.content left) newest

@@ -1,5 +1,6 @@
 -- What the bytes of a store are: two slots of S payload bytes, each behind 6 bytes of its own.
 use Rattle.std.specs.Prelude.{◌≡◌, ◌≢◌, ◌⊎◌, ◌+◌, ◌*◌, ◌%◌, ◌<◌, ◌≤◌, ℕ, List, length, take, drop, slice_index}
+use Rattle.sed_value.specs.declared.limits.TheConstants.{LARGEST_SLOT}
 use Rattle.disk_model.specs.Disk.{Image}
 
 -- A slot begins with its gate, which is open where it is this byte and no other.
@@ -25,7 +26,7 @@ pub record IsSlot (S : ℕ) (image : Image) (slot : ℕ) : Type 0 where
 
 -- A whole store with slots of S bytes.
 pub record IsStore (S : ℕ) (image : Image) : Type 0 where
-  pub small : S ≤ 4194304
+  pub small : S ≤ LARGEST_SLOT
   pub size : length image ≡ 2 * (S + 6)
   pub some_open : IsOpen image 0 ⊎ IsOpen image (S + 6)
   pub first : IsOpen image 0 → IsSlot S image 0

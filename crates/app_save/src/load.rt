@@ -1,5 +1,6 @@
 //! Reading what was saved last.
 ghost use Rattle.std.specs.Prelude.{◌≡◌, ◌+◌, ◌≤◌, length, take, drop, IsTrue, IsErr, IfOk, OnOk};
+ghost use Rattle.sed_value.specs.declared.limits.TheConstants.{LARGEST_SLOT};
 ghost use Rattle.sed_outside.specs.Cause.{HasCause};
 ghost use Rattle.disk_model.specs.Disk.{Elapses, During, Keeps, MarksUp};
 ghost use Rattle.app_save.specs.Store.{Opens};
@@ -26,7 +27,7 @@ fn read_front<D: Disk>(disk: &mut D, at: u64, into: &mut [u8], len: u32) -> Resu
 
 /// Syncs, finds the newest slot, and reads its payload. Of a disk that holds no store a slot's bytes are read at most.
 pub fn load_newest<D: Disk>(disk: &mut D, slot: u32, into: &mut [u8]) -> Result<u32, DiskFault>
-    requires small { slot ≤ 4194304 }
+    requires small { slot ≤ LARGEST_SLOT }
     requires room { length into.old ≡ slot }
     requires stores { IsTrue (D.meaning disk.old).tells → AllStores slot (D.meaning disk.old) }
     ensures fits { IfOk result (λ len. len ≤ slot) }

@@ -1,8 +1,9 @@
 //! Making a store.
 ghost use Rattle.std.specs.Prelude.{◌≡◌, ◌≢◌, ◌⊎◌, ◌+◌, ◌*◌, ◌<◌, ◌≤◌, ◌↔◌, [], false, length, IsTrue, IsErr, IsErrOf};
 ghost use Rattle.std.specs.Prelude.{IsOk, IfOk, OnOk, OnErr};
+ghost use Rattle.sed_value.specs.declared.limits.TheConstants.{LARGEST_SLOT};
 ghost use Rattle.sed_outside.specs.Cause.{Rose, HasCause};
-ghost use Rattle.disk_model.specs.Disk.{Elapses, During, MarksUp, SyncsUp, Keeps};
+ghost use Rattle.disk_model.specs.Disk.{Elapses, During, MarksUp, SyncsUp, Keeps, largest_store};
 ghost use Rattle.app_save.specs.Saving.{AllOpen, LeavesOnly, SinceSync};
 ghost use Rattle.app_save.specs.Run.{IsRun};
 ghost use Rattle.app_save.specs.Stages.{IsSaved};
@@ -16,7 +17,7 @@ use disk_model::{Disk, DiskFault};
 
 // Writes so many zeros into an empty file, piece by piece.
 fn write_zeros<D: Disk>(disk: &mut D, len: u32) -> Result<(), DiskFault>
-    requires small { len ≤ 8388620 }
+    requires small { len ≤ largest_store }
     requires empty { IsTrue (D.meaning disk.old).tells → length (D.meaning disk.old).content ≡ 0 }
     ensures blank { IsTrue (D.meaning disk.old).tells → OnOk result (IsBlank len (D.meaning disk.new).content) }
     ensures bound { IsTrue (D.meaning disk.old).tells → NoneLonger len (D.meaning disk.old)
@@ -39,7 +40,7 @@ fn write_zeros<D: Disk>(disk: &mut D, len: u32) -> Result<(), DiskFault>
 
 // Writes a new store into an empty file, all but its mark.
 fn write_store<D: Disk>(disk: &mut D, slot: u32, payload: &[u8]) -> Result<(), DiskFault>
-    requires small { slot ≤ 4194304 }
+    requires small { slot ≤ LARGEST_SLOT }
     requires fits { length payload.now ≤ slot }
     requires empty { IsTrue (D.meaning disk.old).tells → length (D.meaning disk.old).content ≡ 0 }
     ensures saved { IsTrue (D.meaning disk.old).tells
@@ -71,10 +72,11 @@ fn write_store<D: Disk>(disk: &mut D, slot: u32, payload: &[u8]) -> Result<(), D
 ///
 /// After Ok every crash leaves one file, byte for byte that of a new store, which opens to the payload, until the next
 /// save; one mark was made. Three syncs answered Ok: behind the zeros, behind all but the gate, and behind the gate.
-/// After `Device` the file may be neither empty nor a store; from the first sync on a crash leaves the new store or none.
+/// After `Device` the file may be neither empty nor a store; from the first sync on a crash leaves the new store or
+/// none.
 pub fn make<D: Disk>(disk: &mut D, slot: u32, payload: &[u8]) -> Result<Store, SaveRefusal>
     requires some { 1 ≤ slot }
-    requires small { slot ≤ 4194304 }
+    requires small { slot ≤ LARGEST_SLOT }
     ensures slot { IfOk result (λ S. S ≡ slot) }
 
     // a crash at any moment of the call, and after it

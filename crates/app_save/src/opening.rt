@@ -1,6 +1,7 @@
 //! Opening a store.
 ghost use Rattle.std.specs.Prelude.{◌≡◌, ◌⊎◌, ◌+◌, ◌*◌, ◌<◌, ◌≤◌, ◌↔◌, [], ℕ, true, length, IsTrue, IsErr, IsErrOf};
 ghost use Rattle.std.specs.Prelude.{IfOk, IfSome, IfNone, OnErr, OnOk, replicate, vec_len};
+ghost use Rattle.sed_value.specs.declared.limits.TheConstants.{LARGEST_SLOT};
 ghost use Rattle.sed_outside.specs.Cause.{HasCause};
 ghost use Rattle.disk_model.specs.Disk.{Image, Elapses, During, MarksUp};
 ghost use Rattle.app_save.specs.Store.{IsStore, Opens};
@@ -13,7 +14,8 @@ use crate::refusal::SaveRefusal;
 use crate::slots::{HEADER, Header, next_generation, read_header, second_slot};
 use crate::store::Store;
 use disk_model::{Disk, DiskFault};
-use sed_value::Memory;
+use sed_value::limits::LARGEST_STORE;
+use sed_value::{Memory, zeros};
 use std::alloc::Global;
 
 /// The newest slot of a whole store: the size of the slots, where this one begins, and the length of its payload.
@@ -53,7 +55,7 @@ fn second_slot_found(slot: u32, header: &Header) -> Found
 
 // The newest slot, where headers like these are those of a whole store.
 fn found_in(slot: u32, first: &Header, second: &Header) -> Option<Found>
-    requires { slot ≤ 4194304 }
+    requires { slot ≤ LARGEST_SLOT }
     ensures found { IfSome result (λ found. (image : Image) → length image ≡ 2 * (slot + 6)
         → IsHeader image 0 first.now → IsHeader image (slot + 6) second.now → IsFound image found) }
     ensures bounds { IfSome result (λ found. (found.slot ≡ slot) × (found.len ≤ slot) × (found.begins ≤ slot + 6)) }
@@ -84,7 +86,7 @@ fn find<D: Disk>(disk: &mut D) -> Result<Option<Found>, DiskFault>
     ensures found { IsTrue (D.meaning disk.old).tells
         → IfOk result (λ found. IfSome found (IsFound (D.meaning disk.old).content)) }
     ensures bounds { IfOk result (λ found.
-        IfSome found (λ f. (f.slot ≤ 4194304) × (f.len ≤ f.slot) × (f.begins ≤ f.slot + 6))) }
+        IfSome found (λ f. (f.slot ≤ LARGEST_SLOT) × (f.len ≤ f.slot) × (f.begins ≤ f.slot + 6))) }
     ensures none { IsTrue (D.meaning disk.old).tells
         → IfOk result (λ found. IfNone found ((S : ℕ) → IsStore S (D.meaning disk.old).content → ⊥)) }
     ensures time { Elapses (D.meaning disk.old) (D.meaning disk.new) }
@@ -96,21 +98,13 @@ fn find<D: Disk>(disk: &mut D) -> Result<Option<Found>, DiskFault>
 {
     disk.sync()?;
     let size = disk.size()?;
-    if size < 12 || size > 8_388_620 || size % 2 != 0 {
+    if size < 12 || size > LARGEST_STORE || size % 2 != 0 {
         return Ok(None);
     }
     let slot = (size / 2 - HEADER) as u32;
     let first = read_header(disk, 0)?;
     let second = read_header(disk, second_slot(slot))?;
     Ok(found_in(slot, &first, &second))
-}
-
-// So many zeros.
-fn zeros(alloc: Global, len: usize) -> Result<Vec<u8>, Memory>
-    ensures bytes { IfOk result (λ bytes. bytes.items ≡ replicate len 0) }
-    ensures len { IfOk result (λ bytes. vec_len bytes ≡ len) }
-{
-    Ok(vec![in alloc; 0; len]?)
 }
 
 /// Opens the store on the disk: `into` then holds the payload of its newest slot. It begins with a sync and writes

@@ -1,6 +1,7 @@
 //! A payload is written by pages, and only those that differ from what stands there.
 ghost use Rattle.std.specs.Prelude.{◌≡◌, ◌+◌, ◌≤◌, ◌<◌, ◌↔◌, ℕ, length, take, drop, slice_index, IsTrue, IsErr, IfOk};
 ghost use Rattle.std.specs.Prelude.{OnOk};
+ghost use Rattle.sed_value.specs.declared.limits.TheConstants.{LARGEST_SLOT};
 ghost use Rattle.sed_outside.specs.Cause.{HasCause};
 ghost use Rattle.disk_model.specs.Disk.{Elapses, During, IsTorn, Writes, Holds, Keeps, MarksUp, largest_store};
 ghost use Rattle.app_save.specs.Store.{AreSlots};
@@ -62,7 +63,7 @@ pub fn write_pages<D: Disk>(
     place: &Place,
     payload: &[u8],
 ) -> Result<(), DiskFault>
-    requires small { slot ≤ 4194304 }
+    requires small { slot ≤ LARGEST_SLOT }
     requires fits { length payload.now ≤ slot }
     requires slots { AreSlots slot place.now.newest place.now.other }
     requires closed { IsTrue (D.meaning disk.old).tells

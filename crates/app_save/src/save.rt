@@ -1,13 +1,14 @@
 //! The steps of a save: settle, close the other gate, fill the slot behind it, open the gate.
 ghost use Rattle.std.specs.Prelude.{◌≡◌, ◌⊎◌, ◌+◌, ◌*◌, ◌%◌, ◌≤◌, ◌<◌, ◌++◌, ◌∷◌, [], false, length, slice_index};
 ghost use Rattle.std.specs.Prelude.{IsTrue, IsErr, IfOk, OnOk, is_ok, if◌then◌else◌};
+ghost use Rattle.sed_value.specs.declared.limits.TheConstants.{LARGEST_SLOT};
 ghost use Rattle.sed_outside.specs.Cause.{HasCause};
-ghost use Rattle.disk_model.specs.Disk.{Elapses, During, MarksUp, SyncsUp, Rests, Torn, IsTorn, Holds, largest_store};
-ghost use Rattle.app_save.specs.Store.{IsStore, AreSlots, generation_at};
+ghost use Rattle.disk_model.specs.Disk.{Elapses, During, MarksUp, SyncsUp, Torn, IsTorn, Holds, largest_store};
+ghost use Rattle.app_save.specs.Store.{AreSlots, generation_at};
 ghost use Rattle.app_save.specs.Bytes.{header_bytes, slot_bytes};
 ghost use Rattle.app_save.specs.Saving.{AllStores, AllOpen, OpensAsBegun, SinceSync, KeepsEqualPages};
 ghost use Rattle.app_save.specs.Saving.{TouchesSlot, WritesSlot, Renews};
-ghost use Rattle.app_save.specs.Slots.{IsPlace};
+ghost use Rattle.app_save.specs.Slots.{IsPlace, IsReady};
 ghost use Rattle.app_save.specs.Stages.{Stays, Closed, Saved, IsClosed, IsFilled, IsSaved, Lands, Settled};
 
 use crate::pages::write_pages;
@@ -16,7 +17,7 @@ use disk_model::{Disk, DiskFault};
 
 /// All of a save but its mark, of a payload that fits.
 pub fn write_save<D: Disk>(disk: &mut D, slot: u32, payload: &[u8]) -> Result<(), DiskFault>
-    requires small { slot ≤ 4194304 }
+    requires small { slot ≤ LARGEST_SLOT }
     requires fits { length payload.now ≤ slot }
     requires stores { IsTrue (D.meaning disk.old).tells → AllStores slot (D.meaning disk.old) }
     ensures moments { IsTrue (D.meaning disk.old).tells
@@ -26,7 +27,8 @@ pub fn write_save<D: Disk>(disk: &mut D, slot: u32, payload: &[u8]) -> Result<()
         SinceSync (D.meaning disk.old) (D.meaning disk.new)
         (KeepsEqualPages slot payload.now (D.meaning disk.old).content) }
     ensures touches { IsTrue (D.meaning disk.old).tells → IsTrue (D.meaning disk.old).tells_syncs →
-        SinceSync (D.meaning disk.old) (D.meaning disk.new) (TouchesSlot slot payload.now (D.meaning disk.old).content) }
+        SinceSync (D.meaning disk.old) (D.meaning disk.new)
+        (TouchesSlot slot payload.now (D.meaning disk.old).content) }
     ensures writes { IsTrue (D.meaning disk.old).tells
         → OnOk result (WritesSlot slot payload.now (D.meaning disk.old).content (D.meaning disk.new)) }
     ensures renews { IsTrue (D.meaning disk.old).tells
@@ -43,7 +45,7 @@ pub fn write_save<D: Disk>(disk: &mut D, slot: u32, payload: &[u8]) -> Result<()
 
 /// Syncs, and finds the newest slot and where a save writes.
 pub fn settle<D: Disk>(disk: &mut D, slot: u32) -> Result<Place, DiskFault>
-    requires small { slot ≤ 4194304 }
+    requires small { slot ≤ LARGEST_SLOT }
     requires stores { IsTrue (D.meaning disk.old).tells → AllStores slot (D.meaning disk.old) }
     ensures settled { IsTrue (D.meaning disk.old).tells → Settled result (D.meaning disk.old) (D.meaning disk.new) }
     ensures slots { IfOk result (λ place. AreSlots slot place.newest place.other) }
@@ -67,12 +69,10 @@ fn write_slot<D: Disk>(
     place: &Place,
     payload: &[u8],
 ) -> Result<(), DiskFault>
-    requires small { slot ≤ 4194304 }
+    requires small { slot ≤ LARGEST_SLOT }
     requires fits { length payload.now ≤ slot }
     requires slots { AreSlots slot place.now.newest place.now.other }
-    requires rests { IsTrue (D.meaning disk.old).tells → Rests (D.meaning disk.old) }
-    requires store { IsTrue (D.meaning disk.old).tells → IsStore slot (D.meaning disk.old).content }
-    requires place { IsTrue (D.meaning disk.old).tells → IsPlace (D.meaning disk.old).content place.now }
+    requires ready { IsTrue (D.meaning disk.old).tells → IsReady slot place.now (D.meaning disk.old) }
     ensures during { IsTrue (D.meaning disk.old).tells → During (D.meaning disk.old) (D.meaning disk.new)
         (λ c. Stays slot place.now.newest place.now.other payload.now (D.meaning disk.old).content c
         ⊎ Saved slot place.now.newest place.now.other payload.now c) }
@@ -100,12 +100,10 @@ fn close_gate<D: Disk>(
     place: &Place,
     payload: &[u8],
 ) -> Result<(), DiskFault>
-    requires small { slot ≤ 4194304 }
+    requires small { slot ≤ LARGEST_SLOT }
     requires fits { length payload.now ≤ slot }
     requires slots { AreSlots slot place.now.newest place.now.other }
-    requires rests { IsTrue (D.meaning disk.old).tells → Rests (D.meaning disk.old) }
-    requires store { IsTrue (D.meaning disk.old).tells → IsStore slot (D.meaning disk.old).content }
-    requires place { IsTrue (D.meaning disk.old).tells → IsPlace (D.meaning disk.old).content place.now }
+    requires ready { IsTrue (D.meaning disk.old).tells → IsReady slot place.now (D.meaning disk.old) }
     ensures during { IsTrue (D.meaning disk.old).tells
         → During (D.meaning disk.old) (D.meaning disk.new)
         (Stays slot place.now.newest place.now.other payload.now (D.meaning disk.old).content) }
@@ -155,7 +153,7 @@ pub fn behind_gate(len: u32, generation: u8) -> [u8; 5]
 
 // Writes the payload, its length and its generation behind the closed gate.
 fn fill<D: Disk>(disk: &mut D, slot: u32, place: &Place, payload: &[u8]) -> Result<(), DiskFault>
-    requires small { slot ≤ 4194304 }
+    requires small { slot ≤ LARGEST_SLOT }
     requires fits { length payload.now ≤ slot }
     requires slots { AreSlots slot place.now.newest place.now.other }
     requires next { IsTrue (D.meaning disk.old).tells
@@ -189,7 +187,7 @@ fn open_gate<D: Disk>(
     place: &Place,
     payload: &[u8],
 ) -> Result<(), DiskFault>
-    requires small { slot ≤ 4194304 }
+    requires small { slot ≤ LARGEST_SLOT }
     requires slots { AreSlots slot place.now.newest place.now.other }
     requires filled { IsTrue (D.meaning disk.old).tells
         → IsFilled slot place.now.newest place.now.other payload.now (D.meaning disk.old).content (D.meaning disk.old) }

@@ -1,5 +1,6 @@
 //! The two slots: what stands in front of their payloads, and which is the newest.
 ghost use Rattle.std.specs.Prelude.{◌≡◌, ◌+◌, ◌*◌, ◌%◌, ◌≤◌, ◌==◌, length, slice_index, IsTrue, IsErr, IfOk};
+ghost use Rattle.sed_value.specs.declared.limits.TheConstants.{LARGEST_SLOT};
 ghost use Rattle.sed_outside.specs.Cause.{HasCause};
 ghost use Rattle.disk_model.specs.Disk.{Image, Elapses, Keeps, MarksUp, SyncsUp};
 ghost use Rattle.app_save.specs.Store.{IsStore, AreSlots};
@@ -79,7 +80,7 @@ pub fn next_generation(generation: u8) -> u8
 
 /// Where a save of a whole store with these headers writes.
 pub fn place_of(slot: u32, first: &Header, second: &Header) -> Place
-    requires { slot ≤ 4194304 }
+    requires { slot ≤ LARGEST_SLOT }
     ensures slots { AreSlots slot result.newest result.other }
     ensures place { (image : Image) → IsHeader image 0 first.now → IsHeader image (slot + 6) second.now
         → IsStore slot image → IsPlace image result }

@@ -1,6 +1,7 @@
 //! An open store, and its saves.
 ghost use Rattle.std.specs.Prelude.{◌≡◌, ◌⊎◌, ◌+◌, ◌<◌, ◌≤◌, ◌↔◌, ◌++◌, [], ◌∷◌, ℕ, List, length, take, IsTrue, IsErr};
 ghost use Rattle.std.specs.Prelude.{IsErrOf, IsOk, is_ok, IfOk, OnOk, OnErr};
+ghost use Rattle.sed_value.specs.declared.limits.TheConstants.{LARGEST_SLOT};
 ghost use Rattle.sed_outside.specs.Cause.{Rose, HasCause};
 ghost use Rattle.disk_model.specs.Disk.{Elapses, During, MarksUp};
 ghost use Rattle.app_save.specs.Store.{Opens};
@@ -22,18 +23,19 @@ pub struct Store {
 
 impl Model for Store {
     ghost use Rattle.std.specs.Prelude.{ℕ, ◌≤◌};
+    ghost use Rattle.sed_value.specs.declared.limits.TheConstants.{LARGEST_SLOT};
 
     ghost Value = { ℕ };
 
     ghost view = { λ s. s.slot };
 
-    ghost invariant = { λ s. s.slot ≤ 4194304 };
+    ghost invariant = { λ s. s.slot ≤ LARGEST_SLOT };
 }
 
 impl Store {
     /// A store with slots of that size.
     pub(crate) fn with_slot(slot: u32) -> Store
-        requires { slot ≤ 4194304 }
+        requires { slot ≤ LARGEST_SLOT }
         ensures { result ≡ slot }
     {
         Store { slot }
@@ -42,7 +44,7 @@ impl Store {
     /// The size of its slots, in bytes: 0 to 4,194,304.
     pub fn slot(&self) -> u32
         ensures slot { result ≡ self.now }
-        ensures small { result ≤ 4194304 }
+        ensures small { result ≤ LARGEST_SLOT }
     {
         self.slot
     }
@@ -54,9 +56,9 @@ impl Store {
     /// payload. After Ok every crash leaves one that opens to the payload, until the next save, and one mark was made.
     /// After `Device` it may open to either; the next save begins anew and needs nothing else of this one. What was
     /// saved before is kept in pages of 512 bytes: from the first sync on, a page of the payload that already stood in
-    /// the slot is never torn. From that sync on nothing outside the slot that isn't newest is written, and there no more
-    /// than the payload and what stands in front of it; after Ok these bytes are exactly the payload's, in the next
-    /// generation.
+    /// the slot is never torn. From that sync on nothing outside the slot that isn't newest is written, and there no
+    /// more than the payload and what stands in front of it; after Ok these bytes are exactly the payload's, in the
+    /// next generation.
     pub fn save<D: Disk>(&mut self, disk: &mut D, payload: &[u8]) -> Result<(), SaveRefusal>
         requires stores { IsTrue (D.meaning disk.old).tells → AllStores self.old (D.meaning disk.old) }
         ensures same { self.new ≡ self.old }

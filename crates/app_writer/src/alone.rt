@@ -12,7 +12,7 @@ use crate::write_app;
 use comp_tree::Tree;
 use link_prop::App;
 use sed_engine::{AddRefusal, Engine};
-use sed_value::Memory;
+use sed_value::zeros;
 use std::alloc::Global;
 
 /// The text of the App alone over an engine without live places, where it has at most so many bytes.
@@ -71,12 +71,4 @@ fn text_within<E: Engine>(alloc: Global, app: &App<E>, most: usize) -> Result<Ve
         }
         Err(full) => Err(NewRefusal::SlotTooSmall { needs: full.needs }),
     }
-}
-
-// So many zeros.
-fn zeros(alloc: Global, len: usize) -> Result<Vec<u8>, Memory>
-    ensures bytes { IfOk result (λ bytes. bytes.items ≡ replicate len 0) }
-    ensures len { IfOk result (λ bytes. vec_len bytes ≡ len) }
-{
-    Ok(vec![in alloc; 0; len]?)
 }

@@ -15,6 +15,8 @@ pub mod AllowedLemmas
 pub mod AddLemmas
 pub mod DeleteLemmas
 pub mod LoadLemmas
+pub mod LeftLemmas
+pub mod SizeLemmas
 pub mod MarkSteps
 pub mod MarkCalls
 pub mod MarkDelete

@@ -1,4 +1,4 @@
--- One command to an application: the number of a refusal, or the application after it and the reply.
+-- One command to an application: a refusal, or the application after it and the reply.
 use Rattle.std.specs.Prelude.{ℕ, ℤ, ◌==◌, ◌&&◌, Bool, if◌then◌else◌, List, [], ◌++◌, length, Option, Some, None, Result}
 use Rattle.std.specs.Prelude.{Ok, Err}
 use Rattle.std.specs.Option.{option_and_then, option_map_or}
@@ -7,7 +7,6 @@ use Rattle.std.specs.Int.{w32, bytes_high_first, cast_unsigned}
 use Rattle.std.specs.FinMap as map
 use Rattle.sed_value.specs.declared.kit.KitRef.{KitRef}
 use Rattle.sed_value.specs.declared.refusal.Refusal.{Refusal}
-use Rattle.sed_value.specs.Refusal.{number_of_refusal}
 use Rattle.sed_typed.specs.Schemas.{type_at as class_numbered}
 use Rattle.sed_engine.specs.Code.{Meaning}
 use Rattle.comp_tree.specs.Application.{Application, Component, Components, Link, value_at}
@@ -54,10 +53,10 @@ kit_bytes kit = text kit.name ++ bytes_high_first 4 (cast_unsigned w32 kit.check
 abbrev pub schema_bytes : Meaning → List ℕ
 schema_bytes m = u1 (length m.schema.kits) ++ flat_map kit_bytes m.schema.kits
 
--- the number of the refusal, where there is one, and else what follows
-abbrev pub unless_refused : Option Refusal → Edited → Result Edited ℕ
+-- the refusal, where there is one, and else what follows
+abbrev pub unless_refused : Option Refusal → Edited → Result Edited Refusal
 unless_refused None edited = Ok edited
-unless_refused (Some refusal) edited = Err (number_of_refusal refusal)
+unless_refused (Some refusal) edited = Err refusal
 
 -- other components, under the same links
 abbrev pub over : Application → Components → Application
@@ -82,7 +81,7 @@ part_bytes m a id letter =
     option_map_or (λ bytes. bytes)
     (option_and_then (λ (c : Component). part_of m a.links id c letter) (map.get a.components.by_id id)) []
 
-abbrev pub Edit : Meaning → Application → Command → ℕ → ℤ → Result Edited ℕ
+abbrev pub Edit : Meaning → Application → Command → ℕ → ℤ → Result Edited Refusal
 Edit m a (Add parent kit number name config) turns moment =
     unless_refused (first_refusal (refusals_of_add m a.components parent kit number name config))
     (record {

@@ -8,6 +8,7 @@ pub mod Refusals
 pub mod Edits
 pub mod Cycle
 pub mod Edit
+pub mod Adding
 pub mod Shape
 pub mod Whole
 pub mod Limits
@@ -17,3 +18,4 @@ pub mod Allowed
 pub mod Loads
 pub mod Marks
 pub mod SameCode
+pub mod Turns

@@ -16,9 +16,12 @@ pub mod laws;
 mod leaving;
 pub mod loaded;
 mod loading;
+pub mod new_component;
 mod order;
 mod siblings;
+mod sizes;
 pub mod tree;
+pub mod turns;
 
 pub use entry::Entry;
 pub use laws::{
@@ -26,4 +29,7 @@ pub use laws::{
     what_passes_no_limit_is_whole,
 };
 pub use loaded::Loaded;
+pub use new_component::NewComponent;
+pub use sizes::data_size;
 pub use tree::Tree;
+pub use turns::Turns;

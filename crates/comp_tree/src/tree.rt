@@ -4,9 +4,11 @@ ghost use Rattle.std.specs.Prelude.{MatchOption, MatchResult, Some, None, Ok, Er
 ghost use Rattle.std.specs.FinMap as map;
 ghost use Rattle.std.specs.Option.{option_map};
 ghost use Rattle.sed_typed.specs.Schemas.{type_at as class_numbered};
+ghost use Rattle.sed_typed.specs.Spelled.{CanBeTold};
 ghost use Rattle.sed_typed.specs.SysTypes.{app_type as app_number};
 ghost use Rattle.sed_value.specs.Value.{is_of_type};
-ghost use Rattle.sed_engine.specs.Whole.{IsWhole};
+ghost use Rattle.sed_engine.specs.Fits.{Fits};
+ghost use Rattle.sed_engine.specs.Whole.{IsObject, IsWhole};
 ghost use Rattle.comp_tree.specs.Application.{children_of, most_children, most_components, type_at, value_at};
 ghost use Rattle.comp_tree.specs.Edits.{app_class, first_components};
 ghost use Rattle.comp_tree.specs.Held.{IsPropertyOf};
@@ -86,10 +88,15 @@ impl<E: Engine> Tree<E> {
         Ok(Tree { engine, nodes })
     }
 
-    /// The schema of the engine's code, which is whole.
+    /// The schema of the engine's code, which is whole, and can be told by an application file. Each live object is one of
+    /// which components are made, and its contents and the statics are of their types.
     pub fn schema(&self) -> &Schema
         ensures same { result.now ≡ (E.meaning self.now.engine).schema }
         ensures whole { IsWhole (E.meaning self.now.engine) }
+        ensures told { CanBeTold (E.meaning self.now.engine).schema }
+        ensures objects { (p : ℕ) → IfSome (map.get (E.live self.now.engine) p) (IsObject (E.meaning self.now.engine)) }
+        ensures statics { Fits (E.meaning self.now.engine).fields (E.meaning self.now.engine).static_fields
+            (E.meaning self.now.engine).initial_statics (E.statics self.now.engine) }
     {
         self.engine.schema()
     }

@@ -1,5 +1,5 @@
 -- A receiver has a bit set exactly where an index above the first gap was taken.
-use Rattle.std.proofs.Common.{◌≡◌, ℕ, ◌+◌, ◌-◌, ◌^◌, ◌<◌, ◌≤◌, Bool, true, false, ◌||◌, not, eqb, ltb, List, [], ◌∷◌, refl, sym, ◌∙◌, ap, subst, inl, inr, arith, w32, add-zero}
+use Rattle.std.proofs.Common.{◌≡◌, ℕ, ◌+◌, ◌-◌, ◌^◌, ◌<◌, true, false, not, eqb, ltb, List, [], ◌∷◌, refl, sym, ◌∙◌, ap, subst, inl, inr, arith, w32}
 use Rattle.std.specs.List.{list_any}
 use Rattle.std.specs.Int.{bit_at, trailing_zeros}
 use Rattle.std.proofs.lemmas.Bool.{cases_Bool, or_cases, or_left, or_right, ltb-true, lt-ltb, eqb-true, eq-eqb, both_ways, ne_eqb, cases_eq}

@@ -13,3 +13,5 @@ pub mod PostedLemmas
 pub mod ReceiverLemmas
 pub mod SenderLemmas
 pub mod TakenLemmas
+pub mod OfKindLemmas
+pub mod UserLemmas

@@ -1,7 +1,6 @@
 -- What an acknowledgement of more messages means, however long it is.
-use Rattle.std.specs.Prelude.{◌≡◌, ℕ, ◌<◌, List, length, slice_index}
+use Rattle.std.specs.Prelude.{ℕ, List, [], ◌∷◌, slice_index}
 
--- four bytes: those that are missing are 0, and those past the fourth say nothing
-pub record AreFirstFour (bytes four : List ℕ) : Type 0 where
-  pub as_many : length four ≡ 4
-  pub same : (place : ℕ) → place < 4 → slice_index four place ≡ slice_index bytes place
+-- its first four bytes: those that are missing are 0, and those past the fourth say nothing
+abbrev pub first_four : List ℕ → List ℕ
+first_four bytes = slice_index bytes 0 ∷ slice_index bytes 1 ∷ slice_index bytes 2 ∷ slice_index bytes 3 ∷ []

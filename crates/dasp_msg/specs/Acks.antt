@@ -1,7 +1,7 @@
 -- The four bytes beside an acknowledgement.
 use Rattle.std.specs.Prelude.{◌≡◌, ℕ, ◌+◌, ◌/◌, ◌%◌, ◌<◌, Bool, if◌then◌else◌, List, length, slice_index}
 use Rattle.std.specs.Int.{bit_at}
-use Rattle.dasp_msg.specs.Numbers.{wire_number}
+use Rattle.dasp_msg.specs.Numbers.{number_before}
 use Rattle.dasp_msg.specs.TakenIndexes.{is_taken, first_gap}
 
 abbrev pub digit : Bool → ℕ
@@ -13,7 +13,7 @@ bit_of_bytes bytes place = bit_at (slice_index bytes (place / 8)) (place % 8)
 
 -- the number of the last index before the first gap; 65,535 before anything was taken
 abbrev pub ack_of : List ℕ → ℕ
-ack_of taken = wire_number (first_gap taken + 65535)
+ack_of taken = number_before (first_gap taken)
 
 -- bit j says whether the index j above the first gap was taken
 pub record SaysMore (taken : List ℕ) (bytes : List ℕ) : Type 0 where

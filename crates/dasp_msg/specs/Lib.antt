@@ -4,9 +4,11 @@ pub mod Header
 pub mod Kind
 pub mod Message
 pub mod Noting
+pub mod OfKind
 pub mod Reading
 pub mod Sending
 pub mod Shown
+pub mod UserName
 pub mod View
 pub mod Writing
 pub mod Acks

@@ -5,6 +5,10 @@ use Rattle.std.specs.Prelude.{◌≡◌, ℕ, ◌+◌, ◌-◌, ◌%◌, ◌<◌
 abbrev pub wire_number : ℕ → ℕ
 wire_number index = index % 65536
 
+-- the number before that of an index; before the first one it is 65,535
+abbrev pub number_before : ℕ → ℕ
+number_before index = wire_number (index + 65535)
+
 -- how far it is from an index up to the next one of this number
 abbrev pub distance : ℕ → ℕ → ℕ
 distance from number = (number + (65536 - wire_number from)) % 65536

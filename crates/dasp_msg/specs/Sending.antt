@@ -80,3 +80,8 @@ fields_size (part ∷ behind) = 1 + content_size part.content + fields_size behi
 -- how many bytes the text of the message has
 abbrev pub sent_size : Message → ℕ
 sent_size message = 5 + fields_size (sent_fields message.kind message) + length message.payload
+
+-- a message that may be sent in one datagram
+pub record CanGo (message : Message) : Type 0 where
+  pub may : MaySend message
+  pub fits : sent_size message ≤ 512

@@ -1,11 +1,11 @@
 //! What an acknowledgement of more messages means.
 ghost use Rattle.std.specs.Prelude.{◌≡◌, slice_index};
-ghost use Rattle.dasp_msg.specs.AckMore.{AreFirstFour};
+ghost use Rattle.dasp_msg.specs.AckMore.{first_four};
 
 /// The four bytes that an `ack_more` of any length means: those that are missing are 0, and those past the fourth say
 /// nothing.
 pub fn ack_more_bytes(bytes: &[u8]) -> [u8; 4]
-    ensures { AreFirstFour bytes.now result }
+    ensures { result ≡ first_four bytes.now }
 {
     [
         byte_at(bytes, 0),

@@ -5,8 +5,6 @@ use Rattle.std.specs.Int.{bit_at}
 use Rattle.std.proofs.lemmas.Nat.Bits.{bit_at-suc, bit_at_lowest}
 use Rattle.dasp_msg.specs.Acks.{SaysMore}
 use Rattle.dasp_session.specs.Letters.{taken_above, byte_above}
-use Rattle.dasp_session.specs.Hearing.{first_four}
-use Rattle.dasp_msg.specs.AckMore.{AreFirstFour}
 
 -- a byte is the sum of its bits
 byte-bits : (b : ℕ) → b < 256
@@ -58,17 +56,3 @@ bytes-above taken (a ∷ b ∷ c ∷ d ∷ []) says low =
     ∙ ap (λ (x : ℕ). byte_above taken 0 ∷ byte_above taken 8 ∷ x ∷ d ∷ []) of_c
     ∙ ap (λ (x : ℕ). byte_above taken 0 ∷ byte_above taken 8 ∷ byte_above taken 16 ∷ x ∷ []) of_d
 bytes-above taken (a ∷ b ∷ c ∷ d ∷ e ∷ more) says low = absurd (omega (arith, says.four))
-
--- the four bytes that bytes beside an ack mean
-pub first-four : (bytes four : List ℕ) → AreFirstFour bytes four → four ≡ first_four bytes
-first-four bytes [] are = absurd (omega (arith, are.as_many))
-first-four bytes (a ∷ []) are = absurd (omega (arith, are.as_many))
-first-four bytes (a ∷ b ∷ []) are = absurd (omega (arith, are.as_many))
-first-four bytes (a ∷ b ∷ c ∷ []) are = absurd (omega (arith, are.as_many))
-first-four bytes (a ∷ b ∷ c ∷ d ∷ []) are =
-    let of_a : a ≡ slice_index bytes 0 = are.same 0 (lit< tt) in
-    let of_b : b ≡ slice_index bytes 1 = are.same 1 (lit< tt) in
-    let of_c : c ≡ slice_index bytes 2 = are.same 2 (lit< tt) in
-    let of_d : d ≡ slice_index bytes 3 = are.same 3 (lit< tt) in
-    cc
-first-four bytes (a ∷ b ∷ c ∷ d ∷ e ∷ more) are = absurd (omega (arith, are.as_many))

@@ -1,6 +1,6 @@
 -- What a text that begins with the line of a user is cut into.
-use Rattle.std.proofs.Common.{◌≡◌, ℕ, zero, suc, ◌+◌, ◌*◌, ◌<◌, ◌≤◌, Bool, true, false, cond, not, eqb, ltb, List, [], ◌∷◌, ◌++◌, length, take, drop, get_or, refl, sym, ◌∙◌, ap, subst, arith, append_assoc, length-append, drop-cons}
-use Rattle.std.specs.Prelude.{Option, Some, None, position, ◌&&◌, nat_le}
+use Rattle.std.proofs.Common.{◌≡◌, ℕ, suc, ◌+◌, ◌≤◌, Bool, true, false, cond, not, eqb, ltb, List, [], ◌∷◌, ◌++◌, length, take, drop, get_or, refl, sym, ◌∙◌, ap, subst, arith, append_assoc, length-append, drop-cons}
+use Rattle.std.specs.Prelude.{Some, None, position, ◌&&◌, nat_le}
 use Rattle.std.specs.List.{position_or_len, list_all}
 use Rattle.std.proofs.Math.Seq.{take-append_seam, drop-append_seam}
 use Rattle.std.proofs.lemmas.List.{take-append-drop, take-append-le, length-take}
@@ -8,7 +8,8 @@ use Rattle.std.proofs.lemmas.Bool.{and_parts, lt-ltb, not-true}
 use Rattle.hex.specs.Hex.{encode_lower, lower_digits}
 use Rattle.hex.proofs.HexLemmas.{length-encode_with}
 use Rattle.dasp_session.specs.declared.user.User.{User}
-use Rattle.dasp_session.specs.Line.{IsUser, line_of, is_user_name, is_name_byte}
+use Rattle.dasp_msg.specs.UserName.{is_name_byte}
+use Rattle.dasp_session.specs.Line.{IsUser, line_of}
 
 -- a text is cut at the colon behind a name
 colon-behind : (name rest : List ℕ) → list_all is_name_byte name ≡ true

@@ -1,11 +1,12 @@
 -- What a message does in its session.
 use Rattle.std.specs.Prelude.{ℕ, ℤ, Bool, true, false, ◌&&◌, ◌||◌, nat_eq, is_some, Option, Some, None, List, [], ◌∷◌}
-use Rattle.std.specs.Prelude.{slice_index, if◌then◌else◌}
+use Rattle.std.specs.Prelude.{if◌then◌else◌}
 use Rattle.std.specs.Option.{option_map, option_map_or}
 use Rattle.std.specs.Cmp.Lexicographic.{pointwise}
 use Rattle.dasp_session.specs.declared.user.User.{User}
 use Rattle.dasp_session.specs.Digest.{digest_of}
 use Rattle.dasp_session.specs.UsersFile.{credential_of}
+use Rattle.dasp_msg.specs.AckMore.{first_four}
 use Rattle.dasp_msg.specs.declared.outgoing.Message.{Message as Posted}
 use Rattle.dasp_msg.specs.declared.receiver.Taken.{Taken}
 use Rattle.dasp_msg.specs.declared.receiver.Taken.TheVariants.{New, Repeat, Outside}
@@ -38,10 +39,6 @@ silent session = record { session = Some session; says = []; effect = nothing }
 -- it ends, with or without an answer
 abbrev pub ends : List Message → Step
 ends says = record { session = None; says = says; effect = ended }
-
--- bytes that are missing are 0, and those past the fourth say nothing
-abbrev pub first_four : List ℕ → List ℕ
-first_four bytes = slice_index bytes 0 ∷ slice_index bytes 1 ∷ slice_index bytes 2 ∷ slice_index bytes 3 ∷ []
 
 -- bytes beside an ack count only with it
 abbrev pub after_acks : List Posted → Option ℕ → Option (List ℕ) → List Posted

@@ -1,11 +1,11 @@
 -- The messages that a node sends.
-use Rattle.std.specs.Prelude.{ℕ, ◌+◌, ◌*◌, Option, Some, None, List, [], ◌∷◌, map, codes, if◌then◌else◌}
+use Rattle.std.specs.Prelude.{ℕ, ◌+◌, ◌*◌, Option, Some, None, List, [], ◌∷◌, map, if◌then◌else◌}
 use Rattle.sed_outside.specs.declared.addr.Addr.{Addr}
 use Rattle.dasp_msg.specs.Acks.{ack_of, digit}
 use Rattle.dasp_msg.specs.TakenIndexes.{is_taken, is_ahead, first_gap}
-use Rattle.dasp_msg.specs.declared.kind.MsgKind.{MsgKind}
-use Rattle.dasp_msg.specs.declared.kind.MsgKind.TheVariants.{Challenge, Welcome, KeepAlive, Datagram, Close}
-use Rattle.dasp_msg.specs.Shown.{Message, without_fields}
+use Rattle.dasp_msg.specs.OfKind as of_kind
+pub use Rattle.dasp_msg.specs.OfKind.{bare, challenge, welcome, close, with_acks, carrying}
+use Rattle.dasp_msg.specs.Shown.{Message}
 
 -- a message, and where it is sent
 pub record Letter : Type 0 where
@@ -14,23 +14,6 @@ pub record Letter : Type 0 where
 
 abbrev pub addressed : Addr → List Message → List Letter
 addressed to messages = map (λ message. record { to = to; message = message }) messages
-
--- a message to the client's remote id, without fields and payload
-abbrev pub bare : ℕ → MsgKind → Message
-bare remote_id kind = without_fields remote_id 65535 kind
-
-abbrev pub challenge : ℕ → ℕ → List ℕ → Message
-challenge remote_id id nonce = record (bare remote_id Challenge) {
-  remote_id = Some id;
-  algorithm = Some (codes "SHA-1");
-  nonce = Some nonce;
-}
-
-abbrev pub welcome : ℕ → Message
-welcome remote_id = bare remote_id Welcome
-
-abbrev pub close : ℕ → ℕ → Message
-close remote_id code = record (bare remote_id Close) { error_code = Some code }
 
 -- whether the index that is so far above the first gap was taken
 abbrev pub taken_above : List ℕ → ℕ → ℕ
@@ -50,15 +33,10 @@ more_of taken =
     then Some (byte_above taken 0 ∷ byte_above taken 8 ∷ byte_above taken 16 ∷ byte_above taken 24 ∷ [])
     else None
 
-abbrev pub with_acks : ℕ → Option (List ℕ) → Message → Message
-with_acks ack more message = record message { ack = Some ack; ack_more = more }
-
-abbrev pub carrying : ℕ → List ℕ → Message → Message
-carrying number payload message = record message { sequence = number; payload = payload }
-
+-- those of a session that has taken these say so
 abbrev pub keep_alive : ℕ → List ℕ → Message
-keep_alive remote_id taken = with_acks (ack_of taken) (more_of taken) (bare remote_id KeepAlive)
+keep_alive remote_id taken = of_kind.keep_alive remote_id (ack_of taken) (more_of taken)
 
 abbrev pub datagram : ℕ → List ℕ → ℕ → List ℕ → Message
 datagram remote_id taken number payload =
-    carrying number payload (with_acks (ack_of taken) (more_of taken) (bare remote_id Datagram))
+    of_kind.datagram remote_id (ack_of taken) (more_of taken) number payload

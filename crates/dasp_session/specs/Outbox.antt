@@ -1,18 +1,12 @@
 -- The datagrams that are to be sent.
-use Rattle.std.specs.Prelude.{◌≡◌, ◌≤◌, ℕ, List, [], ◌∷◌, ◌++◌, ⊤}
+use Rattle.std.specs.Prelude.{◌≡◌, ℕ, List, [], ◌∷◌, ◌++◌, ⊤}
 use Rattle.sed_outside.specs.declared.addr.Addr.{Addr}
-use Rattle.dasp_msg.specs.Sending.{IsSentAs, MaySend, sent_size}
-use Rattle.dasp_msg.specs.Shown.{Message}
+use Rattle.dasp_msg.specs.Sending.{IsSentAs}
 use Rattle.dasp_session.specs.Letters.{Letter}
 
 pub record Datagram : Type 0 where
   pub to : Addr
   pub bytes : List ℕ
-
--- a message that may be sent in one datagram
-pub record CanGo (message : Message) : Type 0 where
-  pub may : MaySend message
-  pub fits : sent_size message ≤ 512
 
 -- each is the text of its letter's message, to the letter's address
 abbrev pub AreTexts : List Letter → List Datagram → Type 0

@@ -1,6 +1,6 @@
 //! What a client shows that it knows a user's password by.
 ghost use Rattle.std.specs.Prelude.{◌≡◌, ◌↔◌, IsTrue};
-ghost use Rattle.dasp_session.specs.Digest.{nonce_of, digest_of};
+ghost use Rattle.dasp_session.specs.Digest.{credential_made_of, digest_of, nonce_of};
 
 use sha1::Sha1;
 
@@ -16,6 +16,17 @@ pub fn nonce(secret: &[u8; 20], made: u32) -> [u8; 10]
     let mut nonce = [0; 10];
     nonce.copy_from_slice(&hash[..10]);
     nonce
+}
+
+/// The credential that a users file has of a user: SHA-1 of the user's name, a colon and the password.
+pub fn credential(user: &[u8], password: &[u8]) -> [u8; 20]
+    ensures { result ≡ credential_made_of user.now password.now }
+{
+    let mut hasher = Sha1::new();
+    hasher.update(user);
+    hasher.update(b":");
+    hasher.update(password);
+    hasher.finalize()
 }
 
 /// The digest by which a client shows that it knows a user's credential: SHA-1 of the credential and the session's

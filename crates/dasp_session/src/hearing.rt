@@ -1,6 +1,7 @@
 //! What a message does in its session.
 ghost use Rattle.std.specs.Prelude.{◌≡◌, ℕ, ◌+◌, ◌<◌, ◌≤◌, true, false, Some, List, [], length, MatchOption};
 ghost use Rattle.std.specs.Option.{option_map};
+ghost use Rattle.dasp_msg.specs.AckMore.{first_four};
 ghost use Rattle.dasp_msg.specs.View.{message_of};
 ghost use Rattle.dasp_msg.specs.declared.outgoing.Message.{Message as Posted};
 ghost use Rattle.dasp_msg.specs.Outgoing.{SendsLike};
@@ -11,11 +12,10 @@ ghost use Rattle.dasp_session.specs.Doing.{Does, IsEffect, has_room_here};
 ghost use Rattle.dasp_session.specs.Outbox.{Datagram};
 
 use crate::handed::Effect;
-use crate::letters::{close, welcome};
 use crate::outbox::Outbox;
 use crate::place::Place;
-use crate::{LONGEST_USER, Users, digest, is_same_digest};
-use dasp_msg::{Msg, MsgKind, Sender, Taken, ack_more_bytes};
+use crate::{Users, digest, is_same_digest};
+use dasp_msg::{LONGEST_USER, Msg, MsgKind, Sender, Taken, ack_more_bytes};
 use sed_value::InPlace;
 
 // The error code of a user that is not known, or did not show that it is the one.
@@ -70,7 +70,7 @@ fn apply_ack(sender: &mut Sender, ack: Option<u16>, more: Option<&[u8]>)
 }
 
 fn four_of(more: Option<&[u8]>) -> Option<[u8; 4]>
-    ensures { result ≡ option_map hearing.first_four (option_map (λ bytes. bytes.now) more.entry) }
+    ensures { result ≡ option_map first_four (option_map (λ bytes. bytes.now) more.entry) }
 {
     match more {
         Some(bytes) => Some(ack_more_bytes(bytes)),
@@ -91,7 +91,7 @@ fn authenticate(place: &mut Place, users: &Users, msg: &Msg, out: &mut Outbox) -
     match proven_user(users, &place.nonce, msg) {
         Some(user) => {
             place.user = Some(user);
-            out.send(place.address, &welcome(place.remote_id));
+            out.send(place.address, &Msg::welcome(place.remote_id));
             Effect::Nothing
         }
         None => refuse(place, out),
@@ -113,7 +113,7 @@ fn refuse(place: &mut Place, out: &mut Outbox) -> Effect
         return Effect::Nothing;
     }
     place.live = false;
-    out.send(place.address, &close(place.remote_id, NOT_KNOWN));
+    out.send(place.address, &Msg::close(place.remote_id, NOT_KNOWN));
     Effect::Ended
 }
 

@@ -1,13 +1,14 @@
-//! The messages that a node sends.
+//! The messages of a session that acknowledge.
 ghost use Rattle.std.specs.Prelude.{◌≡◌, ◌<◌, ◌≤◌, ℕ, Some, None, if◌then◌else◌, List, length, slice_index};
 ghost use Rattle.std.specs.Option.{option_map, ForSome};
 ghost use Rattle.dasp_msg.specs.View.{message_of};
 ghost use Rattle.dasp_msg.specs.Acks.{ack_of};
 ghost use Rattle.dasp_msg.specs.Receiving.{ReceivesLike};
-ghost use Rattle.dasp_session.specs.Letters as letters;
-ghost use Rattle.dasp_session.specs.Outbox.{CanGo};
+ghost use Rattle.dasp_msg.specs.OfKind as of_kind;
+ghost use Rattle.dasp_msg.specs.Sending.{CanGo};
+ghost use Rattle.dasp_session.specs.Letters.{more_of};
 
-use dasp_msg::{Msg, MsgKind, Receiver};
+use dasp_msg::{Msg, Receiver};
 
 /// What a session acknowledges.
 #[derive(Drop)]
@@ -20,7 +21,7 @@ impl Acks {
     // What a receiver acknowledges now.
     pub(crate) fn of(receiver: &Receiver) -> Acks
         ensures number { (taken : List ℕ) → ReceivesLike receiver.now taken → result.number ≡ ack_of taken }
-        ensures more { (taken : List ℕ) → ReceivesLike receiver.now taken → result.more ≡ letters.more_of taken }
+        ensures more { (taken : List ℕ) → ReceivesLike receiver.now taken → result.more ≡ more_of taken }
         ensures four { ForSome result.more (λ bytes. length bytes ≡ 4) }
     {
         let (number, bytes) = receiver.ack();
@@ -39,50 +40,12 @@ fn bytes_if(said: bool, bytes: [u8; 4]) -> Option<[u8; 4]>
     if said { Some(bytes) } else { None }
 }
 
-// Without fields and payload.
-fn bare<'a>(remote_id: u16, kind: MsgKind) -> Msg<'a>
-    ensures { message_of result ≡ letters.bare remote_id kind }
-{
-    Msg::without_fields(remote_id, 0xffff, kind)
-}
-
-pub(crate) fn challenge<'a>(remote_id: u16, id: u16, nonce: &'a [u8; 10]) -> Msg<'a>
-    ensures says { message_of result ≡ letters.challenge remote_id id nonce.now }
-    ensures can { CanGo (message_of result) }
-{
-    let mut msg = bare(remote_id, MsgKind::Challenge);
-    msg.remote_id = Some(id);
-    msg.algorithm = Some(b"SHA-1");
-    msg.nonce = Some(nonce);
-    msg
-}
-
-pub(crate) fn welcome<'a>(remote_id: u16) -> Msg<'a>
-    ensures says { message_of result ≡ letters.welcome remote_id }
-    ensures can { CanGo (message_of result) }
-{
-    bare(remote_id, MsgKind::Welcome)
-}
-
-pub(crate) fn close<'a>(remote_id: u16, code: u16) -> Msg<'a>
-    ensures says { message_of result ≡ letters.close remote_id code }
-    ensures can { CanGo (message_of result) }
-{
-    let mut msg = bare(remote_id, MsgKind::Close);
-    msg.error_code = Some(code);
-    msg
-}
-
 pub(crate) fn keep_alive(remote_id: u16, acks: &Acks) -> Msg<'_>
     requires { ForSome acks.now.more (λ bytes. length bytes ≡ 4) }
-    ensures says { message_of result
-        ≡ letters.with_acks acks.now.number acks.now.more (letters.bare remote_id MsgKind.KeepAlive) }
+    ensures says { message_of result ≡ of_kind.keep_alive remote_id acks.now.number acks.now.more }
     ensures can { CanGo (message_of result) }
 {
-    let mut msg = bare(remote_id, MsgKind::KeepAlive);
-    msg.ack = Some(acks.number);
-    msg.ack_more = more_of(acks);
-    msg
+    Msg::keep_alive(remote_id, acks.number, more_of(acks))
 }
 
 pub(crate) fn datagram<'a>(
@@ -93,16 +56,11 @@ pub(crate) fn datagram<'a>(
 ) -> Msg<'a>
     requires four { ForSome acks.now.more (λ bytes. length bytes ≡ 4) }
     requires short { length payload.now ≤ 498 }
-    ensures says { message_of result ≡ letters.carrying number payload.now
-        (letters.with_acks acks.now.number acks.now.more (letters.bare remote_id MsgKind.Datagram)) }
+    ensures says { message_of result
+        ≡ of_kind.datagram remote_id acks.now.number acks.now.more number payload.now }
     ensures can { CanGo (message_of result) }
 {
-    let mut msg = bare(remote_id, MsgKind::Datagram);
-    msg.sequence = number;
-    msg.ack = Some(acks.number);
-    msg.ack_more = more_of(acks);
-    msg.payload = payload;
-    msg
+    Msg::datagram(remote_id, acks.number, more_of(acks), number, payload)
 }
 
 fn more_of(acks: &Acks) -> Option<&[u8]>

@@ -7,8 +7,8 @@
 //! into an `Outbox`. A datagram that is no message, or is of no session, changes nothing.
 //!
 //! `Users::read` takes a users file exactly where it is one, and `Users::credential` gives the credential of a user. A
-//! text is the users file of one list of users at most, as a law says. A session's `nonce` and a client's `digest` are
-//! made of the node's secret and the user's credential by SHA-1. Nothing but `Users::read`, `Outbox::new` and
+//! text is the users file of one list of users at most, as a law says. A session's `nonce`, a user's `credential` and
+//! a client's `digest` are made of the node's secret, the user's password and the credential by SHA-1. Nothing but `Users::read`, `Outbox::new` and
 //! `Sessions::new` takes memory. The node stands on this crate.
 #![tactic(auto)]
 
@@ -29,11 +29,11 @@ mod user_laws;
 mod users;
 
 pub use handed::Handed;
-pub use hashes::{digest, is_same_digest, nonce};
+pub use hashes::{credential, digest, is_same_digest, nonce};
 pub use laws::{strangers_change_nothing, what_is_malformed_changes_nothing};
 pub use outbox::{MOST_DATAGRAMS, Outbox};
 pub use refusal::UsersRefusal;
 pub use sessions::Sessions;
-pub use user::{LONGEST_USER, User};
+pub use user::User;
 pub use user_laws::users_files_are_one;
 pub use users::{MOST_USERS, Users};

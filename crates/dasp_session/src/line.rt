@@ -1,13 +1,13 @@
 //! One line of a users file.
 ghost use Rattle.std.specs.Prelude.{◌≡◌, ℕ, ◌++◌, ◌==◌, nat_eq, Some, None, List, length, position, ◌≤◌, MatchOption};
 ghost use Rattle.std.specs.Prelude.{MatchResult};
-ghost use Rattle.std.specs.List.{list_all};
 ghost use Rattle.std.specs.Cmp.Lexicographic.{pointwise};
 ghost use Rattle.hex.specs.Hex.{encode_lower, decode_sized, IsBytes};
 ghost use Rattle.dasp_session.specs.declared.user.User.{User as Entry};
-ghost use Rattle.dasp_session.specs.Line.{is_name_byte, is_user_name, IsUser, line_of};
+ghost use Rattle.dasp_session.specs.Line.{IsUser, line_of};
 
-use crate::user::{LONGEST_USER, User};
+use crate::user::User;
+use dasp_msg::is_user_name;
 use sed_value::InPlace;
 
 // A line has a colon behind the name, 40 digits and its end.
@@ -31,7 +31,7 @@ pub(crate) fn first_line(text: &[u8]) -> Option<Line<'_>>
         None => return None,
     };
     let (name, rest) = text.split_at(colon);
-    if !is_name(name) {
+    if !is_user_name(name) {
         return None;
     }
     if rest.len() < LINE_BEHIND_NAME {
@@ -66,20 +66,6 @@ fn colon_of(text: &[u8]) -> Option<usize>
     ensures { result ≡ position (λ byte. byte == 58) text.now }
 {
     text.iter().position(|byte| *byte == b':')
-}
-
-// Whether it may be a user's name.
-fn is_name(name: &[u8]) -> bool
-    ensures { result ≡ is_user_name name.now }
-{
-    1 <= name.len() && name.len() <= LONGEST_USER && are_name_bytes(name)
-}
-
-fn are_name_bytes(name: &[u8]) -> bool
-    ensures { result ≡ list_all is_name_byte name.now }
-{
-    name.iter()
-        .all(|byte| 33 <= *byte && *byte <= 126 && *byte != b':')
 }
 
 // The credential that lower-case hexadecimal digits write. Upper-case ones are decoded too, but are not written again.

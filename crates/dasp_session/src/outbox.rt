@@ -2,7 +2,8 @@
 ghost use Rattle.std.specs.Prelude.{◌≡◌, ◌+◌, ◌<◌, ◌≤◌, ◌==◌, [], ◌∷◌, length, slice_index_or, IfOk};
 ghost use Rattle.dasp_msg.specs.Sending.{IsSentAs};
 ghost use Rattle.dasp_msg.specs.View.{message_of};
-ghost use Rattle.dasp_session.specs.Outbox.{CanGo, Datagram as Text, Sends};
+ghost use Rattle.dasp_msg.specs.Sending.{CanGo};
+ghost use Rattle.dasp_session.specs.Outbox.{Datagram as Text, Sends};
 
 use dasp_msg::{Msg, write_msg};
 use sed_outside::Addr;

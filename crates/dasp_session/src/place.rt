@@ -2,8 +2,7 @@
 ghost use Rattle.std.specs.Prelude.{◌≡◌, true, false, IfOk};
 ghost use Rattle.dasp_session.specs.Keeping.{Like, begun};
 
-use crate::LONGEST_USER;
-use dasp_msg::{Receiver, Sender};
+use dasp_msg::{LONGEST_USER, Receiver, Sender};
 use sed_outside::Addr;
 use sed_value::{InPlace, Memory};
 use std::alloc::Global;

@@ -11,7 +11,6 @@ ghost use Rattle.dasp_session.specs.Receive as step;
 
 use crate::handed::{Effect, Handed};
 use crate::hearing::hear;
-use crate::letters::{challenge, close};
 use crate::looking::{
     count_live, free_place, handed, id_of, is_here, is_sha_1, place_of, start_of, user_of,
     waiting_place,
@@ -19,14 +18,11 @@ use crate::looking::{
 use crate::outbox::Outbox;
 use crate::place::{Place, Start};
 use crate::{Users, nonce, ticking};
-use dasp_msg::{Msg, MsgKind, read_msg};
+use dasp_msg::{Msg, MsgKind, VERSION, read_msg};
 use sed_outside::Addr;
 use sed_value::Memory;
 use sed_value::limits::MOST_SESSIONS;
 use std::alloc::Global;
-
-// The protocol's version.
-const VERSION: u16 = 0x0100;
 
 // The error codes of a hello that is refused.
 const OTHER_VERSION: u16 = 0xe1;
@@ -137,11 +133,11 @@ impl Sessions {
             _ => return,
         };
         if version != VERSION {
-            out.send(from, &close(remote_id, OTHER_VERSION));
+            out.send(from, &Msg::close(remote_id, OTHER_VERSION));
             return;
         }
         if !is_sha_1(msg.algorithm) {
-            out.send(from, &close(remote_id, OTHER_DIGEST));
+            out.send(from, &Msg::close(remote_id, OTHER_DIGEST));
             return;
         }
         self.wait_or_make(from, remote_id, out);
@@ -158,7 +154,7 @@ impl Sessions {
         match waiting_place(&self.places, from, remote_id) {
             Some(place) => {
                 let kept = &self.places[place];
-                out.send(from, &challenge(kept.remote_id, kept.id, &kept.nonce));
+                out.send(from, &Msg::challenge(kept.remote_id, kept.id, &kept.nonce));
             }
             None => self.make(from, remote_id, out),
         }
@@ -172,7 +168,7 @@ impl Sessions {
         ensures one { length out.new ≡ length out.old + 1 }
     {
         if self.made == u32::MAX {
-            out.send(from, &close(remote_id, TOO_MANY));
+            out.send(from, &Msg::close(remote_id, TOO_MANY));
             return;
         }
         match free_place(&self.places) {
@@ -186,9 +182,9 @@ impl Sessions {
                 };
                 self.made += 1;
                 self.places[place].begin(&start);
-                out.send(from, &challenge(remote_id, start.id, &start.nonce));
+                out.send(from, &Msg::challenge(remote_id, start.id, &start.nonce));
             }
-            None => out.send(from, &close(remote_id, TOO_MANY)),
+            None => out.send(from, &Msg::close(remote_id, TOO_MANY)),
         }
     }
 

@@ -11,10 +11,10 @@ ghost use Rattle.dasp_session.specs.Keeping.{Like};
 ghost use Rattle.dasp_session.specs.Doing.{Does, Goes, Resends};
 ghost use Rattle.dasp_session.specs.Outbox.{Datagram};
 
-use crate::letters::{Acks, close, datagram, keep_alive};
+use crate::letters::{Acks, datagram, keep_alive};
 use crate::outbox::Outbox;
 use crate::place::Place;
-use dasp_msg::{Due, Sender};
+use dasp_msg::{Due, Msg, Sender};
 
 // The error code of a session that was silent too long, or whose message was sent too often.
 const TIMED_OUT: u16 = 0xe5;
@@ -37,7 +37,7 @@ pub(crate) fn tick(place: &mut Place, moment: i64, out: &mut Outbox) -> bool
 {
     if is_over(place, moment) {
         place.live = false;
-        out.send(place.address, &close(place.remote_id, TIMED_OUT));
+        out.send(place.address, &Msg::close(place.remote_id, TIMED_OUT));
         return false;
     }
     send_all_due(place, moment, out);

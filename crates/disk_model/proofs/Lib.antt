@@ -4,4 +4,3 @@ mod LeftSteps
 mod Recording
 mod Rooms
 mod Steps
-mod Tried

@@ -1,6 +1,7 @@
 -- What a disk means, and what each of its calls does to that.
 use Rattle.std.specs.Prelude.{◌≡◌, ◌⊎◌, ◌+◌, ◌<◌, ◌≤◌, ◌↔◌, ℕ, Bool, IsTrue, List, length, slice_index}
 use Rattle.std.specs.Prelude.{max, Option, Some, None, Result, OnOk}
+use Rattle.sed_value.specs.declared.limits.TheConstants.{LARGEST_STORE}
 use Rattle.sed_outside.specs.Counts.{one_more}
 
 -- The bytes of a file.
@@ -42,7 +43,7 @@ longest_name = 4096
 
 -- No write ends behind this place: two slots of 4,194,304 bytes, each with 6 more.
 abbrev pub largest_store : ℕ
-largest_store = 8388620
+largest_store = LARGEST_STORE
 
 -- Time goes on. What was told of a past moment stays, and so does which meanings are told.
 pub record Elapses (old new : Meaning) : Type 0 where

@@ -4,5 +4,6 @@ pub mod Replay
 pub mod Held
 pub mod Recorded
 pub mod Records
+pub mod Calls
 pub mod Left
 pub mod SystemDisk

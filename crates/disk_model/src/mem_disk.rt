@@ -1,5 +1,5 @@
 //! A disk in memory, which records its calls.
-ghost use Rattle.std.specs.Prelude.{◌≡◌, ◌+◌, ◌-◌, ◌^◌, ◌≤◌, ◌<◌, ◌++◌, ℕ, true, false, [], min, length, take, drop};
+ghost use Rattle.std.specs.Prelude.{◌≡◌, ◌+◌, ◌≤◌, ◌<◌, ◌++◌, ◌&&◌, ℕ, true, false, not, [], length, take, drop};
 ghost use Rattle.std.specs.Prelude.{sum_by, IsTrue, IsOk, IsErr, is_ok, IfOk, OnOk, if◌then◌else◌};
 ghost use Rattle.std.specs.Bool.{OnTrue, OnFalse};
 ghost use Rattle.sed_outside.specs.Cause.{HasCause};
@@ -12,6 +12,7 @@ ghost use Rattle.disk_model.specs.Replay.{calls_by, HasRoom, HasBytes, replayed,
 ghost use Rattle.disk_model.specs.Replay.{wrote, synced, other};
 ghost use Rattle.disk_model.specs.Recorded.{is_call, with_entry, HasEntry, Tries, FitsLog};
 ghost use Rattle.disk_model.specs.Records.{Records, RecordsMark};
+ghost use Rattle.disk_model.specs.Calls.{IsCall};
 ghost use Rattle.disk_model.specs.Left.{alike, image_left, IsMomentOf};
 
 use crate::buffer::Buffer;
@@ -139,36 +140,34 @@ impl MemDisk {
     fn ask(&mut self) -> Result<(), DiskFault>
         ensures keeps { Keeps (replayed self.old.history) (replayed self.new.history) }
         ensures attached { self.new.history.attached ≡ self.old.history.attached }
-        ensures time { Elapses (replayed self.old.history) (replayed self.new.history) }
-        ensures marks { MarksUp (replayed self.old.history) (replayed self.new.history) 0 }
-        ensures syncs { SyncsUp (replayed self.old.history) (replayed self.new.history) 0 }
+        ensures call { IsCall (IsErr result) 0 self.old self.new }
         ensures unmarked { OnOk result (self.new.history.is_marked ≡ false) }
-        ensures cause { HasCause self.old.history.faults self.new.history.faults (IsErr result) }
-
-        ensures calls { self.new.history.made ≡ one_more self.old.history.made }
-        ensures plan { self.new.plan ≡ after_call self.old.plan }
-        ensures bounds { self.new.bounds ≡ self.old.bounds }
-        ensures planned { FailsNow self.old.plan → IsErr result }
         ensures fits { (FailsNow self.old.plan → ⊥) → HasRoom self.old → IsOk result }
-        ensures full { (HasRoom self.old → ⊥) → IsErr result }
         ensures records { Records self.old self.new other }
     {
         self.made = self.made.saturating_add(1);
-        if record_call(&mut self.calls, &mut self.journal, Entry::Other) {
-            Ok(())
-        } else {
-            Err(counted(&mut self.faults))
-        }
+        let done = record_call(&mut self.calls, &mut self.journal, Entry::Other);
+        answer(done, &mut self.faults)
     }
 }
 
-// Counts a fault.
-fn counted(faults: &mut u64) -> DiskFault
-    ensures count { faults.new ≡ min (faults.old + 1) (2 ^ 64 - 1) }
-    ensures fault { result ≡ DiskFault.Failed }
+// What a call answers. One that isn't done is a fault that is counted.
+fn answer(done: bool, faults: &mut u64) -> Result<(), DiskFault>
+    ensures done { is_ok result ≡ done }
+    ensures cause { HasCause faults.old faults.new (IsErr result) }
 {
+    if done {
+        return Ok(());
+    }
     *faults = faults.saturating_add(1);
-    DiskFault::Failed
+    Err(DiskFault::Failed)
+}
+
+// Whether a write is done: it was written, and does not fail by its number.
+fn is_done(written: bool, fails: bool) -> bool
+    ensures { result ≡ (written && not fails) }
+{
+    written && !fails
 }
 
 // Records a call as this, or as failed where it fails by its number. Answers whether it is done.
@@ -243,47 +242,24 @@ impl Disk for MemDisk {
           at = self.old.history.made;
         } }
         ensures keeps { Keeps (replayed self.old.history) (replayed self.new.history) }
-        ensures time { Elapses (replayed self.old.history) (replayed self.new.history) }
-        ensures marks { MarksUp (replayed self.old.history) (replayed self.new.history) 0 }
-        ensures syncs { SyncsUp (replayed self.old.history) (replayed self.new.history) 0 }
+        ensures call { IsCall (IsErr result) 0 self.old self.new }
         ensures unmarked { OnOk result (self.new.history.is_marked ≡ false) }
-        ensures cause { HasCause self.old.history.faults self.new.history.faults (IsErr result) }
-
-        ensures calls { self.new.history.made ≡ one_more self.old.history.made }
-        ensures plan { self.new.plan ≡ after_call self.old.plan }
-        ensures bounds { self.new.bounds ≡ self.old.bounds }
-        ensures planned { FailsNow self.old.plan → IsErr result }
         ensures fits { (FailsNow self.old.plan → ⊥) → HasRoom self.old → IsOk result }
-        ensures full { (HasRoom self.old → ⊥) → IsErr result }
         ensures records { Records self.old self.new other }
     {
         self.attaches = self.attaches.saturating_add(1);
         self.attached_at = self.made;
-        self.made = self.made.saturating_add(1);
         self.name.set(name.as_bytes());
-        if record_call(&mut self.calls, &mut self.journal, Entry::Other) {
-            Ok(())
-        } else {
-            Err(counted(&mut self.faults))
-        }
+        self.ask()
     }
 
     fn size(&mut self) -> Result<u64, DiskFault>
         ensures size { IfOk result (λ n. n ≡ length (replayed self.old.history).content) }
         ensures keeps { Keeps (replayed self.old.history) (replayed self.new.history) }
         ensures attached { self.new.history.attached ≡ self.old.history.attached }
-        ensures time { Elapses (replayed self.old.history) (replayed self.new.history) }
-        ensures marks { MarksUp (replayed self.old.history) (replayed self.new.history) 0 }
-        ensures syncs { SyncsUp (replayed self.old.history) (replayed self.new.history) 0 }
+        ensures call { IsCall (IsErr result) 0 self.old self.new }
         ensures unmarked { OnOk result (self.new.history.is_marked ≡ false) }
-        ensures cause { HasCause self.old.history.faults self.new.history.faults (IsErr result) }
-
-        ensures calls { self.new.history.made ≡ one_more self.old.history.made }
-        ensures plan { self.new.plan ≡ after_call self.old.plan }
-        ensures bounds { self.new.bounds ≡ self.old.bounds }
-        ensures planned { FailsNow self.old.plan → IsErr result }
         ensures fits { (FailsNow self.old.plan → ⊥) → HasRoom self.old → IsOk result }
-        ensures full { (HasRoom self.old → ⊥) → IsErr result }
         ensures records { Records self.old self.new other }
     {
         self.ask()?;
@@ -295,18 +271,9 @@ impl Disk for MemDisk {
         ensures bytes { OnOk result (into.new ≡ take (length into.old) (drop at (replayed self.old.history).content)) }
         ensures keeps { Keeps (replayed self.old.history) (replayed self.new.history) }
         ensures attached { self.new.history.attached ≡ self.old.history.attached }
-        ensures time { Elapses (replayed self.old.history) (replayed self.new.history) }
-        ensures marks { MarksUp (replayed self.old.history) (replayed self.new.history) 0 }
-        ensures syncs { SyncsUp (replayed self.old.history) (replayed self.new.history) 0 }
+        ensures call { IsCall (IsErr result) 0 self.old self.new }
         ensures unmarked { OnOk result (self.new.history.is_marked ≡ false) }
-        ensures cause { HasCause self.old.history.faults self.new.history.faults (IsErr result) }
-
-        ensures calls { self.new.history.made ≡ one_more self.old.history.made }
-        ensures plan { self.new.plan ≡ after_call self.old.plan }
-        ensures bounds { self.new.bounds ≡ self.old.bounds }
-        ensures planned { FailsNow self.old.plan → IsErr result }
         ensures fits { (FailsNow self.old.plan → ⊥) → HasRoom self.old → IsOk result }
-        ensures full { (HasRoom self.old → ⊥) → IsErr result }
         ensures records { Records self.old self.new other }
     {
         self.ask()?;
@@ -320,59 +287,32 @@ impl Disk for MemDisk {
         requires { at + length bytes.now ≤ largest_store }
         ensures writes { Writes at bytes.now result (replayed self.old.history) (replayed self.new.history) }
         ensures attached { self.new.history.attached ≡ self.old.history.attached }
-        ensures time { Elapses (replayed self.old.history) (replayed self.new.history) }
-        ensures marks { MarksUp (replayed self.old.history) (replayed self.new.history) 0 }
-        ensures syncs { SyncsUp (replayed self.old.history) (replayed self.new.history) 0 }
+        ensures call { IsCall (IsErr result) 0 self.old self.new }
         ensures unmarked { OnOk result (self.new.history.is_marked ≡ false) }
-        ensures cause { HasCause self.old.history.faults self.new.history.faults (IsErr result) }
-
-        ensures calls { self.new.history.made ≡ one_more self.old.history.made }
-        ensures plan { self.new.plan ≡ after_call self.old.plan }
-        ensures bounds { self.new.bounds ≡ self.old.bounds }
-        ensures planned { FailsNow self.old.plan → IsErr result }
         ensures fits { (FailsNow self.old.plan → ⊥) → HasRoom self.old
             → HasBytes self.old at (length bytes.now) → IsOk result }
-        ensures full { (HasRoom self.old → ⊥) → IsErr result }
         ensures past { (HasBytes self.old at (length bytes.now) → ⊥) → IsErr result }
         ensures records { HasBytes self.old at (length bytes.now) → Records self.old self.new (wrote at bytes.now) }
         ensures undone { (HasBytes self.old at (length bytes.now) → ⊥) → Records self.old self.new other }
     {
         self.made = self.made.saturating_add(1);
         let fails = self.calls.fails_now();
-        if !record_write(&mut self.file, &mut self.log, &mut self.journal, at, bytes) {
-            return Err(counted(&mut self.faults));
-        }
-        if fails {
-            return Err(counted(&mut self.faults));
-        }
-        Ok(())
+        let written = record_write(&mut self.file, &mut self.log, &mut self.journal, at, bytes);
+        answer(is_done(written, fails), &mut self.faults)
     }
 
     fn sync(&mut self) -> Result<(), DiskFault>
         ensures durable { Syncs result (replayed self.old.history) (replayed self.new.history) }
         ensures attached { self.new.history.attached ≡ self.old.history.attached }
-        ensures time { Elapses (replayed self.old.history) (replayed self.new.history) }
-        ensures marks { MarksUp (replayed self.old.history) (replayed self.new.history) 0 }
-        ensures syncs { SyncsUp (replayed self.old.history) (replayed self.new.history) (if is_ok result
-            then 1 else 0) }
+        ensures call { IsCall (IsErr result) (if is_ok result then 1 else 0) self.old self.new }
         ensures unmarked { OnOk result (self.new.history.is_marked ≡ false) }
-        ensures cause { HasCause self.old.history.faults self.new.history.faults (IsErr result) }
-
-        ensures calls { self.new.history.made ≡ one_more self.old.history.made }
-        ensures plan { self.new.plan ≡ after_call self.old.plan }
-        ensures bounds { self.new.bounds ≡ self.old.bounds }
-        ensures planned { FailsNow self.old.plan → IsErr result }
         ensures fits { (FailsNow self.old.plan → ⊥) → HasRoom self.old → IsOk result }
-        ensures full { (HasRoom self.old → ⊥) → IsErr result }
         ensures records { (FailsNow self.old.plan → ⊥) → Records self.old self.new synced }
         ensures undone { FailsNow self.old.plan → Records self.old self.new other }
     {
         self.made = self.made.saturating_add(1);
-        if record_call(&mut self.calls, &mut self.journal, Entry::Synced) {
-            Ok(())
-        } else {
-            Err(counted(&mut self.faults))
-        }
+        let done = record_call(&mut self.calls, &mut self.journal, Entry::Synced);
+        answer(done, &mut self.faults)
     }
 
     /// It is none of the calls that are numbered, and needs no room.

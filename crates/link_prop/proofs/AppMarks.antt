@@ -1,6 +1,6 @@
 -- The marks of the tree and those of the links together.
 use Rattle.std.proofs.Common.{ℕ, ◌≡◌, ◌⊎◌, inl, inr, Bool, true, false, refl, sym, ◌∙◌, ap, subst}
-use Rattle.std.specs.Prelude.{Result, Ok, Err, IfOk, OnOk, OnErr, MatchResult, IsTrue, List, ◌==◌, ◌||◌, ◌&&◌, not, if◌then◌else◌}
+use Rattle.std.specs.Prelude.{Result, Ok, Err, IfOk, MatchResult, IsTrue, List, ◌==◌, ◌||◌, ◌&&◌, not, if◌then◌else◌}
 use Rattle.std.proofs.lemmas.Bool.Decides.{nat_tests}
 use Rattle.std.proofs.Common.{arith}
 use Rattle.sed_value.specs.declared.id.Id.{Id}
@@ -17,7 +17,7 @@ use Rattle.comp_tree.specs.Marks.Part.{Tree, Config, Runtime}
 use Rattle.comp_tree.specs.Parts.{link_part}
 use Rattle.comp_tree.proofs.MarkCalls.{keeps_same}
 use Rattle.link_prop.specs.Linked.{Linked}
-use Rattle.link_prop.specs.Marks.{AppPart, KeepsAppMarks, Tells, is_in_mask, is_in_row, is_marked, links_at_ends, links_of_new, no_links}
+use Rattle.link_prop.specs.Marks.{AppPart, KeepsAppMarks, Tells, is_in_mask, is_in_row, is_marked, links_of_new, no_links}
 use Rattle.link_prop.specs.Marks.AppPart.{OfTree, OfLinks}
 use Rattle.link_prop.proofs.LinkParts.{neither}
 use Rattle.sed_value.proofs.Truths.{either_true as or_keeps}

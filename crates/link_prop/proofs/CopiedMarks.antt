@@ -1,15 +1,14 @@
 -- Marks of copies along links.
-use Rattle.std.proofs.Common.{ℕ, ◌≡◌, ◌⊎◌, inl, inr, refl, sym, ◌∙◌, ap}
-use Rattle.std.specs.Prelude.{IsTrue, true, List, ◌==◌}
-use Rattle.std.specs.List.{All, filter}
+use Rattle.std.proofs.Common.{ℕ, ◌≡◌, refl, sym}
+use Rattle.std.specs.Prelude.{List, ◌==◌}
+use Rattle.std.specs.List.{All}
 use Rattle.std.proofs.lemmas.Bool.{eqb-true}
 use Rattle.std.proofs.lemmas.List.Elements.{filter_passes}
 use Rattle.sed_engine.specs.declared.engine.Engine.{Ghosts}
 use Rattle.sub_table.specs.Link.{Link}
 use Rattle.sub_table.specs.Links.{links_into}
-use Rattle.comp_tree.specs.Application.{is_live}
 use Rattle.comp_tree.specs.Held.{Held, components_of}
-use Rattle.comp_tree.specs.Marks.{KeepsMarks, Part, is_among, values_at}
+use Rattle.comp_tree.specs.Marks.{KeepsMarks, values_at}
 use Rattle.comp_tree.proofs.MarkCalls.{keeps_same, keeps_then, same_either}
 use Rattle.link_prop.proofs.AlikeComponents.{AreAlike, live_with_class}
 

@@ -12,17 +12,16 @@ ghost use Rattle.link_prop.specs.CycleMarks.{values_of_any};
 
 use crate::App;
 use crate::end::{CycleEnd, traps_of};
+use comp_tree::Turns;
 use sed_engine::Engine;
 use sed_value::Id;
 
-/// One cycle of an application, each root call with so many turns, 1 to 1,000,000, at a moment in nanoseconds.
+/// One cycle of an application, each root call with so many turns at a moment in nanoseconds.
 ///
 /// At each component, depth first, the links into it are copied by ascending target slot, `changed` is called after
 /// each copy that changes what is stored, and then the component is executed where its fault is 0. A trap becomes the
 /// component's fault, and is counted. It may mark the values of any component, and marks nothing else.
-pub fn cycle<E: Engine>(app: &mut App<E>, turns: u32, ticks: i64) -> CycleEnd
-    requires some_turns { 1 ≤ turns }
-    requires most_turns { turns ≤ 1000000 }
+pub fn cycle<E: Engine>(app: &mut App<E>, turns: Turns, ticks: i64) -> CycleEnd
     ensures cycled { (let c : Cycled = record { application = application_of E.Engine app.new; traps = result.traps }
         in c) ≡ Cycle (E.meaning app.old.tree.engine) (application_of E.Engine app.old) turns ticks }
     ensures marks { KeepsAppMarks E.Engine values_of_any no_links app.old app.new }
@@ -35,10 +34,8 @@ pub fn cycle<E: Engine>(app: &mut App<E>, turns: u32, ticks: i64) -> CycleEnd
 }
 
 // Visits components one after another, and says how many root calls trapped.
-fn visit_all<E: Engine>(app: &mut App<E>, ids: &[u16], turns: u32, ticks: i64) -> u32
-    requires few { length ids.now ≤ most_components }
-    requires some_turns { 1 ≤ turns }
-    requires most_turns { turns ≤ 1000000 }
+fn visit_all<E: Engine>(app: &mut App<E>, ids: &[u16], turns: Turns, ticks: i64) -> u32
+    requires { length ids.now ≤ most_components }
     ensures visited { fold (visited_at (E.meaning app.old.tree.engine) app.old.links turns ticks)
         (record { left = components_of E.Engine app.old.tree; traps = 0 }) ids.now
         ≡ (let s : Counted = record { left = components_of E.Engine app.new.tree; traps = result } in s) }
@@ -54,9 +51,7 @@ fn visit_all<E: Engine>(app: &mut App<E>, ids: &[u16], turns: u32, ticks: i64) -
 }
 
 // Copies the links into a component, executes it where it may be, and says how many root calls trapped.
-fn visit<E: Engine>(app: &mut App<E>, id: Id, turns: u32, ticks: i64) -> u32
-    requires some_turns { 1 ≤ turns }
-    requires most_turns { turns ≤ 1000000 }
+fn visit<E: Engine>(app: &mut App<E>, id: Id, turns: Turns, ticks: i64) -> u32
     ensures visited { (before : ℕ)
         → visited_at (E.meaning app.old.tree.engine) app.old.links turns ticks
         (record { left = components_of E.Engine app.old.tree; traps = before }) id.0
@@ -73,9 +68,7 @@ fn visit<E: Engine>(app: &mut App<E>, id: Id, turns: u32, ticks: i64) -> u32
 }
 
 // Executes a component that is live and has no fault, and says how many root calls trapped: one or none.
-fn run_if_it_may<E: Engine>(app: &mut App<E>, id: Id, turns: u32, ticks: i64) -> u32
-    requires some_turns { 1 ≤ turns }
-    requires most_turns { turns ≤ 1000000 }
+fn run_if_it_may<E: Engine>(app: &mut App<E>, id: Id, turns: Turns, ticks: i64) -> u32
     ensures left { components_of E.Engine app.new.tree
         ≡ (execute_at (E.meaning app.old.tree.engine) (components_of E.Engine app.old.tree) id.0 turns ticks).left }
     ensures traps { result ≡ traps_in

@@ -11,15 +11,14 @@ ghost use Rattle.link_prop.specs.CycleMarks.{values_of_any};
 
 use crate::App;
 use crate::end::{CycleEnd, traps_of};
+use comp_tree::Turns;
 use sed_engine::{Callback, Engine};
 use sed_value::Id;
 
-/// Calls `start` of each component, depth first, with so many turns, 1 to 1,000,000, at a moment in nanoseconds. Where
-/// a component's fault isn't 0 nothing is called; a trap becomes its fault, and is counted. It may mark the values of
-/// any component, and marks nothing else.
-pub fn begin<E: Engine>(app: &mut App<E>, turns: u32, ticks: i64) -> CycleEnd
-    requires some_turns { 1 ≤ turns }
-    requires most_turns { turns ≤ 1000000 }
+/// Calls `start` of each component, depth first, with so many turns at a moment in nanoseconds. Where a component's
+/// fault isn't 0 nothing is called; a trap becomes its fault, and is counted. It may mark the values of any component,
+/// and marks nothing else.
+pub fn begin<E: Engine>(app: &mut App<E>, turns: Turns, ticks: i64) -> CycleEnd
     ensures begun { (let c : Cycled = record { application = application_of E.Engine app.new; traps = result.traps }
         in c) ≡ Begin (E.meaning app.old.tree.engine) (application_of E.Engine app.old) turns ticks }
     ensures marks { KeepsAppMarks E.Engine values_of_any no_links app.old app.new }
@@ -32,11 +31,9 @@ pub fn begin<E: Engine>(app: &mut App<E>, turns: u32, ticks: i64) -> CycleEnd
 }
 
 // Calls `start` of components one after another, and says how many of the calls trapped.
-fn start_all<E: Engine>(app: &mut App<E>, ids: &[u16], turns: u32, ticks: i64) -> u32
+fn start_all<E: Engine>(app: &mut App<E>, ids: &[u16], turns: Turns, ticks: i64) -> u32
     requires live { All (λ id. IsTrue (is_live (components_of E.Engine app.old.tree).by_id id)) ids.now }
     requires few { length ids.now ≤ most_components }
-    requires some_turns { 1 ≤ turns }
-    requires most_turns { turns ≤ 1000000 }
     ensures started { call_each (E.meaning app.old.tree.engine) Callback.Start turns ticks
         (components_of E.Engine app.old.tree) ids.now ≡ (let s : Counted =
         record { left = components_of E.Engine app.new.tree; traps = result } in s) }

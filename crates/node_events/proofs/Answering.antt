@@ -36,7 +36,7 @@ module _ (m : Meaning) (s : Setup) (asked : Asked) where
     reply_is : (at_moment a moment).reply ≡ Some reply
     application_is : after ≡ (at_moment a moment).application
 
-  has_reply : (a : Application) (e : Result Edited ℕ) → asks_for_save asked ≡ false → (answer_by a asked e).reply ≡ None → ⊥
+  has_reply : (a : Application) (e : Result Edited Refusal) → asks_for_save asked ≡ false → (answer_by a asked e).reply ≡ None → ⊥
   has_reply a (Ok edited) plain is = never (asks_for_save asked) plain is
     where
       never : (b : Bool) → b ≡ false → (if b then None else Some (answered_by asked edited.reply)) ≡ None → ⊥

@@ -188,7 +188,7 @@ module _ (refuse : RowsRefuse) (allow : RowsAllow) (m : Meaning) (s : Setup) whe
         same : (x y : Answered) → ◌≡◌ {A = Option Answered} (Some x) (Some y) → x ≡ y
         same x y is = cc
 
-    allowed_never : (e : Result Edited ℕ) → IsOk e → (answer_by a asked e).reply ≡ Some (refused refusal) → ⊥
+    allowed_never : (e : Result Edited Refusal) → IsOk e → (answer_by a asked e).reply ≡ Some (refused refusal) → ⊥
     allowed_never (Ok edited) ok is = done_never (asks_for_save asked) edited.reply is
     allowed_never (Err number) ok is = absurd (let no : false ≡ true = ok in cc)
 

@@ -22,15 +22,16 @@ use Rattle.sub_table.specs.declared.part.Part.TheVariants.{Tree, Config, Runtime
 use Rattle.sub_table.specs.Events.{posted, subscribed}
 use Rattle.sub_table.specs.Parts.{is_in, is_part}
 use Rattle.sub_table.specs.Table.{Subscriptions, is_at, without_place}
-use Rattle.sox_msg.specs.Answered.{Answered}
+use Rattle.sox_msg.specs.Answered.{Answered, answered_text}
 use Rattle.sox_msg.specs.Command.{number_in}
 use Rattle.sox_serve.specs.Answer.{Answer}
-use Rattle.sox_serve.specs.Replies.{answered_text}
 use Rattle.sox_serve.specs.declared.served.Served.{Served}
 use Rattle.sox_serve.specs.declared.served.Served.TheVariants.{Replied, SaveAsked, Subscribe, Unsubscribe, Deleted}
 use Rattle.node_events.specs.Delivering.{delivered, handed}
 use Rattle.node_events.specs.Elsewhere.{IsAtOnePlace, SameSessionsBut, SameSubscribedBut, SubscribesNothing}
-use Rattle.node_events.specs.Events.{PartAt, Telling, bytes_of, differs_from, event_bytes, has_room_at, is_due, parts_of, then_call, told, told_all, told_if_due}
+use Rattle.sox_events.specs.Due.{letter_of}
+use Rattle.sox_msg.specs.Reply.{event_bytes}
+use Rattle.node_events.specs.Events.{PartAt, Telling, bytes_of, differs_from, has_room_at, is_due, parts_of, then_call, told, told_all, told_if_due}
 use Rattle.node_events.specs.Heard.{Heard, Wish, asks, is_refused}
 use Rattle.node_events.specs.Mishap.{Mishap}
 use Rattle.node_events.specs.Node.{Node, Setup}
@@ -274,7 +275,7 @@ module _ (m : Meaning) (place : ℕ) where
 
       by_test : (b : Bool) → Beside place t.node (if b then told place p.id p.part (bytes_of m t.node.application p.id p.part) t else t).node
       by_test true = record {
-        sessions = call_beside t.node.sessions place (posted_in t.node.sessions.moment (event_bytes p.id p.part bytes)) (session_at t.node.sessions place);
+        sessions = call_beside t.node.sessions place (posted_in t.node.sessions.moment (event_bytes p.id (letter_of p.part) bytes)) (session_at t.node.sessions place);
         subscriptions = λ other id part ne.
             ap (λ (b : Bool). if b && id == p.id && is_part p.part part then posted bytes (t.node.subscriptions other id part) else t.node.subscriptions other id part)
             (other_number other place ne);

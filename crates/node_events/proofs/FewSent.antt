@@ -22,10 +22,12 @@ use Rattle.dasp_session.specs.Looking.{Found, found_from, free_from, is_session_
 use Rattle.dasp_session.specs.Receive.{Handing, Outcome, none, ended_at, payload_at, answers, at_place as at_place_in, challenged, handed_at, hello, in_found, is_sha_1, made_at, new_session, post_of, received, received_as, tick_of}
 use Rattle.dasp_session.specs.Session.{Session, State}
 use Rattle.dasp_session.specs.Ticking.{again_if_due, is_over, kept_up as kept_in, posted_in, resends, sent_all, ticked as ticked_in}
+use Rattle.sox_msg.specs.Answered.{answered_text}
 use Rattle.sox_msg.specs.Command.{number_in}
-use Rattle.sox_serve.specs.Replies.{answered_text}
 use Rattle.node_events.specs.Delivering.{delivered, handed}
-use Rattle.node_events.specs.Events.{PartAt, Telling, bytes_of, event_bytes, has_room_at, is_due as is_due_of, parts_of, then_call, told, told_all, told_if_due, with_last}
+use Rattle.sox_events.specs.Due.{letter_of}
+use Rattle.sox_msg.specs.Reply.{event_bytes}
+use Rattle.node_events.specs.Events.{PartAt, Telling, bytes_of, has_room_at, is_due as is_due_of, parts_of, then_call, told, told_all, told_if_due, with_last}
 use Rattle.node_events.specs.Heard.{Heard, Wish}
 use Rattle.node_events.specs.Mishap.{Mishap}
 use Rattle.node_events.specs.Node.{KeepsWindows, Node, Setup}
@@ -362,7 +364,7 @@ module _ (place base : ℕ) where
           → At place base (if b then told place p.id p.part (bytes_of m t.node.application p.id p.part) t else t)
       by_test true is =
           let bytes = bytes_of m t.node.application p.id p.part in
-          let event = event_bytes p.id p.part bytes in
+          let event = event_bytes p.id (letter_of p.part) bytes in
           call_bound (with_last place p.id p.part bytes t) (posted_in t.node.sessions.moment event) (session_at t.node.sessions place) refl
           (post_after t.node.sessions.moment event (session_at t.node.sessions place) (length t.sent)
           (first_true (has_room_at t.node.sessions place) (is_due_of m t.node.application t.node.subscriptions place p.id p.part) is) at)
@@ -419,7 +421,7 @@ module _ (place : ℕ) where
       by_test : (b : Bool) → (has_room_at t.node.sessions place && is_due_of m t.node.application t.node.subscriptions place p.id p.part) ≡ b
           → KeepsWindows (if b then told place p.id p.part (bytes_of m t.node.application p.id p.part) t else t).node.sessions
       by_test true is =
-          by_session (session_at t.node.sessions place) (event_bytes p.id p.part (bytes_of m t.node.application p.id p.part)) refl
+          by_session (session_at t.node.sessions place) (event_bytes p.id (letter_of p.part) (bytes_of m t.node.application p.id p.part)) refl
           (first_true place 0 (has_room_at t.node.sessions place) (is_due_of m t.node.application t.node.subscriptions place p.id p.part) is)
       by_test false is = keeps
 

@@ -16,7 +16,9 @@ use Rattle.sub_table.specs.declared.part.Part.{Part}
 use Rattle.sub_table.specs.declared.part.Part.TheVariants.{Tree, Config, Runtime, Links}
 use Rattle.sub_table.specs.Events.{posted}
 use Rattle.sub_table.specs.Parts.{is_part}
-use Rattle.node_events.specs.Events.{PartAt, Telling, bytes_of, event_bytes, has_room_at, is_due, parts_at, parts_of, told, told_if_due}
+use Rattle.sox_events.specs.Due.{letter_of}
+use Rattle.sox_msg.specs.Reply.{event_bytes}
+use Rattle.node_events.specs.Events.{PartAt, Telling, bytes_of, has_room_at, is_due, parts_at, parts_of, told, told_if_due}
 use Rattle.node_events.specs.InOrder.{ascend, is_part_of, order_of}
 use Rattle.node_events.specs.Replying.{next_letter}
 use Rattle.node_events.proofs.Taking.{posted_letters}
@@ -132,8 +134,8 @@ module _ (m : Meaning) (place : ℕ) (t : Telling) (p : PartAt) (later : List Pa
 module _ (place id : ℕ) (part : Part) (bytes : List ℕ) (t : Telling) where
   pub event_sent : (y : Session) → session_at t.node.sessions place ≡ Some y
       → (told place id part bytes t).sent
-      ≡ t.sent ++ next_letter y (event_bytes id part bytes) ∷ []
-  event_sent y is = ap (λ (more : List Letter). t.sent ++ more) (posted_letters t.node.sessions place (event_bytes id part bytes) y is)
+      ≡ t.sent ++ next_letter y (event_bytes id (letter_of part) bytes) ∷ []
+  event_sent y is = ap (λ (more : List Letter). t.sent ++ more) (posted_letters t.node.sessions place (event_bytes id (letter_of part) bytes) y is)
 
   same : (k : ℕ) → (k == k) ≡ true
   same k = grind (arith, nat_tests)

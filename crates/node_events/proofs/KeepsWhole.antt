@@ -1,6 +1,7 @@
 -- An event leaves a whole application whole.
 use Rattle.std.proofs.Common.{◌≡◌, ℕ, Bool, true, false, List, [], ◌∷◌, refl, sym, subst}
 use Rattle.std.specs.Prelude.{ℤ, Option, Some, None, Result, Ok, Err, if◌then◌else◌}
+use Rattle.sed_value.specs.declared.refusal.Refusal.{Refusal}
 use Rattle.sed_value.specs.declared.refusal.Refusal.TheVariants.{OutOfMemory}
 use Rattle.sed_outside.specs.declared.addr.Addr.{Addr}
 use Rattle.sed_engine.specs.Code.{Meaning}
@@ -37,7 +38,7 @@ module _ (m : Meaning) (keeps : Keeps m) (s : Setup) where
       → Whole m (answer m a asked s.turns moment).application
   answer_whole a asked moment gives whole = by_edit (Edit m a (command_of asked) s.turns moment) refl
     where
-      by_edit : (r : Result Edited ℕ) → Edit m a (command_of asked) s.turns moment ≡ r
+      by_edit : (r : Result Edited Refusal) → Edit m a (command_of asked) s.turns moment ≡ r
           → Whole m (answer_by a asked r).application
       by_edit (Ok e) is = keeps.edits a (command_of asked) s.turns moment e whole gives is
       by_edit (Err number) is = whole

@@ -18,10 +18,12 @@ use Rattle.dasp_session.specs.Looking.{Found, found_from, free_from, is_session_
 use Rattle.dasp_session.specs.Receive.{Handing, Outcome, none, ended_at, payload_at, advanced, answers, at_place, challenged, greeted, hello, in_found, is_sha_1, keep_of, made_at, new_session, post_of, received, received_as, tick_of}
 use Rattle.dasp_session.specs.Session.{Session, State}
 use Rattle.dasp_session.specs.Ticking.{kept_up as step_kept, posted_in, ticked as step_ticked}
+use Rattle.sox_msg.specs.Answered.{answered_text}
 use Rattle.sox_msg.specs.Command.{number_in}
-use Rattle.sox_serve.specs.Replies.{answered_text}
 use Rattle.node_events.specs.Delivering.{delivered, handed}
-use Rattle.node_events.specs.Events.{PartAt, Telling, bytes_of, event_bytes, has_room_at, is_due, parts_of, then_call, told as told_of, told_all, told_if_due}
+use Rattle.sox_events.specs.Due.{letter_of}
+use Rattle.sox_msg.specs.Reply.{event_bytes}
+use Rattle.node_events.specs.Events.{PartAt, Telling, bytes_of, has_room_at, is_due, parts_of, then_call, told as told_of, told_all, told_if_due}
 use Rattle.node_events.specs.Heard.{Heard, Wish}
 use Rattle.node_events.specs.Mishap.{Mishap}
 use Rattle.node_events.specs.Node.{Node, Setup}
@@ -163,7 +165,7 @@ module _ (m : Meaning) where
     where
       by_test : (b : Bool) → Goes t.node (if b then told_of place p.id p.part (bytes_of m t.node.application p.id p.part) t else t).node
       by_test true =
-          record { application = refl; sessions = post_same t.node.sessions place (event_bytes p.id p.part (bytes_of m t.node.application p.id p.part)) }
+          record { application = refl; sessions = post_same t.node.sessions place (event_bytes p.id (letter_of p.part) (bytes_of m t.node.application p.id p.part)) }
       by_test false = goes t.node
 
   parts_go : (place : ℕ) (parts : List PartAt) (t : Telling) → Goes t.node (fold (told_if_due m place) t parts).node

@@ -15,14 +15,15 @@ use Rattle.sub_table.specs.Table.{Subscriptions, is_at, with_event, without_plac
 use Rattle.dasp_session.specs.Letters.{Letter}
 use Rattle.dasp_session.specs.Receive.{Handing, none, ended_at, payload_at, keep_of, post_of, received, tick_of}
 use Rattle.dasp_session.specs.Session.{State}
-use Rattle.sox_msg.specs.Answered.{Answered}
+use Rattle.sox_msg.specs.Answered.{Answered, answered_text}
 use Rattle.sox_msg.specs.Command.{number_in}
 use Rattle.sox_serve.specs.Answer.{Answer}
-use Rattle.sox_serve.specs.Replies.{answered_text}
 use Rattle.sox_serve.specs.declared.served.Served.{Served}
 use Rattle.sox_serve.specs.declared.served.Served.TheVariants.{Replied, SaveAsked, Subscribe, Unsubscribe, Deleted}
 use Rattle.node_events.specs.Delivering.{delivered, handed}
-use Rattle.node_events.specs.Events.{PartAt, Telling, bytes_of, differs_from, event_bytes, has_room_at, is_due, parts_of, then_call, told, told_all, told_if_due}
+use Rattle.sox_events.specs.Due.{letter_of}
+use Rattle.sox_msg.specs.Reply.{event_bytes}
+use Rattle.node_events.specs.Events.{PartAt, Telling, bytes_of, differs_from, has_room_at, is_due, parts_of, then_call, told, told_all, told_if_due}
 use Rattle.node_events.specs.Heard.{Heard, Wish, asks, is_refused}
 use Rattle.node_events.specs.Mishap.{Mishap}
 use Rattle.node_events.specs.Node.{Node, OnlyOfTheOpen, Setup, is_open}
@@ -148,9 +149,9 @@ module _ (m : Meaning) where
       by_test : (b : Bool) → (has_room_at t.node.sessions place && is_due m t.node.application t.node.subscriptions place p.id p.part) ≡ b
           → OnlyOfTheOpen (if b then told place p.id p.part (bytes_of m t.node.application p.id p.part) t else t).node
       by_test true due =
-          after_stays t.node.sessions (post_of t.node.sessions place (event_bytes p.id p.part (bytes_of m t.node.application p.id p.part))).state
+          after_stays t.node.sessions (post_of t.node.sessions place (event_bytes p.id (letter_of p.part) (bytes_of m t.node.application p.id p.part))).state
           (with_event place p.id p.part (bytes_of m t.node.application p.id p.part) t.node.subscriptions)
-          (post_stays t.node.sessions place (event_bytes p.id p.part (bytes_of m t.node.application p.id p.part)))
+          (post_stays t.node.sessions place (event_bytes p.id (letter_of p.part) (bytes_of m t.node.application p.id p.part)))
           (after_event t.node.sessions t.node.subscriptions only place p.id p.part (bytes_of m t.node.application p.id p.part)
           (due_open (is_open t.node.sessions place) refl due))
       by_test false due = only

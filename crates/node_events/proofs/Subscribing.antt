@@ -62,11 +62,11 @@ module _ (a : Application) (subs : Subscriptions) (place : ℕ) where
   calm_served asked false x p i part is = inl is
 
   -- a command of which nothing is asked but its reply, or a save
-  calm : (asked : Asked) (b : Bool) → served_by asked ≡ (if b then SaveAsked else Replied) → (e : Result Edited ℕ) → After asked (answer_by a asked e)
+  calm : (asked : Asked) (b : Bool) → served_by asked ≡ (if b then SaveAsked else Replied) → (e : Result Edited Refusal) → After asked (answer_by a asked e)
   calm asked b same (Ok edited) = subst (λ (x : Served). Was asked (subscribed_after x place edited.application subs)) (sym same) (calm_served asked b edited.application)
   calm asked b same (Err number) = λ p i part is. inl is
 
-  deleted : (id : ℕ) (e : Result Edited ℕ) → After (delete id) (answer_by a (delete id) e)
+  deleted : (id : ℕ) (e : Result Edited Refusal) → After (delete id) (answer_by a (delete id) e)
   deleted id (Ok edited) = λ p i part. by_test (is_live edited.application.components.by_id i) p i part
     where
       by_test : (b : Bool) (p i : ℕ) (part : Part) → is_some (if b then subs p i part else None) ≡ true
@@ -75,7 +75,7 @@ module _ (a : Application) (subs : Subscriptions) (place : ℕ) where
       by_test false p i part is = absurd (no_true is)
   deleted id (Err number) = λ p i part is. inl is
 
-  unsubscribed : (id mask : ℕ) (e : Result Edited ℕ) → After (unsubscribe id mask) (answer_by a (unsubscribe id mask) e)
+  unsubscribed : (id mask : ℕ) (e : Result Edited Refusal) → After (unsubscribe id mask) (answer_by a (unsubscribe id mask) e)
   unsubscribed id mask (Ok edited) = λ p i part. by_test (is_at place id p i && is_in mask part) p i part
     where
       by_test : (b : Bool) (p i : ℕ) (part : Part) → is_some (if b then None else subs p i part) ≡ true

@@ -19,9 +19,8 @@ use Rattle.dasp_session.specs.Looking.{Found, found_from, free_from, is_session_
 use Rattle.dasp_session.specs.Receive.{Handing, Outcome, none, ended_at, payload_at, answers, at_place as at_place_in, challenged, handed_at, hello, in_found, is_sha_1, made_at, post_of, received, received_as}
 use Rattle.dasp_session.specs.Session.{Session, State}
 use Rattle.dasp_session.specs.Ticking.{posted_in}
-use Rattle.sox_msg.specs.Answered.{Answered}
+use Rattle.sox_msg.specs.Answered.{Answered, answered_text}
 use Rattle.sox_msg.specs.Command.{number_in}
-use Rattle.sox_serve.specs.Replies.{answered_text}
 use Rattle.node_events.specs.Delivering.{delivered, handed}
 use Rattle.node_events.specs.Heard.{Heard, Wish}
 use Rattle.node_events.specs.Mishap.{Mishap}

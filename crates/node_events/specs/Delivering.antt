@@ -2,9 +2,8 @@
 use Rattle.std.specs.Prelude.{ℕ, List, [], ◌++◌, Option, Some, None}
 use Rattle.sed_outside.specs.declared.addr.Addr.{Addr}
 use Rattle.sed_engine.specs.Code.{Meaning}
-use Rattle.sox_msg.specs.Answered.{Answered}
+use Rattle.sox_msg.specs.Answered.{Answered, answered_text}
 use Rattle.sox_msg.specs.Command.{number_in}
-use Rattle.sox_serve.specs.Replies.{answered_text}
 use Rattle.dasp_session.specs.Letters.{Letter}
 use Rattle.dasp_session.specs.Receive.{Handing, Outcome, none, ended_at, payload_at, post_of, received}
 use Rattle.node_events.specs.Heard.{Heard, Wish}

@@ -11,7 +11,7 @@ use Rattle.comp_tree.specs.Parts.{link_part}
 use Rattle.sub_table.specs.declared.part.Part.{Part}
 use Rattle.sub_table.specs.declared.part.Part.TheVariants.{Tree, Config, Runtime, Links}
 use Rattle.sub_table.specs.Table.{Subscriptions, with_event}
-use Rattle.sox_msg.specs.Command.{u2}
+use Rattle.sox_msg.specs.Reply.{event_bytes}
 use Rattle.sox_events.specs.Due.{letter_of}
 use Rattle.dasp_msg.specs.Posted.{has_room}
 use Rattle.dasp_session.specs.Letters.{Letter}
@@ -42,10 +42,6 @@ parts_at id =
 -- all parts by ascending id, and of one component in the order t, c, r, l
 abbrev pub parts_of : Application → List PartAt
 parts_of a = flat_map parts_at (map.keys a.components.by_id)
-
--- the text of an event
-abbrev pub event_bytes : ℕ → Part → List ℕ → List ℕ
-event_bytes id part bytes = 101 ∷ 255 ∷ (u2 id ++ letter_of part ∷ bytes)
 
 -- ---- which are due
 
@@ -80,7 +76,7 @@ with_last place id part bytes t =
 -- an event with the bytes of a part is posted, and these are its last event's
 abbrev pub told : ℕ → ℕ → Part → List ℕ → Telling → Telling
 told place id part bytes t =
-    then_call (with_last place id part bytes t) (post_of t.node.sessions place (event_bytes id part bytes))
+    then_call (with_last place id part bytes t) (post_of t.node.sessions place (event_bytes id (letter_of part) bytes))
 
 -- where a part is due and there is room
 abbrev pub told_if_due : Meaning → ℕ → Telling → PartAt → Telling

@@ -9,9 +9,8 @@ use Rattle.dasp_session.specs.Hearing.{hears}
 use Rattle.dasp_session.specs.Letters.{Letter, datagram}
 use Rattle.dasp_session.specs.Looking.{Found, found_from, is_session_of, session_at}
 use Rattle.dasp_session.specs.Session.{Session}
-use Rattle.sox_msg.specs.Answered.{Answered}
+use Rattle.sox_msg.specs.Answered.{Answered, answered_text}
 use Rattle.sox_msg.specs.Command.{number_in}
-use Rattle.sox_serve.specs.Replies.{answered_text}
 use Rattle.node_events.specs.Delivering.{Delivery}
 use Rattle.node_events.specs.Node.{Node}
 

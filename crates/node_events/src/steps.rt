@@ -6,8 +6,10 @@ ghost use Rattle.comp_tree.specs.Application.{Application, is_live};
 ghost use Rattle.dasp_session.specs.Looking.{session_at};
 ghost use Rattle.dasp_session.specs.Session.{Session};
 ghost use Rattle.sub_table.specs.declared.part.Part.{Part as PartOf};
+ghost use Rattle.sox_events.specs.Due.{letter_of};
+ghost use Rattle.sox_msg.specs.Reply.{event_bytes};
 ghost use Rattle.node_events.specs.Events.{PartAt, Telling, parts_of};
-ghost use Rattle.node_events.specs.Events.{bytes_of, event_bytes, has_room_at, is_due, told, told_all, told_if_due};
+ghost use Rattle.node_events.specs.Events.{bytes_of, has_room_at, is_due, told, told_all, told_if_due};
 ghost use Rattle.node_events.specs.InOrder.{ascend, is_part_of, order_of};
 ghost use Rattle.node_events.specs.Node.{Node as State, Setup};
 ghost use Rattle.node_events.specs.Replying.{next_letter};
@@ -54,7 +56,8 @@ pub fn events_come_part_by_part()
 pub fn events_are_sent()
     ensures sent { (place id : ℕ) (part : PartOf) (bytes : List ℕ) (t : Telling) (session : Session)
         → session_at t.node.sessions place ≡ Some session
-        → (told place id part bytes t).sent ≡ t.sent ++ next_letter session (event_bytes id part bytes) ∷ [] }
+        → (told place id part bytes t).sent
+        ≡ t.sent ++ next_letter session (event_bytes id (letter_of part) bytes) ∷ [] }
     ensures kept { (place id : ℕ) (part : PartOf) (bytes : List ℕ) (t : Telling)
         → (told place id part bytes t).node.subscriptions place id part ≡ Some (Some bytes) }
 {}

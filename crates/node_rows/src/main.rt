@@ -3,6 +3,7 @@
 //! disk; and a node, over the walker and over the machine of an image.
 #![tactic(auto)]
 
+mod disks;
 mod files;
 mod kits;
 mod nodes;
@@ -14,7 +15,7 @@ use rows::{Case, CaseFault, run};
 use std::io;
 
 // The tables, in the order in which they run.
-const TABLES: [&str; 19] = [
+const TABLES: [&str; 20] = [
     "scripts",
     "tiny",
     "requests",
@@ -28,6 +29,7 @@ const TABLES: [&str; 19] = [
     "places",
     "prefixes",
     "changes",
+    "disks",
     "runs",
     "crashes",
     "saves",
@@ -66,6 +68,7 @@ fn of_scripts(rt: &HostRuntime, name: &str, case: &mut Case) {
 
 fn of_stores(rt: &HostRuntime, name: &str, case: &mut Case) {
     match name {
+        "disks" => disks::disks(case),
         "runs" => stores::runs(case),
         "crashes" => stores::crashes(case),
         "saves" => stores::saves(case),

@@ -1,6 +1,6 @@
 //! A node of `sys` alone, over the walker and over the machine of an image that was written, read and verified: what it
 //! answers, and what it prints at its end.
-ghost use Rattle.std.specs.Prelude.{◌≡◌, ◌≤◌, IsTrue};
+ghost use Rattle.std.specs.Prelude.{◌≡◌, IsTrue};
 ghost use Rattle.std.specs.FinMap as map;
 ghost use Rattle.app_save.specs.Saving.{AllStores};
 ghost use Rattle.comp_tree.specs.Whole.{Whole};
@@ -9,6 +9,7 @@ ghost use Rattle.sed_node.specs.Standing.{setup_of};
 
 use crate::files::parts;
 use crate::kits::{Kits, came, read_machine, walker, within};
+use crate::scripts::budget;
 use app_reader::read_app;
 use app_save::{Store, make};
 use dasp_session::Users;
@@ -149,7 +150,8 @@ fn open<E: Engine, D: Disk>(case: &mut Case, app: App<E>, store: Store, disk: &m
         return case.fail(CaseFault::Memory);
     };
     let moment = clock.now();
-    match Node::open(case.alloc(), app, store, users, SECRET, TURNS, moment) {
+    let turns = budget(TURNS);
+    match Node::open(case.alloc(), app, store, users, SECRET, turns, moment) {
         Ok(node) => run(case, node, disk, &mut clock, plan),
         Err(_) => case.fail(CaseFault::Memory),
     }

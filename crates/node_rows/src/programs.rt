@@ -1,11 +1,11 @@
 //! Programs of one source: what a component of their first class comes to, over the walker and over the machine.
-ghost use Rattle.std.specs.Prelude.{◌≡◌, ◌≤◌, IfSome};
+ghost use Rattle.std.specs.Prelude.{◌≡◌, IfSome};
 ghost use Rattle.std.specs.FinMap as map;
 ghost use Rattle.sed_typed.specs.Typed.{Typed};
 
 use crate::kits::{came, machine_of, walker_of, within};
 use crate::scripts::budget;
-use comp_tree::Tree;
+use comp_tree::{NewComponent, Tree, Turns};
 use rows::{Case, CaseFault};
 use sed_check::{KitsRefusal, load_text};
 use sed_engine::Engine;
@@ -109,8 +109,14 @@ fn act<E: Engine>(case: &mut Case, engine: E, plan: &Plan)
         return case.fail(CaseFault::Memory);
     };
     let turns = budget(plan.turns);
-    let added = tree.add(Id(0), 1, 0, plan.name.as_bytes(), &[0; 4], turns, 0);
-    let id = match added {
+    let asked = NewComponent {
+        parent: Id(0),
+        kit: 1,
+        number: 0,
+        name: plan.name.as_bytes(),
+        config: &[0; 4],
+    };
+    let id = match tree.add(asked, turns, 0) {
         Ok(id) => id,
         Err(refusal) => {
             drop(tree);
@@ -129,10 +135,7 @@ fn act<E: Engine>(case: &mut Case, engine: E, plan: &Plan)
     drop(tree);
 }
 
-fn execute<E: Engine>(case: &mut Case, tree: &mut Tree<E>, id: Id, turns: u32, moment: i64)
-    requires some_turns { 1 ≤ turns }
-    requires most_turns { turns ≤ 1000000 }
-{
+fn execute<E: Engine>(case: &mut Case, tree: &mut Tree<E>, id: Id, turns: Turns, moment: i64) {
     let Some(entry) = tree.find(id) else {
         return case.put(b"none");
     };

@@ -1,10 +1,10 @@
 //! Scripts: steps (docs/ROWS.md) that are done on an application, which is the App alone at first; and printed lines.
-ghost use Rattle.std.specs.Prelude.{◌≡◌, ◌<◌, ◌≤◌};
+ghost use Rattle.std.specs.Prelude.{◌≡◌, ◌<◌};
 ghost use Rattle.std.specs.FinMap as map;
 
 use crate::files::written;
 use crate::kits::{Kits, came, kits_of, machine, walker, within};
-use comp_tree::Tree;
+use comp_tree::{Tree, Turns};
 use link_prop::{App, begin, cycle};
 use printed_app::{Collected, Summary, datagram_line, put_application, put_summary};
 use rows::{Case, CaseFault};
@@ -12,6 +12,7 @@ use sed_engine::{AddRefusal, Engine};
 use sed_outside::Addr;
 use sed_typed::Schema;
 use sed_value::Id;
+use sed_value::limits::MOST_TURNS;
 use sox_events::Subs;
 use sox_msg::read_request;
 use sox_serve::{ReplyBuf, Served, serve};
@@ -353,12 +354,12 @@ fn did_request<E: Engine>(case: &mut Case, stage: &mut Stage<E>, payload: &[u8])
     !reply.bytes().starts_with(b"!")
 }
 
-/// So many turns, as a root call may have.
-pub fn budget(turns: u32) -> u32
-    ensures some { 1 ≤ result }
-    ensures most { result ≤ 1000000 }
-{
-    turns.max(1).min(1_000_000)
+/// So many turns, or as many as a root call may have.
+pub fn budget(turns: u32) -> Turns {
+    match Turns::new(turns.max(1).min(MOST_TURNS)) {
+        Some(turns) => turns,
+        None => unreachable!(),
+    }
 }
 
 // The next word as an id.

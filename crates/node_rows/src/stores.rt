@@ -151,8 +151,8 @@ where
     case.show(&(found, past, fs::remove_file(rt, NAME).is_ok()));
 }
 
-// The next input as numbers of calls that fail.
-fn numbers(case: &mut Case) -> Vec<usize> {
+/// The next input as numbers of calls that fail.
+pub fn numbers(case: &mut Case) -> Vec<usize> {
     let text = case.text();
     let mut numbers = Vec::new(case.alloc());
     for word in text.split_whitespace() {

@@ -2,6 +2,7 @@
 ghost use Rattle.std.specs.Prelude.{◌≡◌, ◌<◌, ◌≤◌, [], ◌∷◌, ◌++◌, length, slice_get};
 ghost use Rattle.node_table.specs.Limits.{most_children};
 
+use sed_value::limits::MOST_CHILDREN;
 use std::marker::Model;
 
 /// The ids of a component's children, in their order. Contracts see them as a list.
@@ -9,18 +10,19 @@ use std::marker::Model;
 /// There is room for all that a component may have, so none of its calls takes memory.
 #[derive(Drop)]
 pub struct Children {
-    ids: [u16; 200],
+    ids: [u16; MOST_CHILDREN],
     len: usize,
 }
 
 impl Model for Children {
     ghost use Rattle.std.specs.Prelude.{ℕ, ◌≤◌, List, take, length};
+    ghost use Rattle.node_table.specs.Limits.{most_children};
 
     ghost Value = { List ℕ };
 
     ghost view = { λ c. take c.len c.ids };
 
-    ghost invariant = { λ c. c.len ≤ 200 };
+    ghost invariant = { λ c. c.len ≤ most_children };
 }
 
 impl Children {
@@ -29,7 +31,7 @@ impl Children {
         ensures { result ≡ [] }
     {
         Children {
-            ids: [0; 200],
+            ids: [0; MOST_CHILDREN],
             len: 0,
         }
     }

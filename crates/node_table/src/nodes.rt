@@ -39,11 +39,12 @@ impl Model for Nodes {
     ghost coded = { map.code coded_ℕ node.the_row.coded };
 
     ghost use Rattle.node_table.specs.Indexed.{by_number, kept};
+    ghost use Rattle.node_table.specs.Limits.{most_components};
     ghost use Rattle.node_table.specs.Taken.{IsMarked};
 
     ghost view = { λ s. by_number (kept s.index.items s.slab) };
 
-    ghost invariant = { λ s. IsMarked 4096 s.index.items s.slab s.taken };
+    ghost invariant = { λ s. IsMarked most_components s.index.items s.slab s.taken };
 }
 
 impl Nodes {
@@ -202,7 +203,7 @@ fn settle_node(slab: &mut Slab<Node>, key: usize, place: u8, parts: Parts)
 
 // An index in which no id has a key.
 fn no_keys(alloc: Global) -> Result<Vec<Option<usize>>, AllocError>
-    ensures { IfOk result (λ index. index.items ≡ replicate 4096 None) }
+    ensures { IfOk result (λ index. index.items ≡ replicate most_components None) }
 {
     let keys: [Option<usize>; MOST_COMPONENTS] = [None; MOST_COMPONENTS];
     Vec::from_slice(alloc, &keys)
@@ -220,8 +221,8 @@ fn key_at(index: &[Option<usize>], id: Id) -> Option<usize>
 
 // The last id with a key, or 0.
 fn last_kept(index: &[Option<usize>]) -> usize
-    requires { length index.now ≡ 4096 }
-    ensures within { result < 4096 }
+    requires { length index.now ≡ most_components }
+    ensures within { result < most_components }
     ensures there { 0 < result → IsSome (slice_index_or index.now result None) }
     ensures above { (id : ℕ) → result < id → slice_index_or index.now id None ≡ None }
 {

@@ -1,6 +1,7 @@
 //! Which ids are taken.
 ghost use Rattle.std.specs.Prelude.{◌≡◌, ◌≢◌, ◌<◌, ◌/◌, ◌%◌, ◌≤◌, ℕ, true, false, slice_index, length};
 ghost use Rattle.std.specs.Int.{bit_at};
+ghost use Rattle.node_table.specs.Limits.{most_components};
 ghost use Rattle.node_table.specs.Taken.{is_taken};
 
 use std::marker::Model;
@@ -32,7 +33,7 @@ impl Taken {
 
     /// Takes an id.
     pub fn take(&mut self, id: u16)
-        requires { id < 4096 }
+        requires { id < most_components }
         ensures same { is_taken self.new id ≡ true }
         ensures others { (other : ℕ) → other ≢ id → is_taken self.new other ≡ is_taken self.old other }
     {
@@ -43,7 +44,7 @@ impl Taken {
 
     /// Gives an id back.
     pub fn free(&mut self, id: u16)
-        requires { id < 4096 }
+        requires { id < most_components }
         ensures same { is_taken self.new id ≡ false }
         ensures others { (other : ℕ) → other ≢ id → is_taken self.new other ≡ is_taken self.old other }
     {
@@ -54,10 +55,10 @@ impl Taken {
 
     /// The least id that is free, where one is.
     pub fn first_free(&self) -> u16
-        requires { (id : ℕ) × (id < 4096) × (is_taken self.now id ≡ false) }
+        requires { (id : ℕ) × (id < most_components) × (is_taken self.now id ≡ false) }
         ensures free { is_taken self.now result ≡ false }
         ensures least { (id : ℕ) → id < result → is_taken self.now id ≡ true }
-        ensures bound { result < 4096 }
+        ensures bound { result < most_components }
     {
         let word = first_open(&self.words);
         let bit = lowest_open(self.words[word]);

@@ -1,5 +1,5 @@
 -- What a record is generated of, for a code.
-use Rattle.std.specs.Prelude.{ℕ, ◌≤◌, List, [], ◌∷◌, Option, IsSomeAnd}
+use Rattle.std.specs.Prelude.{ℕ, List, [], ◌∷◌, Option, IsSomeAnd}
 use Rattle.std.specs.Option.{option_map}
 use Rattle.sed_engine.specs.Code.{Meaning}
 use Rattle.dasp_session.specs.declared.user.User.{User}
@@ -7,17 +7,14 @@ use Rattle.dasp_session.specs.Digest.{nonce_of, digest_of}
 use Rattle.dasp_session.specs.UsersFile.{credential_of}
 use Rattle.replay_log.specs.declared.gen_spec.GenSpec.{GenSpec}
 use Rattle.replay_log.specs.declared.gen_spec.GenType.{GenType}
+use Rattle.replay_log.specs.Bounds.{AreWithin}
 use Rattle.replay_log.specs.Generated.{IsGenerated}
 use Rattle.record_making.specs.declared.asked.GenAsked.{GenAsked}
 use Rattle.record_making.specs.Types.{drawn_types}
 
 -- the numbers that may be asked for
-pub record IsAllowed (asked : GenAsked) : Type 0 where
-  pub seed : asked.seed ≤ 2147483647
-  pub some : 1 ≤ asked.components
-  pub components : asked.components ≤ 4000
-  pub links : asked.links ≤ 8192
-  pub ticks : asked.ticks ≤ 100000
+abbrev pub IsAllowed : GenAsked → Type 0
+IsAllowed asked = AreWithin asked.seed asked.components asked.links asked.ticks
 
 -- the digest that a node with a secret wants of the user with a credential, in the session before which so many were
 -- made

@@ -1,6 +1,8 @@
 //! What is asked of a record.
-ghost use Rattle.std.specs.Prelude.{◌≤◌, ◌↔◌, IsTrue};
+ghost use Rattle.std.specs.Prelude.{◌↔◌, IsTrue};
 ghost use Rattle.record_making.specs.Spec.{IsAllowed};
+
+use replay_log::bounds::are_within;
 
 /// What is asked of a record.
 #[derive(Clone, Copy, Debug, PartialEq, Eq)]
@@ -20,13 +22,6 @@ impl GenAsked {
     pub fn is_allowed(&self) -> bool
         ensures { IsTrue result ↔ IsAllowed self.now }
     {
-        self.seed <= 2_147_483_647 && are_within(self.components, self.links, self.ticks)
+        are_within(self.seed, self.components, self.links, self.ticks)
     }
-}
-
-// Whether the numbers of components, links and ticks are in their ranges.
-fn are_within(components: u32, links: u32, ticks: u32) -> bool
-    ensures { IsTrue result ↔ ((1 ≤ components) × (components ≤ 4000) × (links ≤ 8192) × (ticks ≤ 100000)) }
-{
-    1 <= components && components <= 4_000 && links <= 8_192 && ticks <= 100_000
 }

@@ -1,95 +1,18 @@
--- The messages of a generated record may be sent, and their entries are put.
+-- The entries of a generated record are put.
 use Rattle.std.proofs.Common.{◌≡◌, ℕ, ◌<◌, ◌≤◌, ℤ, true, IsTrue, FitsSigned, List, [], ◌∷◌, ◌++◌, length, take, refl, sym, subst, ◌∙◌, ap, arith, append_assoc}
-use Rattle.std.proofs.lemmas.Bool.Decides.{nat_tests}
 use Rattle.std.specs.Int.{w64, bytes_high_first, byte_len, cast_unsigned}
-use Rattle.std.specs.List.{list_all}
-use Rattle.sed_wire.specs.Text.{is_character, is_text}
 use Rattle.sed_wire.proofs.NumberLemmas.{written_spells, written_spells_signed}
 use Rattle.sed_wire.proofs.WritingLemmas.{puts-fit, puts-taken}
-use Rattle.dasp_msg.specs.Sending.{IsSentAs, MaySend, sent_size}
-use Rattle.dasp_msg.specs.Shown.{Message, number_of_first, run_of_first, text_of_first}
+use Rattle.dasp_msg.specs.Sending.{IsSentAs}
+use Rattle.dasp_msg.specs.Shown.{Message}
 use Rattle.dasp_msg.specs.Writing.{Puts}
 use Rattle.replay_log.specs.Entry.{datagram, tick}
-use Rattle.replay_log.specs.Generated.{is_user, is_user_byte}
 use Rattle.replay_log.specs.declared.session.Session.{Session}
 use Rattle.replay_log.specs.declared.session.Session.TheVariants.{A, B}
 use Rattle.replay_log.specs.Making.{PutsEntry, PutsSteps}
 use Rattle.replay_log.specs.Session.{address_of}
-use Rattle.replay_log.specs.Step.{authenticate, carrying, hello, sends}
+use Rattle.replay_log.specs.Step.{sends}
 use Rattle.replay_log.proofs.MakingLemmas.{puts-message, puts-then}
-use Rattle.replay_log.proofs.NumberLemmas.{some_eq}
-
--- ---- may be sent
-
-pub may-hello : (id : ℕ) → MaySend (hello id)
-unfolding number_of_first text_of_first run_of_first
-may-hello id = record {
-  has = (refl, refl, refl);
-  no_other = refl;
-  algorithm = λ x e. absurd cc;
-  username = λ x e. absurd cc;
-  nonce = λ x e. absurd cc;
-  digest = λ x e. absurd cc;
-  sequence = λ other. refl;
-  follows = refl;
-}
-
-pub hello-fits : (id : ℕ) → sent_size (hello id) ≤ 512
-hello-fits id = omega arith
-
-pub may-authenticate : (node_id : ℕ) (user digest : List ℕ) → IsTrue (is_text user) → length digest ≤ 255
-    → MaySend (authenticate node_id user digest)
-unfolding number_of_first text_of_first run_of_first
-may-authenticate node_id user digest text few = record {
-  has = (refl, refl);
-  no_other = refl;
-  algorithm = λ x e. absurd cc;
-  username = λ x e. subst (λ (t : List ℕ). IsTrue (is_text t)) (some_eq user x e) text;
-  nonce = λ x e. absurd cc;
-  digest = λ x e. subst (λ (t : List ℕ). length t ≤ 255) (some_eq digest x e) few;
-  sequence = λ other. refl;
-  follows = refl;
-}
-
-pub authenticate-fits : (node_id : ℕ) (user digest : List ℕ) → length user ≤ 16 → length digest ≤ 255
-    → sent_size (authenticate node_id user digest) ≤ 512
-authenticate-fits node_id user digest short few = omega arith
-
-pub may-carry : (node_id number : ℕ) (payload : List ℕ) → MaySend (carrying node_id number payload)
-unfolding number_of_first text_of_first run_of_first
-may-carry node_id number payload = record {
-  has = (refl, λ x e. absurd cc);
-  no_other = refl;
-  algorithm = λ x e. absurd cc;
-  username = λ x e. absurd cc;
-  nonce = λ x e. absurd cc;
-  digest = λ x e. absurd cc;
-  sequence = λ other. absurd (other refl);
-  follows = tt;
-}
-
-pub carry-fits : (node_id number : ℕ) (payload : List ℕ) → length payload ≤ 498
-    → sent_size (carrying node_id number payload) ≤ 512
-carry-fits node_id number payload short = omega arith
-
--- ---- users
-
-user-bytes : (bytes : List ℕ) → IsTrue (list_all is_user_byte bytes) → IsTrue (list_all is_character bytes)
-user-bytes [] all = refl
-user-bytes (byte ∷ behind) all =
-    let first : is_user_byte byte ≡ true = grind (arith, nat_tests) in
-    let others : IsTrue (list_all is_user_byte behind) = grind (arith, nat_tests) in
-    let character : is_character byte ≡ true = grind (arith, nat_tests) in
-    let rest = user-bytes behind others in
-    grind (arith, nat_tests)
-
-pub user-text : (user : List ℕ) → IsTrue (is_user user) → IsTrue (is_text user)
-user-text user is =
-    let all : IsTrue (list_all is_user_byte user) = grind (arith, nat_tests) in
-    user-bytes user all
-
-pub user-short : (user : List ℕ) → IsTrue (is_user user) → length user ≤ 16
-user-short user is = grind (arith, nat_tests)
 
 -- ---- entries
 

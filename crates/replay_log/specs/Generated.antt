@@ -1,13 +1,15 @@
 -- The record that is generated of a specification.
-use Rattle.std.specs.Prelude.{◌≡◌, ℕ, zero, suc, ◌+◌, ◌*◌, ◌/◌, ◌%◌, ◌≤◌, ◌==◌, ◌&&◌, min, not, nat_le, Bool}
+use Rattle.std.specs.Prelude.{◌≡◌, ℕ, zero, suc, ◌+◌, ◌*◌, ◌/◌, ◌%◌, ◌≤◌, ◌==◌, min, nat_le, Bool}
 use Rattle.std.specs.Prelude.{if◌then◌else◌, IsTrue, List, [], ◌∷◌, ◌++◌, length, map, slice_index_or, decimal}
 use Rattle.std.specs.List.{list_all}
 use Rattle.sed_wire.specs.Number.{u4}
+use Rattle.dasp_msg.specs.UserName.{is_user_name}
 use Rattle.sox_msg.specs.Command.{Asked, add, invoke, link, rename, write}
 use Rattle.replay_log.specs.declared.gen_spec.GenSpec.{GenSpec}
 use Rattle.replay_log.specs.declared.gen_spec.GenType.{GenType}
 use Rattle.replay_log.specs.declared.places.Place.{Place}
 use Rattle.replay_log.specs.declared.session.Session.TheVariants.{A, B}
+use Rattle.replay_log.specs.Bounds.{AreWithin}
 use Rattle.replay_log.specs.Draw.{draw}
 use Rattle.replay_log.specs.Entry.{Entry}
 use Rattle.replay_log.specs.Record.{IsRecord}
@@ -149,23 +151,11 @@ pub record PutsRecord (spec : GenSpec) (old new : List ℕ) : Type 0 where
 
 -- ---- conditions
 
--- 0x21 to 0x7e, and no colon
-abbrev pub is_user_byte : ℕ → Bool
-is_user_byte byte = nat_le 33 byte && (nat_le byte 126 && not (byte == 58))
-
--- 1 to 16 such bytes
-abbrev pub is_user : List ℕ → Bool
-is_user user = nat_le 1 (length user) && (nat_le (length user) 16 && list_all is_user_byte user)
-
 abbrev pub has_few : GenType → Bool
 has_few kind = nat_le (length kind.config) 400
 
 pub record MayGenerate (spec : GenSpec) : Type 0 where
-  pub seed : spec.seed ≤ 2147483647
-  pub some : 1 ≤ spec.components
-  pub components : spec.components ≤ 4000
-  pub links : spec.links ≤ 8192
-  pub ticks : spec.ticks ≤ 100000
-  pub user : IsTrue (is_user spec.user)
+  pub numbers : AreWithin spec.seed spec.components spec.links spec.ticks
+  pub user : IsTrue (is_user_name spec.user)
   pub typed : 1 ≤ length spec.types
   pub config : IsTrue (list_all has_few spec.types)

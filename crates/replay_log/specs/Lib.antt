@@ -1,3 +1,4 @@
+pub mod Bounds
 pub mod Draw
 pub mod Entry
 pub mod Generated

@@ -1,8 +1,10 @@
 -- What happens in a generated record, and the entries that it leaves.
-use Rattle.std.specs.Prelude.{◌≡◌, ℕ, ◌+◌, ◌%◌, pos, Some, List, [], ◌∷◌, ⊤}
-use Rattle.dasp_msg.specs.declared.kind.MsgKind.TheVariants.{Hello, Authenticate, Datagram}
+use Rattle.std.specs.Prelude.{◌≡◌, ℕ, ◌+◌, ◌%◌, pos, None, List, [], ◌∷◌, ⊤}
+use Rattle.dasp_msg.specs.Numbers.{number_before}
+use Rattle.dasp_msg.specs.OfKind as of_kind
+use Rattle.dasp_msg.specs.OfKind.{authenticate, hello}
 use Rattle.dasp_msg.specs.Sending.{IsSentAs}
-use Rattle.dasp_msg.specs.Shown.{Message, without_fields}
+use Rattle.dasp_msg.specs.Shown.{Message}
 use Rattle.sox_msg.specs.Command.{Asked, body_of, letter_of}
 use Rattle.replay_log.specs.declared.making.Next.{Next}
 use Rattle.replay_log.specs.declared.session.Session.{Session}
@@ -12,19 +14,9 @@ use Rattle.replay_log.specs.Session.{address_of, node_id_of, remote_id_of}
 
 -- ---- messages
 
--- version 0x0100 and a remote id
-abbrev pub hello : ℕ → Message
-hello remote_id = record (without_fields 65535 65535 Hello) { version = Some 256; remote_id = Some remote_id }
-
--- a user with a digest, for a node's id of the session
-abbrev pub authenticate : ℕ → List ℕ → List ℕ → Message
-authenticate node_id user digest =
-    record (without_fields node_id 65535 Authenticate) { username = Some user; digest = Some digest }
-
 -- The message of this number with a payload. It says that all messages below its own number came.
 abbrev pub carrying : ℕ → ℕ → List ℕ → Message
-carrying node_id number payload =
-    record (without_fields node_id number Datagram) { ack = Some ((number + 65535) % 65536); payload = payload }
+carrying node_id number payload = of_kind.datagram node_id (number_before number) None number payload
 
 -- a command as a request that is numbered like its message
 abbrev pub request_text : ℕ → Asked → List ℕ

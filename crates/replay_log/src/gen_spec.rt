@@ -1,21 +1,23 @@
 //! What a generated record is made of.
-ghost use Rattle.std.specs.Prelude.{◌≡◌, ◌≤◌, ◌↔◌, IsTrue};
+ghost use Rattle.std.specs.Prelude.{◌≡◌, ◌↔◌, IsTrue};
 ghost use Rattle.std.specs.List.{list_all};
 ghost use Rattle.replay_log.specs.Generated as generated;
 ghost use Rattle.replay_log.specs.Generated.{MayGenerate};
 
+use crate::bounds::are_within;
+use dasp_msg::is_user_name;
 use sed_value::Items;
 
 /// What a generated record is made of.
 #[derive(Drop)]
 pub struct GenSpec {
-    /// What the first number is drawn from, 0 to 2,147,483,647.
+    /// What the first number is drawn from, at most `GREATEST_SEED`.
     pub seed: u32,
-    /// How many components are added, 1 to 4,000.
+    /// How many components are added, 1 to `MOST_COMPONENTS`.
     pub components: u32,
-    /// How many links are added at most, 0 to 8,192.
+    /// How many links are added at most, itself at most `MOST_LINKS`.
     pub links: u32,
-    /// How many ticks come, 0 to 100,000.
+    /// How many ticks come, at most `MOST_TICKS`.
     pub ticks: u32,
     /// As whom both sessions authenticate: 1 to 16 bytes 0x21 to 0x7e without a colon.
     pub user: Items<u8>,
@@ -43,38 +45,17 @@ impl GenSpec {
     pub fn is_allowed(&self) -> bool
         ensures { IsTrue result ↔ MayGenerate self.now }
     {
-        if !are_within(self.components, self.links, self.ticks) {
+        if !are_within(self.seed, self.components, self.links, self.ticks) {
             return false;
         }
-        if self.seed > 2_147_483_647 || self.types.is_empty() {
+        if self.types.is_empty() {
             return false;
         }
-        if !is_user(self.user.as_slice()) {
+        if !is_user_name(self.user.as_slice()) {
             return false;
         }
         are_small(self.types.as_slice())
     }
-}
-
-// Whether the numbers of components, links and ticks are in their ranges.
-fn are_within(components: u32, links: u32, ticks: u32) -> bool
-    ensures { IsTrue result ↔ ((1 ≤ components) × (components ≤ 4000) × (links ≤ 8192) × (ticks ≤ 100000)) }
-{
-    1 <= components && components <= 4_000 && links <= 8_192 && ticks <= 100_000
-}
-
-// Whether the bytes are a user's.
-fn is_user(user: &[u8]) -> bool
-    ensures { result ≡ generated.is_user user.now }
-{
-    1 <= user.len() && (user.len() <= 16 && are_user_bytes(user))
-}
-
-fn are_user_bytes(user: &[u8]) -> bool
-    ensures { result ≡ list_all generated.is_user_byte user.now }
-{
-    user.iter()
-        .all(|byte| 33 <= *byte && (*byte <= 126 && *byte != b':'))
 }
 
 // Whether each type has at most 400 bytes of values.

@@ -1,5 +1,6 @@
 //! Generating a record.
 ghost use Rattle.std.specs.Prelude.{◌≡◌, ◌≤◌, ◌<◌, ◌+◌, ◌∷◌, [], length, IsTrue, IfOk, OnOk, OnErr};
+ghost use Rattle.dasp_msg.specs.UserName.{is_user_name};
 ghost use Rattle.replay_log.specs.Generated as generated;
 ghost use Rattle.replay_log.specs.Generated.{IsGenerated, MayGenerate, PutsRecord};
 ghost use Rattle.replay_log.specs.Making.{Does, PutsSteps};
@@ -7,9 +8,9 @@ ghost use Rattle.replay_log.specs.Step.{greeting};
 
 use crate::gen_spec::GenSpec;
 use crate::making::{Making, Next, put_message};
-use crate::message::{authenticate, hello};
 use crate::session::Session;
 use crate::steps::{add_components, add_links, edit_at_ticks};
+use dasp_msg::Msg;
 use sed_value::Memory;
 use std::alloc::Global;
 
@@ -55,11 +56,11 @@ fn put_greetings(text: &mut Vec<u8>, spec: &GenSpec) -> Result<(), Memory>
 
 // A session says hello and who it is.
 fn greet(text: &mut Vec<u8>, who: Session, user: &[u8], digest: &[u8; 20]) -> Result<(), Memory>
-    requires { IsTrue (generated.is_user user.now) }
+    requires { IsTrue (is_user_name user.now) }
     ensures { OnOk result (PutsSteps (greeting who user.now digest.now) text.old.items text.new.items) }
 {
-    put_message(text, who, &hello(who.remote_id()))?;
-    put_message(text, who, &authenticate(who.node_id(), user, digest))?;
+    put_message(text, who, &Msg::hello(who.remote_id()))?;
+    put_message(text, who, &Msg::authenticate(who.node_id(), user, digest))?;
     Ok(())
 }
 

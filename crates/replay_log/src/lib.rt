@@ -8,12 +8,12 @@
 #![tactic(auto)]
 
 mod body;
+pub mod bounds;
 mod event;
 mod gen_spec;
 mod generate;
 mod laws;
 mod making;
-mod message;
 mod places;
 mod reading;
 mod records;

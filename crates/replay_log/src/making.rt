@@ -1,6 +1,6 @@
 //! A generated record in the making.
 ghost use Rattle.std.specs.Prelude.{◌≡◌, ◌≤◌, ◌<◌, ◌^◌, ◌%◌, ◌∷◌, [], length, OnOk, IfOk};
-ghost use Rattle.dasp_msg.specs.Sending.{MaySend, sent_size};
+ghost use Rattle.dasp_msg.specs.Sending.{CanGo};
 ghost use Rattle.dasp_msg.specs.View.{message_of};
 ghost use Rattle.sox_msg.specs.Command.{Asked, body_of, letter_of};
 ghost use Rattle.replay_log.specs.Draw.{next_draw};
@@ -10,7 +10,6 @@ ghost use Rattle.replay_log.specs.Session.{address_of, node_id_of};
 ghost use Rattle.replay_log.specs.Step as messages;
 ghost use Rattle.replay_log.specs.Step.{asks, number_of_next, one_more, sends, waits};
 
-use crate::message::carrying;
 use crate::session::Session;
 use dasp_msg::{Msg, write_msg};
 use sed_value::Memory;
@@ -112,6 +111,15 @@ fn put_request(
     put_message(text, who, &carrying(who.node_id(), number, &payload))
 }
 
+// The message of this number with a payload. It says that all messages below its own number came.
+fn carrying<'a>(node_id: u16, number: u16, payload: &'a [u8]) -> Msg<'a>
+    requires { length payload.now ≤ 498 }
+    ensures says { message_of result ≡ messages.carrying node_id number payload.now }
+    ensures can { CanGo (message_of result) }
+{
+    Msg::datagram(node_id, number.wrapping_sub(1), None, number, payload)
+}
+
 // A letter, a number and a body.
 fn payload_of(alloc: Global, letter: u8, number: u16, body: &[u8]) -> Result<Vec<u8>, Memory>
     ensures { IfOk result (λ payload. payload.items ≡ letter ∷ number % 256 ∷ body.now) }
@@ -125,8 +133,7 @@ fn payload_of(alloc: Global, letter: u8, number: u16, body: &[u8]) -> Result<Vec
 
 /// Puts the entry of a message that a session sends.
 pub(crate) fn put_message(text: &mut Vec<u8>, who: Session, msg: &Msg) -> Result<(), Memory>
-    requires may { MaySend (message_of msg.now) }
-    requires fits { sent_size (message_of msg.now) ≤ 512 }
+    requires { CanGo (message_of msg.now) }
     ensures { OnOk result (PutsSteps (sends who (message_of msg.now) ∷ []) text.old.items text.new.items) }
 {
     let mut datagram = [0; 512];

@@ -1,6 +1,7 @@
 -- What a machine stands for, and what is true of all that it keeps.
 use Rattle.std.specs.Prelude.{◌≡◌, List, [], IsSomeAnd, Option, refl}
 use Rattle.std.specs.Coded.{Coded, code_by, coded×}
+use Rattle.sed_typed.specs.Spelled.{CanBeTold}
 use Rattle.sed_typed.specs.declared.schema.Schema.{Schema}
 use Rattle.scode_image.specs.declared.image.Image.{Image}
 use Rattle.scode_code.specs.Tables.{schema_of}
@@ -27,12 +28,13 @@ pub record HaveRoom (image : Image) (cells : Frames) : Type 0 where
   pub idle : cells.frames ≡ []
   pub enough : HasCells image cells.most
 
--- The image breaks no rule and its blocks are objects and statics of it; the schema is its own, what locals begin as is
--- known, its code is decoded, no call runs, and there are cells enough for any.
+-- The image breaks no rule and its blocks are objects and statics of it; the schema is its own and can be told, what
+-- locals begin as is known, its code is decoded, no call runs, and there are cells enough for any.
 pub record IsKept (image : Image) (schema : Schema) (zeros : List (List Cell)) (rows : List (List Op))
     (blocks : Held) (cells : Option Frames) : Type 0 where
   pub objects : IsLoaded image blocks
   pub schema_is : schema ≡ schema_of image
+  pub told : CanBeTold schema
   pub zeros_are : AreZeros image zeros
   pub rows_are : AreRows image.methods rows
   pub room : IsSomeAnd cells (HaveRoom image)

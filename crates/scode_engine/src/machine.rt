@@ -15,7 +15,7 @@ use scode_ops::Op;
 use scode_sound::verified_images_are_whole;
 use scode_verify::Verified;
 use sed_engine::{AddRefusal, CallEnd, Engine, Place, Root};
-use sed_typed::{Schema, SlotNo, TypeNo};
+use sed_typed::{Schema, SlotNo, TypeNo, schema_is_spelled_out};
 use sed_value::{Items, Memory, SlotBuf};
 use std::alloc::Global;
 use std::marker::Model;
@@ -57,6 +57,7 @@ impl Machine {
         ensures limit { IfOk result (λ m. m.blocks.limit ≡ limit) }
     {
         let schema = schema_of(alloc, code.image())?;
+        schema_is_spelled_out(&schema);
         let zeros = zeros_of(alloc, code.image())?;
         let rows = rows_of(alloc, code.image())?;
         let pool = new_objects(alloc, code.image(), limit)?;
@@ -86,6 +87,10 @@ impl Engine for Machine {
     fn schema(&self) -> &Schema {
         verified_images_are_whole();
         &self.schema
+    }
+
+    fn data_limit(&self) -> usize {
+        self.pool.limit()
     }
 
     fn same_field(&self, t: TypeNo, a: SlotNo, b: SlotNo) -> bool {

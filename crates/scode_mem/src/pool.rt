@@ -73,6 +73,13 @@ impl Pool {
         })
     }
 
+    /// How many bytes the live blocks may have together.
+    pub fn limit(&self) -> usize
+        ensures { result ≡ self.now.limit }
+    {
+        self.bytes.len()
+    }
+
     /// One block more, with the first bytes of its class, at a place below 4,096 that was not live. `DataFull` comes
     /// exactly where the live blocks and it have more bytes than the limit, and changes nothing. No memory is wanted.
     pub fn add(&mut self, t: TypeNo) -> Result<Place, AddRefusal>

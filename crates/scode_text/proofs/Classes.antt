@@ -48,7 +48,7 @@ pub kits_told : (program : Program) → HasKits program.schema → IsSpelledSche
 kits_told program known spelled =
     let all : List KitRef = program.schema.kits in
     counted_bytes u1 kit (map image_kit all) (u1_bytes (length (map image_kit all)) (omega (arith, known.most, length-map all image_kit)))
-    (All-map (HasBytes kit) image_kit all (λ i d lt. each_kit (get_or all i d) (spelled.names i d lt) (spelled.checksums i d lt)))
+    (All-map (HasBytes kit) image_kit all (λ i d lt. each_kit (get_or all i d) (spelled.told.names i d lt) (spelled.told.checksums i d lt)))
 
 -- ---- classes
 

@@ -4,6 +4,7 @@ ghost use Rattle.std.specs.Prelude.{◌≡◌, ◌↔◌, ℕ, ◌+◌, ◌<◌,
 ghost use Rattle.std.specs.Prelude.{IsSomeAnd};
 ghost use Rattle.std.specs.FinMap as map;
 ghost use Rattle.sed_typed.specs.Contents.{Contents};
+ghost use Rattle.sed_typed.specs.Spelled.{CanBeTold};
 ghost use Rattle.sed_engine.specs.Code.{Meaning, Places, is_creatable, is_property, is_same_field, may_store, may_call};
 ghost use Rattle.sed_engine.specs.Code.{data_of, new_object, slot_value, with_slot, root_of, called};
 ghost use Rattle.sed_engine.specs.Fits.{Fits};
@@ -33,14 +34,19 @@ pub trait Engine: Drop {
     /// A fixed engine never wants memory.
     ghost fixed: { Self → Bool };
 
-    /// The schema of the code, which is whole. Whatever is kept fits: each live object is one of
-    /// which components are made, and its contents and the statics are of their types.
+    /// The schema of the code, which is whole, and can be told by an application file. Whatever is kept fits: each live
+    /// object is one of which components are made, and its contents and the statics are of their types.
     fn schema(&self) -> &Schema
         ensures same { result.now ≡ (meaning self.now).schema }
         ensures whole { IsWhole (meaning self.now) }
+        ensures told { CanBeTold (meaning self.now).schema }
         ensures objects { (p : ℕ) → IfSome (map.get (live self.now) p) (IsObject (meaning self.now)) }
         ensures statics { Fits (meaning self.now).fields (meaning self.now).static_fields
             (meaning self.now).initial_statics (statics self.now) };
+
+    /// The greatest sum of the live objects' data sizes, in bytes.
+    fn data_limit(&self) -> usize
+        ensures { result ≡ limit self.now };
 
     /// Whether two properties of a class are kept in one field, so that what is stored in the one is read in the other.
     /// A property is kept in one field with itself.

@@ -7,10 +7,11 @@ ghost use Rattle.sed_lexer.specs.Answer.{IsUnlessMemory};
 ghost use Rattle.sed_lexer.specs.Cutting.{IsCut};
 
 use crate::Tokens;
-use crate::fronts::{front_of, rest_of};
+use crate::fronts::rest_of;
 use crate::gaps::has_line_end;
 use crate::piece::{Piece, scan};
 use crate::tokens::Span;
+use sed_value::front_of;
 use std::alloc::{AllocError, AllocFailed, Global};
 use thiserror::Error;
 

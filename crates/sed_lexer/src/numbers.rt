@@ -7,8 +7,9 @@ ghost use Rattle.sed_lexer.specs.Values as values;
 ghost use Rattle.sed_lexer.specs.Values.{DenotesDecimal, DenotesHex, Denotes, IsWithinBounds};
 ghost use Rattle.sed_lexer.specs.One.{FindsOne};
 
-use crate::fronts::{front_of, rest_of};
+use crate::fronts::rest_of;
 use crate::integers::{digits, hex_digits};
+use sed_value::front_of;
 
 /// What an integer denotes: an int, or a long.
 #[derive(Clone, Copy, Debug, PartialEq, Eq)]

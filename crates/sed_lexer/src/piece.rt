@@ -6,12 +6,12 @@ ghost use Rattle.sed_lexer.specs.Words as words;
 ghost use Rattle.sed_lexer.specs.Cutting.{IsLongestPiece, NoPiece, Stands};
 
 use crate::TokenKind;
-use crate::fronts::{front_of, rest_of};
+use crate::fronts::rest_of;
 use crate::gaps::gap;
 use crate::integers::integer;
 use crate::spellings::{character, text as text_literal};
 use crate::words::{is_key_word, mark, word};
-use sed_value::{is_digit, is_letter};
+use sed_value::{front_of, is_digit, is_letter};
 
 /// A piece by its length. It is of no kind where it lies between tokens.
 #[derive(Clone, Copy)]

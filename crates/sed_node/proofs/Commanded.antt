@@ -11,10 +11,10 @@ use Rattle.comp_tree.specs.Application.{Application}
 use Rattle.comp_tree.specs.Edit.{Edit, Edited}
 use Rattle.comp_tree.specs.Whole.{Whole}
 use Rattle.link_prop.specs.Linked.{Linked, application_of}
-use Rattle.sox_msg.specs.Answered.{Answered, refused}
+use Rattle.sox_msg.specs.Answered.{Answered, answered_text, refused}
 use Rattle.sox_msg.specs.Command.{Asked, number_in}
 use Rattle.sox_serve.specs.Answer.{Answer, WantsMemory, answer, answer_by, command_of, may_want_memory, refused_by}
-use Rattle.sox_serve.specs.Replies.{answered_text, reply_bytes}
+use Rattle.sox_serve.specs.Replies.{reply_bytes}
 use Rattle.sox_serve.specs.declared.served.Served.{Served}
 use Rattle.sox_serve.specs.declared.served.Served.TheVariants.{SaveAsked}
 use Rattle.sox_serve.specs.Serves.{is_add, Serves}
@@ -98,7 +98,7 @@ module _ (m : Meaning) (a : Application) (asked : Asked) (turns : ℕ) (moment :
     pub answer_whole : Whole m (answer m a asked turns moment).application
     answer_whole = by_edit (Edit m a (command_of asked) turns moment) refl
       where
-        by_edit : (r : Result Edited ℕ) → Edit m a (command_of asked) turns moment ≡ r
+        by_edit : (r : Result Edited Refusal) → Edit m a (command_of asked) turns moment ≡ r
             → Whole m (answer_by a asked r).application
         by_edit (Ok e) is = keeps e is
         by_edit (Err number) is = whole

@@ -9,19 +9,18 @@ use Rattle.comp_tree.specs.Whole.{Whole}
 use Rattle.link_prop.specs.Linked.{application_of}
 use Rattle.sub_table.specs.declared.part.Part.{Part}
 use Rattle.sox_events.specs.Due.{AllMarksAgree, longest, room_for, subscriptions}
-use Rattle.sed_node.specs.Standing.{AreTurns, IsKept, code_of}
+use Rattle.sed_node.specs.Standing.{IsKept, code_of}
 use Rattle.sed_node.specs.declared.kept.Kept.{Kept}
 
 pub kept_by : {E : Type 0} (g : Ghosts E) (old new : Kept E) → IsKept g old → code_of g new ≡ code_of g old
     → Whole (code_of g old) (application_of g new.app) → AllMarksAgree g new.app (subscriptions new.subs)
-    → ((part : Part) → room_for new.subs part ≡ room_for old.subs part) → new.turns ≡ old.turns → IsKept g new
-kept_by g old new kept code whole agree room turns = record {
+    → ((part : Part) → room_for new.subs part ≡ room_for old.subs part) → IsKept g new
+kept_by g old new kept code whole agree room = record {
   code = subst IsWhole (sym code) kept.code;
   whole = subst (λ (m : Meaning). Whole m (application_of g new.app)) (sym code) whole;
   agree = agree;
   room = λ part. subst (λ (n : ℕ). longest (code_of g new).schema part ≤ n) (sym (room part))
       (subst (λ (m : Meaning). longest m.schema part ≤ room_for old.subs part) (sym code) (kept.room part));
-  turns = subst AreTurns (sym turns) kept.turns;
 }
 
 -- under an application and a code that are the same

@@ -2,6 +2,7 @@
 use Rattle.std.proofs.Common.{◌≡◌, ◌<◌, ℕ, ℤ, Bool, true, false, inl, inr, List, [], ◌∷◌, refl, sym, ap, subst}
 use Rattle.std.specs.Prelude.{not, is_ok, is_some, if◌then◌else◌, IfSome, Option, Some, None, Result, Ok, Err}
 use Rattle.std.specs.FinMap as map
+use Rattle.sed_value.specs.declared.refusal.Refusal.{Refusal}
 use Rattle.sed_value.specs.declared.refusal.Refusal.TheVariants.{NoComponent}
 use Rattle.sed_engine.specs.declared.engine.Engine.{Ghosts}
 use Rattle.sed_engine.specs.Code.{Meaning}
@@ -63,7 +64,7 @@ module _ (m : Meaning) (a : Application) (whole : Whole m a) where
       → IsSmall (answer m a asked turns moment).served
   answer_small asked turns moment can = by_edit (Edit m a (command_of asked) turns moment) refl
     where
-      by_edit : (r : Result Edited ℕ) → Edit m a (command_of asked) turns moment ≡ r
+      by_edit : (r : Result Edited Refusal) → Edit m a (command_of asked) turns moment ≡ r
           → IsSmall (answer_by a asked r).served
       by_edit (Ok e) is = done_small asked turns moment e can is
       by_edit (Err number) is = tt {0}

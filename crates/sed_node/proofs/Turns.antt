@@ -12,12 +12,13 @@ use Rattle.comp_tree.specs.Application.{Application, is_live}
 use Rattle.sub_table.specs.declared.part.Part.{Part}
 use Rattle.sub_table.specs.Table.{Subscriptions, with_event}
 use Rattle.sox_events.specs.Due as over
-use Rattle.sox_events.specs.Due.{before_it, differs, subscriptions}
+use Rattle.sox_events.specs.Due.{letter_of, before_it, differs, subscriptions}
 use Rattle.dasp_session.specs.Outbox.{Datagram}
 use Rattle.dasp_session.specs.Receive.{post_of}
 use Rattle.dasp_session.specs.Session.{State}
 use Rattle.dasp_session.specs.Standing.{Leaves, StandsFor as SessionsStandFor, is_live as lives_in, waiting}
-use Rattle.node_events.specs.Events.{PartAt, Telling, bytes_of, differs_from, event_bytes, has_room_at, is_due}
+use Rattle.sox_msg.specs.Reply.{event_bytes}
+use Rattle.node_events.specs.Events.{PartAt, Telling, bytes_of, differs_from, has_room_at, is_due}
 use Rattle.node_events.specs.Events.{parts_of, told, told_all, told_if_due}
 use Rattle.node_events.specs.Node.{Node, OnlyOfTheOpen, is_open}
 use Rattle.sed_node.specs.Doing.{IsTold}
@@ -77,7 +78,7 @@ module _ {E : Type 0} (g : Ghosts E)
         → application_of g new.app ≡ application_of g old.app
         → ((p i : ℕ) (other : Part) → subscriptions new.subs p i other
         ≡ with_event place id part (over.bytes_of g old.app id part) (subscriptions old.subs) p i other)
-        → text ≡ event_bytes id part (over.bytes_of g old.app id part)
+        → text ≡ event_bytes id (letter_of part) (over.bytes_of g old.app id part)
         → ((state : State) → SessionsStandFor old.sessions state
         → Leaves (post_of state place text) new.sessions sent sent_now)
         → IsTold g new (told place id part (bytes_of (code_of g old) t.node.application id part) t) sent_now
@@ -85,9 +86,9 @@ module _ {E : Type 0} (g : Ghosts E)
         let bytes : over.bytes_of g old.app id part ≡ bytes_of (code_of g old) t.node.application id part =
         bytes_are old.app id part ∙ ap (λ (a : Application). bytes_of (code_of g old) a id part) is.holds.application in
         let post : Leaves (post_of t.node.sessions place
-        (event_bytes id part (bytes_of (code_of g old) t.node.application id part))) new.sessions sent sent_now =
+        (event_bytes id (letter_of part) (bytes_of (code_of g old) t.node.application id part))) new.sessions sent sent_now =
         subst (λ (text : List ℕ). Leaves (post_of t.node.sessions place text) new.sessions sent sent_now)
-        (text_is ∙ ap (event_bytes id part) bytes)
+        (text_is ∙ ap (event_bytes id (letter_of part)) bytes)
         (leaves t.node.sessions is.holds.sessions) in
         record {
           holds = record {

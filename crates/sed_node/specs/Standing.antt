@@ -1,5 +1,5 @@
 -- Which node of the definitions a node over an engine stands for.
-use Rattle.std.specs.Prelude.{◌≡◌, ◌≤◌, ℕ, Bool}
+use Rattle.std.specs.Prelude.{◌≡◌, Bool}
 use Rattle.sed_engine.specs.declared.engine.Engine.{Ghosts}
 use Rattle.sed_engine.specs.Code.{Meaning}
 use Rattle.sed_engine.specs.Whole.{IsWhole}
@@ -24,11 +24,6 @@ is_fixed g kept = g.fixed kept.app.tree.engine
 abbrev pub setup_of : {E : Type 0} → Kept E → Setup
 setup_of kept = record { turns = kept.turns; slot = kept.saver }
 
--- each root call has so many turns
-pub record AreTurns (turns : ℕ) : Type 0 where
-  pub some : 1 ≤ turns
-  pub most : turns ≤ 1000000
-
 -- ---- what it stands for
 
 -- it holds the node's application and what is subscribed, and its windows stand for the sessions
@@ -44,7 +39,6 @@ pub record IsKept {E : Type 0} (g : Ghosts E) (kept : Kept E) : Type 0 where
   pub whole : Whole (code_of g kept) (application_of g kept.app)
   pub agree : AllMarksAgree g kept.app (subscriptions kept.subs)
   pub room : HasRoom (code_of g kept).schema kept.subs
-  pub turns : AreTurns kept.turns
 
 -- a node of which only sessions that live and are authenticated have subscribed anything, and which keeps its windows
 pub record StandsFor {E : Type 0} (g : Ghosts E) (kept : Kept E) (n : Node) : Type 0 where

@@ -20,6 +20,7 @@ use crate::replying::{post_reply, post_saved};
 use crate::saving::Saver;
 use crate::subscribing::subscribe_as;
 use app_file::{a_cycle_keeps_whole, an_edit_keeps_whole, texts_are_files_of_what_is_kept};
+use comp_tree::Turns;
 use dasp_session::{Handed, Outbox, Sessions};
 use disk_model::Disk;
 use link_prop::{App, CycleEnd, cycle};
@@ -47,7 +48,7 @@ pub struct Kept<E: Engine> {
     pub(crate) subs: Subs,
     pub(crate) saver: Saver,
     // Of each root call.
-    pub(crate) turns: u32,
+    pub(crate) turns: Turns,
 }
 
 impl<E: Engine> Kept<E> {

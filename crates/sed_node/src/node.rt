@@ -7,12 +7,13 @@ ghost use Rattle.link_prop.specs.Linked.{application_of};
 ghost use Rattle.node_events.specs.Heard.{Heard, IsHeard};
 ghost use Rattle.node_events.specs.Node.{Node as State, Setup, live_sessions, opened};
 ghost use Rattle.sed_node.specs.Doing.{Delivers, Ticks};
-ghost use Rattle.sed_node.specs.Standing.{AreTurns, StandsFor, code_of, is_fixed, setup_of};
+ghost use Rattle.sed_node.specs.Standing.{StandsFor, code_of, is_fixed, setup_of};
 
 use crate::kept::Kept;
 use crate::saving::Saver;
 use app_file::a_cycle_keeps_whole;
 use app_save::Store;
+use comp_tree::Turns;
 use dasp_session::{Outbox, Sessions, Users};
 use disk_model::Disk;
 use link_prop::{App, CycleEnd, begin};
@@ -64,11 +65,10 @@ impl<E: Engine> Node<E> {
         store: Store,
         users: Users,
         secret: [u8; 20],
-        turns: u32,
+        turns: Turns,
         moment: i64,
     ) -> Result<Node<E>, Memory>
-        requires turns { AreTurns turns }
-        requires whole { Whole (E.meaning app.tree.engine) (application_of E.Engine app) }
+        requires { Whole (E.meaning app.tree.engine) (application_of E.Engine app) }
         ensures opened { IfOk result (λ node. StandsFor E.Engine node
             (opened (E.meaning app.tree.engine) (let s : Setup = record { turns = turns; slot = store } in s)
             (application_of E.Engine app) users secret moment)) }

@@ -3,8 +3,7 @@ ghost use Rattle.std.specs.Prelude.{◌≡◌, ◌+◌, ◌<◌, true, length};
 ghost use Rattle.dasp_session.specs.Receive.{post_of};
 ghost use Rattle.dasp_session.specs.Session.{State};
 ghost use Rattle.dasp_session.specs.Standing.{Leaves, StandsFor, may_post};
-ghost use Rattle.sox_serve.specs.Replies.{answered_text};
-ghost use Rattle.sox_msg.specs.Answered.{answered_of};
+ghost use Rattle.sox_msg.specs.Answered.{answered_of, answered_text};
 ghost use Rattle.sox_msg.specs.Reply.{FitsLimits, MayReply};
 ghost use Rattle.sed_node.specs.Saving.{reply_to};
 
@@ -12,7 +11,6 @@ use app_save::SaveRefusal;
 use dasp_session::{Outbox, Sessions};
 use sed_value::Refusal;
 use sox_msg::{Reply, ReplyBody, texts_fit_a_message, write_reply};
-use sox_serve::answers_have_one_text;
 
 /// Posts the text of a reply in a session that is live, authenticated and has room.
 pub fn post_reply(sessions: &mut Sessions, place: u8, reply: &Reply, out: &mut Outbox)
@@ -26,7 +24,6 @@ pub fn post_reply(sessions: &mut Sessions, place: u8, reply: &Reply, out: &mut O
     ensures one { length out.new ≡ length out.old + 1 }
 {
     texts_fit_a_message();
-    answers_have_one_text();
     let mut text = [0; 498];
     let count = write_reply(reply, &mut text);
     sessions.post(place, &text[..count], out);

@@ -16,7 +16,7 @@ use app_writer::write_app;
 use disk_model::Disk;
 use link_prop::App;
 use sed_engine::Engine;
-use sed_value::Memory;
+use sed_value::{Memory, zeros};
 use std::alloc::Global;
 use std::marker::Model;
 
@@ -42,7 +42,7 @@ impl Saver {
     pub fn new(alloc: Global, store: Store) -> Result<Saver, Memory>
         ensures { IfOk result (λ saver. saver ≡ store) }
     {
-        let buffer = zeros(alloc, store.slot())?;
+        let buffer = zeros(alloc, store.slot() as usize)?;
         Ok(Saver { store, buffer })
     }
 
@@ -72,13 +72,6 @@ impl Saver {
         stores_open_to_one();
         save_text(&mut self.store, app, disk, &mut self.buffer)
     }
-}
-
-// So many zeros.
-fn zeros(alloc: Global, len: u32) -> Result<Vec<u8>, Memory>
-    ensures { IfOk result (λ bytes. length bytes.items ≡ len) }
-{
-    Ok(vec![in alloc; 0; len as usize]?)
 }
 
 // Saves the text of an application, which is put into a buffer as long as a slot.

@@ -1,5 +1,6 @@
 -- What files hold, and what a read and a write of one of them do.
 use Rattle.std.specs.Prelude.{◌≡◌, ◌≢◌, ℕ, ◌+◌, ◌≤◌, ◌<◌, List, length, take, drop, Option, Some, None, IfSome}
+use Rattle.sed_value.specs.declared.limits.TheConstants.{LARGEST_FILE}
 
 -- The bytes of the file of each name, and none where no file has the name.
 abbrev pub Contents : Type 0
@@ -7,7 +8,7 @@ Contents = List ℕ → Option (List ℕ)
 
 -- The largest file that a read gives, in bytes.
 abbrev pub largest_file : ℕ
-largest_file = 16777216
+largest_file = LARGEST_FILE
 
 -- No read gives this file: it is not there, or it is too large.
 abbrev pub IsUnreadable : Option (List ℕ) → Type 0

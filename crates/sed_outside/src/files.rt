@@ -5,9 +5,6 @@ ghost use Rattle.sed_outside.specs.Files.{Contents, IsUnreadable, ReadsFile, Wri
 
 use thiserror::Error;
 
-/// The largest file that a read gives, in bytes.
-pub const LARGEST_FILE: usize = 16_777_216;
-
 /// Why a file was not read or written.
 #[derive(Clone, Copy, Debug, PartialEq, Eq, Error)]
 pub enum FileFault {

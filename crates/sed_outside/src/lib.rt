@@ -45,7 +45,7 @@ pub use addr::Addr;
 pub use clock::Clock;
 pub use datagram::Datagram;
 pub use failing_calls::FailingCalls;
-pub use files::{FileFault, Files, LARGEST_FILE};
+pub use files::{FileFault, Files};
 pub use link::{Link, LinkFault, Polled};
 pub use mem_clock::MemClock;
 pub use mem_files::MemFiles;

@@ -7,9 +7,10 @@ ghost use Rattle.sed_outside.specs.Failing.{begins_with, FailsNow, after_call};
 ghost use Rattle.sed_outside.specs.MemFiles.{contents_in, plan_of, failed_reads_of, failed_writes_of};
 
 use crate::failing_calls::FailingCalls;
-use crate::files::{FileFault, Files, LARGEST_FILE};
+use crate::files::{FileFault, Files};
 use crate::named;
 use sed_value::Memory;
+use sed_value::limits::LARGEST_FILE;
 
 /// Files in memory, with calls that fail by number. They tell what they hold, and count for each name apart.
 #[derive(Drop)]

@@ -5,7 +5,8 @@ ghost use Rattle.std.specs.IoError.{error_kind};
 ghost use Rattle.sed_outside.specs.Files.{ReadsFile, largest_file};
 ghost use Rattle.sed_outside.specs.Reading.{ReadsWhole, ReadsBytes};
 
-use crate::files::{FileFault, Files, LARGEST_FILE};
+use crate::files::{FileFault, Files};
+use sed_value::limits::LARGEST_FILE;
 use std::io::{self, ErrorKind, Read};
 use std::{fs, rt};
 

@@ -152,8 +152,8 @@ impl<'a, 'b> Ordered<'a, 'b> {
         Ok(all)
     }
 
-    /// The kind that a call of a method in a kit finds it to answer, and a body to return; none where it is declared with
-    /// a fault.
+    /// The kind that a call of a method in a kit finds it to answer, and a body to return; none where it is declared
+    /// with a fault.
     pub fn used_result(&self, kit: usize, member: &Member) -> Option<Kind>
         ensures { result ≡ types.used_result self.now kit member.now }
     {

@@ -44,21 +44,21 @@ fn params_fault(classes: &Classes<'_>, kit: usize, params: &[Param]) -> Option<F
 }
 
 fn member_name_fault(
-    based: &Based<'_>,
+    classes: &Classes<'_>,
     class: usize,
     lineage: &[usize],
     entry: &Entry<'_>,
     number: usize,
     member: &Member,
 ) -> Option<Fault>
-    requires { lineage.now ≡ ancestry.lineage based.now class }
-    ensures { result ≡ least (faults.member_name_faults based.now class (declaration_of entry.now) number member.now) }
+    requires lineage { lineage.now ≡ ancestry.lineage classes.now class }
+    requires entry { class_at classes.now class ≡ Some (declaration_of entry.now) }
+    ensures { result ≡ least (faults.member_name_faults classes.now class (declaration_of entry.now) number member.now) }
 {
-    let classes = based.classes();
     let bases = behind_first(lineage);
     let names = joined(
         type_without_class(classes, entry.kit, &member.kind),
-        name_repeated(entry, number, member),
+        name_repeated(classes, class, entry, number, member),
     );
     let inherited = joined(names, inherited_name_taken(classes, class, bases, member));
     joined(
@@ -91,11 +91,12 @@ fn member_fault(
     number: usize,
     member: &Member,
 ) -> Option<Fault>
-    requires { lineage.now ≡ ancestry.lineage based.now class }
+    requires lineage { lineage.now ≡ ancestry.lineage based.now class }
+    requires entry { class_at based.now class ≡ Some (declaration_of entry.now) }
     ensures { result ≡ least (faults.member_form_faults based.now class (declaration_of entry.now) number member.now) }
 {
     let own = joined(
-        member_name_fault(based, class, lineage, entry, number, member),
+        member_name_fault(based.classes(), class, lineage, entry, number, member),
         member_word_fault(based, class, lineage, entry, member),
     );
     joined(
@@ -110,7 +111,8 @@ fn members_fault(
     lineage: &[usize],
     entry: &Entry<'_>,
 ) -> Option<Fault>
-    requires { lineage.now ≡ ancestry.lineage based.now class }
+    requires lineage { lineage.now ≡ ancestry.lineage based.now class }
+    requires entry { class_at based.now class ≡ Some (declaration_of entry.now) }
     ensures { result ≡ least (said_from (faults.member_form_faults based.now class (declaration_of entry.now))
         0 entry.now.class.now.members) }
 {

@@ -29,7 +29,7 @@ pub use limits::{
 };
 pub use members::{
     class_not_runnable, inherited_name_taken, is_wrong_action, is_wrong_property,
-    method_not_runnable, name_repeated, overrides_nothing, slot_not_fit,
+    method_not_runnable, overrides_nothing, slot_not_fit,
 };
 pub use names::{base_not_fit, base_without_class, class_name_not_free, type_without_class};
 pub use plain::Plain;

@@ -1,19 +1,20 @@
 //! Rules on members and on what they override.
-ghost use Rattle.std.specs.Prelude.{◌≡◌, ◌==◌, take};
+ghost use Rattle.std.specs.Prelude.{◌≡◌, ◌==◌, Some};
 ghost use Rattle.std.specs.List.{list_all, list_any, zip};
 ghost use Rattle.sed_faults.specs.Faults.{least};
+ghost use Rattle.sed_classes.specs.Declarations.{class_at};
 ghost use Rattle.sed_classes.specs.Entries.{declaration_of};
 ghost use Rattle.sed_classes.specs.Bases as ancestry;
 ghost use Rattle.sed_classes.specs.MemberRules as rules;
 
 use sed_classes::{
     Based, Classes, Entry, SourceType, has_body, has_name, is_abstract_class, is_action,
-    is_argument_type, is_declared, is_method, is_open, is_property, is_property_type, is_same_type,
-    is_unknown, is_void, overrides, params_of, says_abstract, says_virtual,
+    is_argument_type, is_method, is_open, is_property, is_property_type, is_same_type, is_unknown,
+    is_void, overrides, params_of, says_abstract, says_virtual,
 };
 use sed_faults::{Fault, broken_if};
 use sed_units::{Class, Member, Param};
-use sed_value::{front_of, is_among};
+use sed_value::is_among;
 
 // The place of `Virtual`.
 const VIRTUAL: usize = 1;
@@ -23,16 +24,19 @@ const COMPONENT: usize = 2;
 
 // ---- 4: a member has a name of its own in its class
 
-/// Where a member has the name of an earlier one of its class, by its number among them.
-pub fn name_repeated(entry: &Entry<'_>, number: usize, member: &Member) -> Option<Fault>
+/// Where a member has the name of an earlier one of its class, which stands at the place, by its number among them.
+pub fn name_repeated(
+    classes: &Classes<'_>,
+    class: usize,
+    entry: &Entry<'_>,
+    number: usize,
+    member: &Member,
+) -> Option<Fault>
+    requires { class_at classes.now class ≡ Some (declaration_of entry.now) }
     ensures { result ≡ least (rules.name_repeated (declaration_of entry.now) number member.now) }
 {
-    let before = front_of(entry.class.members.as_slice(), number);
-    broken_if(
-        is_declared(before, member.name.bytes.as_slice()),
-        4,
-        member.at,
-    )
+    let taken = classes.declares_before(member.name.bytes.as_slice(), class, number);
+    broken_if(taken, 4, member.at)
 }
 
 // ---- 5: a member that has the name of an inherited one says `override`

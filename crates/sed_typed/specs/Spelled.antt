@@ -35,11 +35,16 @@ pub record IsSpelledClass (c : ClassInfo) : Type 0 where
   pub size : c.size < 2 ^ 32
   pub slots : All IsSpelledSlot c.slots
 
--- the kits and types of a schema, as an application file tells them too
-pub record IsSpelledSchema (schema : Schema) : Type 0 where
+-- the kits and types of a schema are of the forms in which an application file tells them: names of kits, checksums of
+-- 32 bits, numbers of types that are bytes
+pub record CanBeTold (schema : Schema) : Type 0 where
   pub names : All (λ kit. IsTrue (is_kit_name kit.name)) schema.kits
   pub checksums : All (λ kit. IsTrue (is_signed w32 kit.checksum)) schema.kits
-  pub numbers : All (λ c. c.number < 2 ^ 8) schema.classes
+  pub numbers : All (λ (c : ClassInfo). c.number < 2 ^ 8) schema.classes
+
+-- the kits and types of a schema
+pub record IsSpelledSchema (schema : Schema) : Type 0 where
+  pub told : CanBeTold schema
   pub classes : All IsSpelledClass schema.classes
 
 -- the sizes of Strs and Bufs are bytes, the counts of elements and the numbers of classes have 16 bits

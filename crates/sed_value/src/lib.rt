@@ -1,6 +1,6 @@
 //! The values of the language, the names that its texts and applications use, and its arithmetic.
 //!
-//! This is the bottom crate: it knows no file, message or machine, and nothing here takes memory.
+//! This is the bottom crate: it knows no file, message or machine, and nothing here but `zeros` takes memory.
 //! Each operation's contract is its definition on whole numbers, and each reader of a name accepts
 //! exactly the names of its form. Every other crate of the repository stands on this one.
 #![tactic(auto)]
@@ -40,7 +40,7 @@ pub use long::{add_long, div_long, mul_long, rem_long, shl_long, shr_long, sub_l
 pub use memory::Memory;
 pub use name::{LONGEST_NAME, Name};
 pub use refusal::{Refusal, refusals_are_numbered};
-pub use slices::{front_of, is_among};
+pub use slices::{front_of, is_among, put_at, zeros};
 pub use slot_buf::SlotBuf;
 // The prover has a module `Prim` of its own, so specifications know the type as `Primitive`.
 pub use slot_type::{Primitive as Prim, SlotType};

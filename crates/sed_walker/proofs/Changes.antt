@@ -11,6 +11,7 @@ use Rattle.sed_typed.specs.declared.schema.ClassInfo.{ClassInfo}
 use Rattle.sed_typed.specs.declared.program.Program.{Program}
 use Rattle.sed_typed.specs.Contents.{Contents}
 use Rattle.sed_typed.specs.Initial.{initial, initial_statics}
+use Rattle.sed_typed.specs.Spelled.{CanBeTold}
 use Rattle.sed_engine.specs.declared.call.Root.{Root}
 use Rattle.sed_engine.specs.Asked.{MayAsk}
 use Rattle.sed_engine.specs.Code.{Object, Question, asked_of, data_of, may_call, new_object, root_of}
@@ -137,11 +138,12 @@ module _ (plan : Plan) (program : Program) (same : plan.program ≡ program) (s 
   first : contents_of plan (classes_in plan) cells ≡ first_at plan.program (classes_in plan) → contents_of plan (classes_in plan) cells ≡ initial_statics plan.program
   first begins = begins ∙ first-statics plan.program
 
-  pub held-first : IsWhole (meaning_of program) → contents_of plan (classes_in plan) cells ≡ first_at plan.program (classes_in plan) → IsHeld (held_of plan s cells limit) 0
-  held-first is_whole begins =
+  pub held-first : IsWhole (meaning_of program) → CanBeTold program.schema → contents_of plan (classes_in plan) cells ≡ first_at plan.program (classes_in plan) → IsHeld (held_of plan s cells limit) 0
+  held-first is_whole can_be_told begins =
       let whole : IsWhole (meaning_of plan.program) = subst (λ (p : Program). IsWhole (meaning_of p)) (sym same) is_whole in
       record {
         whole = whole;
+        told = subst (λ (p : Program). CanBeTold p.schema) (sym same) can_be_told;
         objects = λ p. subst (λ (r : Option Object). IfSome r (IsObject (meaning_of plan.program))) (sym (ap (λ live. finite.get live p) nothing_live ∙ finite.get-empty nat_cmp p)) tt;
         statics = subst (λ (contents : Contents). Fits (meaning_of plan.program).fields (meaning_of plan.program).static_fields (meaning_of plan.program).initial_statics contents) (sym (first begins)) whole.tables.first_statics;
         counted = sym (ap (data_of (meaning_of plan.program)) nothing_live ∙ total_none (λ (o : Object). (meaning_of plan.program).data_size o.class));

@@ -104,6 +104,7 @@ module _ (h : Held) (used : ℕ) (is : IsHeld h used) where
   unfolding size_of
   held-more k o size object none same fits = record {
     whole = is.whole;
+    told = is.told;
     objects = objects_put k o object;
     statics = is.statics;
     counted = ap (λ n. n + size) is.counted ∙ ap (λ n. data_of (meaning_of h.program) h.live + n) same ∙ sym (total_more size_of h.live k o none);
@@ -121,6 +122,7 @@ module _ (h : Held) (used : ℕ) (is : IsHeld h used) where
         omega arith,
         record {
           whole = is.whole;
+          told = is.told;
           objects = objects_out k;
           statics = is.statics;
           counted = omega arith;
@@ -135,6 +137,7 @@ module _ (h : Held) (used : ℕ) (is : IsHeld h used) where
   unfolding size_of
   held-over k o n statics at object same fits = record {
     whole = is.whole;
+    told = is.told;
     objects = objects_put k n object;
     statics = fits;
     counted = is.counted ∙ sym (total_over size_of h.live k o n at (ap (meaning_of h.program).data_size same));

@@ -5,6 +5,7 @@ use Rattle.std.specs.FinMap as finite
 use Rattle.sed_value.specs.declared.value.Value.{Value}
 use Rattle.sed_typed.specs.declared.program.Program.{Program}
 use Rattle.sed_typed.specs.Contents.{Contents}
+use Rattle.sed_typed.specs.Spelled.{CanBeTold}
 use Rattle.sed_engine.specs.Code.{Object, Places, data_of}
 use Rattle.sed_engine.specs.Fits.{Fits}
 use Rattle.sed_engine.specs.Program.{meaning_of}
@@ -42,9 +43,11 @@ abbrev pub FitsStatics : Program → Contents → Type 0
 FitsStatics program contents =
     Fits (meaning_of program).fields (meaning_of program).static_fields (meaning_of program).initial_statics contents
 
--- the code is whole, whatever is kept fits, and the data of the live objects is counted and within the limit
+-- the code is whole and can be told, whatever is kept fits, and the data of the live objects is counted and within the
+-- limit
 pub record IsHeld (h : Held) (used : ℕ) : Type 0 where
   pub whole : IsWhole (meaning_of h.program)
+  pub told : CanBeTold h.program.schema
   pub objects : (p : ℕ) → IfSome (finite.get h.live p) (IsObject (meaning_of h.program))
   pub statics : FitsStatics h.program h.statics
   pub counted : used ≡ data_of (meaning_of h.program) h.live

@@ -13,7 +13,7 @@ use sed_engine::{
     AddRefusal, CallEnd, Engine, Place, Root, masked_codes_answer, typed_programs_are_whole,
     what_is_kept_fits,
 };
-use sed_typed::{Program, Schema, SlotNo, TypeNo};
+use sed_typed::{Program, Schema, SlotNo, TypeNo, schema_is_spelled_out};
 use sed_value::{Memory, SlotBuf};
 use slab::Slab;
 use std::alloc::Global;
@@ -60,6 +60,7 @@ impl Walker {
         ensures limit { IfOk result (λ w. w.limit ≡ limit) }
     {
         typed_programs_are_whole();
+        schema_is_spelled_out(&program.schema);
         let slots = SlotPlan::new(alloc, program)?;
         let statics = slots.plan().fresh(alloc, slots.plan().statics())?;
         Ok(Walker {
@@ -86,6 +87,10 @@ impl Engine for Walker {
 
     fn schema(&self) -> &Schema {
         &self.slots.plan().program().schema
+    }
+
+    fn data_limit(&self) -> usize {
+        self.limit as usize
     }
 
     // A field of a program is behind one slot at most.

@@ -5,7 +5,7 @@ ghost use Rattle.std.specs.Int.{w32, w64};
 
 use crate::fault::Full;
 use crate::number::{signed_spelling_in_4, signed_spelling_in_8, spelling_in_2, spelling_in_4};
-use sed_value::Value;
+use sed_value::{Value, put_at};
 
 /// A writer into a slice that it is lent, from its start on. What stands in the slice is what was written, and then the
 /// bytes that were there.
@@ -209,12 +209,4 @@ impl<'a> Writer<'a> {
         self.u2(contents.len() as u16)?;
         self.bytes(contents)
     }
-}
-
-// Puts bytes into a slice in the place of as many.
-fn put_at(into: &mut [u8], at: usize, bytes: &[u8])
-    requires { at + length bytes.now ≤ length into.old }
-    ensures { into.new ≡ take at into.old ++ (bytes.now ++ drop (at + length bytes.now) into.old) }
-{
-    into[at..at + bytes.len()].copy_from_slice(bytes);
 }

@@ -1,9 +1,10 @@
 -- A payload is read and printed.
 use Rattle.std.proofs.Common.{◌≡◌, ℕ, List, Ok, Err, refl, ap, subst, ◌∙◌}
+use Rattle.sed_typed.specs.Spelled.{CanBeTold}
 use Rattle.sed_engine.specs.Code.{Meaning}
 use Rattle.sed_engine.specs.Whole.{HasTables}
 use Rattle.comp_tree.specs.Application.{Application}
-use Rattle.app_file.specs.Reading.{CanBeTold, IsFile, IsRefusedFor, file, no_file, over_limit, wrong_kits}
+use Rattle.app_file.specs.Reading.{IsFile, IsRefusedFor, file, no_file, over_limit, wrong_kits}
 use Rattle.app_file.specs.declared.refusal.AppRefusal.{AppRefusal}
 use Rattle.app_file.specs.declared.refusal.AppRefusal.TheVariants as app
 use Rattle.printed_app.specs.Application.{application_text}

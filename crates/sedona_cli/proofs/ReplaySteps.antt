@@ -1,10 +1,11 @@
 -- The steps of `replay`, put together from what its calls did.
-use Rattle.std.proofs.Common.{◌≡◌, ℕ, ℤ, Bool, true, false, List, [], ◌++◌, Some, Result, Ok, Err, inr, refl, sym, ap, subst, append_assoc}
+use Rattle.std.proofs.Common.{◌≡◌, ◌∙◌, ℕ, ℤ, Bool, true, false, List, [], ◌++◌, Some, Result, Ok, Err, inr, refl, sym, ap, subst, append_assoc}
 use Rattle.std.specs.Prelude.{IfErr, IfOk, MatchBool, Option}
 use Rattle.std.proofs.lemmas.List.{append-nil}
+use Rattle.sed_typed.specs.Spelled.{CanBeTold}
 use Rattle.sed_outside.specs.declared.files.Files.{Ghosts as FileGhosts}
 use Rattle.disk_model.specs.declared.disk.Disk.{Ghosts as DiskGhosts}
-use Rattle.app_file.specs.Reading.{CanBeTold, IsFile}
+use Rattle.app_file.specs.Reading.{IsFile}
 use Rattle.disk_model.specs.Disk.{Meaning}
 use Rattle.app_save.specs.Saving.{AllOpen, AllStores}
 use Rattle.comp_tree.specs.Application.{Application}
@@ -321,12 +322,12 @@ same_slots (Err refusal) slot m stores same = tt
 
 -- ---- a node that is ready
 
-pub is_ready : {E : Type 0} (g : Ghosts E) (given moment : ℤ) (turns slot : ℕ) (code : Code) (users : List User) (secret : List ℕ) (a : Application) (node : Kept E) → given ≡ moment → code_of g node ≡ code
+pub is_ready : {E : Type 0} (g : Ghosts E) (given moment : ℤ) (turns asked slot : ℕ) (code : Code) (users : List User) (secret : List ℕ) (a : Application) (node : Kept E) → given ≡ moment → turns ≡ asked → code_of g node ≡ code
     → setup_of node ≡ (let s : Setup = record { turns = turns; slot = slot } in s) → is_fixed g node ≡ true
-    → StandsFor g node (opened code (let s : Setup = record { turns = turns; slot = slot } in s) a users secret given) → IsReady g moment turns code users secret a node
-is_ready g given moment turns slot code users secret a node same is_code setup fixed stands = record {
+    → StandsFor g node (opened code (let s : Setup = record { turns = turns; slot = slot } in s) a users secret given) → IsReady g moment asked code users secret a node
+is_ready g given moment turns asked slot code users secret a node same made is_code setup fixed stands = record {
   code_is = is_code;
-  turns_are = ap (λ (s : Setup). s.turns) setup;
+  turns_are = ap (λ (s : Setup). s.turns) setup ∙ made;
   fixed = fixed;
   stands = subst (λ (t : ℤ). StandsFor g node (opened code (setup_of node) a users secret t)) same
       (subst (λ (s : Setup). StandsFor g node (opened code s a users secret given)) (sym setup) stands);

@@ -1,9 +1,10 @@
 -- What is done with a store, step by step.
 use Rattle.std.specs.Prelude.{◌≡◌, ◌⊎◌, ◌≤◌, ◌<◌, ℕ, true, false, List, [], ◌∷◌, length, MatchBool, Result, Ok, Err}
+use Rattle.sed_typed.specs.Spelled.{CanBeTold}
 use Rattle.sed_engine.specs.Code.{Meaning}
 use Rattle.sed_engine.specs.Whole.{HasTables}
 use Rattle.comp_tree.specs.Application.{Application}
-use Rattle.app_file.specs.Reading.{CanBeTold, IsReadAs, Reading, no_file, wrong_kits, over_limit, file}
+use Rattle.app_file.specs.Reading.{IsReadAs, Reading, no_file, wrong_kits, over_limit, file}
 use Rattle.sed_outside.specs.Steps.{Decides}
 use Rattle.sedona_cli.specs.declared.refusal.Refusal.{Refusal}
 use Rattle.sedona_cli.specs.declared.refusal.Refusal.TheVariants.{SlotTooSmall, DeviceFault, StoreExists, NoStore}

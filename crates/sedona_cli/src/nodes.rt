@@ -14,8 +14,9 @@ ghost use Rattle.sedona_cli.specs.Store.{IsRead};
 
 use crate::refusal::{Refusal, of_app};
 use crate::store::{attach_store, open_with_slot};
-use app_reader::{read_app, schema_can_be_told};
+use app_reader::read_app;
 use app_save::Store;
+use comp_tree::Turns;
 use dasp_session::Users;
 use disk_model::Disk;
 use link_prop::App;
@@ -46,7 +47,7 @@ fn app_of(
         Ok(engine) => engine,
         Err(Memory) => return Err(Refusal::Memory),
     };
-    schema_can_be_told(engine.schema());
+    let _told = engine.schema();
     match read_app(alloc, payload, engine) {
         Ok(app) => Ok(app),
         Err(refusal) => Err(of_app(refusal)),
@@ -134,7 +135,10 @@ pub fn node_of(
     ensures slot { IfOk result (λ node. (setup_of node).slot ≡ store) }
     ensures refused { IfErr result (λ refusal. refusal ≡ Refusal.Memory) }
 {
-    match Node::open(alloc, app, store, users, secret, words.turns, moment) {
+    let Some(turns) = Turns::new(words.turns) else {
+        unreachable!()
+    };
+    match Node::open(alloc, app, store, users, secret, turns, moment) {
         Ok(node) => Ok(node),
         Err(Memory) => Err(Refusal::Memory),
     }

@@ -11,11 +11,12 @@ use crate::loading::kits_program;
 use crate::printing::application_text;
 use crate::refusal::{Refusal, of_app};
 use crate::store::{attach_store, open_store};
-use app_reader::{read_app, schema_can_be_told};
+use app_reader::read_app;
 use disk_model::Disk;
 use scode_compile::Compiled;
 use sed_engine::typed_programs_are_whole;
 use sed_outside::Files;
+use sed_typed::schema_is_spelled_out;
 use sed_value::{Items, Memory};
 use sedona_words::names_in;
 use std::alloc::Global;
@@ -32,7 +33,7 @@ fn printed(
     ensures { PrintedOrWants (meaning_of program) limit payload.now result }
 {
     typed_programs_are_whole();
-    schema_can_be_told(&program.program().schema);
+    schema_is_spelled_out(&program.program().schema);
     let engine = match program.machine(alloc, limit) {
         Ok(engine) => engine,
         Err(Memory) => return Err(Refusal::Memory),

@@ -2,10 +2,11 @@
 use Rattle.std.proofs.Common.{◌≡◌, ℕ, Bool, true, false, List, [], ◌∷◌, ◌++◌, Some, Result, Ok, Err, refl, sym, ap, subst, ◌∙◌, inl, inr, append_assoc}
 use Rattle.std.proofs.lemmas.List.{append-nil}
 use Rattle.std.proofs.lemmas.Grind.{flat_map-append}
+use Rattle.sed_typed.specs.Spelled.{CanBeTold}
 use Rattle.sed_engine.specs.Code.{Meaning}
 use Rattle.sed_engine.specs.Whole.{HasTables}
 use Rattle.comp_tree.specs.Application.{Application}
-use Rattle.app_file.specs.Reading.{CanBeTold, IsReadAs, Reading}
+use Rattle.app_file.specs.Reading.{IsReadAs, Reading}
 use Rattle.sed_outside.specs.Steps.{Read, AndThen, Decides, stops, goes_on, Agree}
 use Rattle.sed_outside.proofs.One.{agree_back, agree_front}
 use Rattle.sed_check.specs.Loading.{Told}

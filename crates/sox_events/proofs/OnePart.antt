@@ -11,8 +11,7 @@ use Rattle.sub_table.specs.declared.part.Part.{Part}
 use Rattle.sub_table.specs.declared.part.Part.TheVariants.{Tree, Config, Runtime, Links}
 use Rattle.sub_table.specs.Parts.{is_part}
 use Rattle.sub_table.specs.Table.{Subscriptions, with_event}
-use Rattle.sox_msg.specs.Command.{u2}
-use Rattle.sox_msg.specs.Reply.{Puts}
+use Rattle.sox_msg.specs.Reply.{Puts, event_bytes}
 use Rattle.sox_events.specs.Due.{Gives, Passes, app_part, bit_of, bytes_of, is_last, may_be_due, none_of_them, is_due, is_watched, letter_of, lives, marked, only}
 use Rattle.link_prop.specs.Linked.{one_if}
 use Rattle.sox_events.specs.Compared.{Counts, has_event, risen, was_compared}
@@ -86,7 +85,7 @@ module _ {E : Type 0} (g : Ghosts E) (a b : Linked E) (subs : Subscriptions) (pl
 
     pub gives_one : (after : Subscriptions) (count : ℕ) (into now : List ℕ) → is_last bytes (subs place id part) ≡ false
         → ((p i : ℕ) (q : Part) → after p i q ≡ with_event place id part bytes subs p i q)
-        → Puts (101 ∷ 255 ∷ (u2 id ++ letter_of part ∷ bytes)) count into now
+        → Puts (event_bytes id (letter_of part) bytes) count into now
         → Gives g a b subs after place none_of_them id part count into now
     gives_one after count into now ev posted text = record {
       stays = stays;
@@ -96,7 +95,7 @@ module _ {E : Type 0} (g : Ghosts E) (a b : Linked E) (subs : Subscriptions) (pl
       none = λ i q inside. absurd (let wrong : false ≡ true = inside in cc);
       marks = settled;
       posted = λ p i q. posted p i q ∙ ap (λ (x : List ℕ). with_event place id part x subs p i q) is;
-      text = subst (λ (x : List ℕ). Puts (101 ∷ 255 ∷ (u2 id ++ letter_of part ∷ x)) count into now) is text;
+      text = subst (λ (x : List ℕ). Puts (event_bytes id (letter_of part) x) count into now) is text;
     }
 
 -- ---- whether it is compared

@@ -14,8 +14,7 @@ use Rattle.link_prop.specs.Linked.{Linked, application_of}
 use Rattle.sub_table.specs.declared.part.Part.{Part}
 use Rattle.sub_table.specs.declared.part.Part.TheVariants.{Tree, Config, Runtime, Links}
 use Rattle.sub_table.specs.Table.{Subscriptions, with_event}
-use Rattle.sox_msg.specs.Command.{u2}
-use Rattle.sox_msg.specs.Reply.{Puts}
+use Rattle.sox_msg.specs.Reply.{Puts, event_bytes}
 use Rattle.sox_events.specs.Due.{Gives, Passes, Those, bytes_of, none_of_them, is_due, is_watched, letter_of, lives, marked, only}
 
 -- ---- what stays
@@ -126,7 +125,7 @@ module _ {E : Type 0} (g : Ghosts E) (a b c : Linked E) (subs : Subscriptions) (
             ∙ marks_more (p == place) (s i q) (t i q) (only id part i q) (is_watched g a subs place i q) (marked a p i q)
             ∙ ap (λ (k : Bool). cond ((p == place && (k || only id part i q)) && is_watched g a subs place i q) false (marked a p i q)) (same i q);
         posted = λ p i q. v.posted p i q ∙ ap (λ (bytes : List ℕ). with_event place id part bytes subs p i q) here;
-        text = subst (λ (bytes : List ℕ). Puts (101 ∷ 255 ∷ (u2 id ++ letter_of part ∷ bytes)) count into now) here v.text;
+        text = subst (λ (bytes : List ℕ). Puts (event_bytes id (letter_of part) bytes) count into now) here v.text;
       }
 
 -- ---- no other parts

@@ -1,6 +1,6 @@
 -- What is due to a session place: by the marks of an application, and by what differs.
 use Rattle.std.specs.Prelude.{ℕ, ◌≡◌, ◌≤◌, ◌==◌, ◌&&◌, ◌||◌, not, nat_eq, nat_lt, Bool, true, false, if◌then◌else◌}
-use Rattle.std.specs.Prelude.{List, ◌∷◌, ◌++◌, Option, Some, None, is_some, unwrap_or}
+use Rattle.std.specs.Prelude.{List, Option, Some, None, is_some, unwrap_or}
 use Rattle.std.specs.Option.{option_map_or}
 use Rattle.std.specs.Cmp.Lexicographic.{pointwise}
 use Rattle.sed_typed.specs.declared.schema.Schema.{Schema}
@@ -15,8 +15,7 @@ use Rattle.sub_table.specs.declared.part.Part.{Part}
 use Rattle.sub_table.specs.declared.part.Part.TheVariants.{Tree, Config, Runtime, Links}
 use Rattle.sub_table.specs.Parts.{is_part}
 use Rattle.sub_table.specs.Table.{Subscriptions, at, most_bytes, with_event}
-use Rattle.sox_msg.specs.Command.{u2}
-use Rattle.sox_msg.specs.Reply.{Puts}
+use Rattle.sox_msg.specs.Reply.{Puts, event_bytes}
 use Rattle.sox_events.specs.declared.subs.Subs.{Subs}
 
 -- ---- parts
@@ -83,8 +82,8 @@ is_last bytes kept = option_map_or (λ last. pointwise nat_eq last bytes) (unwra
 
 -- ---- agreement
 
--- the marks agree with the subscriptions: each subscribed part of a live component that has a last event and no mark has
--- the bytes of that event
+-- the marks agree with the subscriptions: each subscribed part of a live component that has a last event and no mark
+-- has the bytes of that event
 abbrev pub MarksAgree : {E : Type 0} → Ghosts E → Linked E → Subscriptions → Type 0
 MarksAgree g a subs =
     (place id : ℕ) (part : Part) (bytes : List ℕ) → lives g a id ≡ true → subs place id part ≡ Some (Some bytes)
@@ -182,4 +181,4 @@ pub record Gives {E : Type 0} (g : Ghosts E) (old new : Linked E) (subs after : 
       then false else marked old p i other)
   pub posted : (p i : ℕ) (other : Part)
       → after p i other ≡ with_event place id part (bytes_of g old id part) subs p i other
-  pub text : Puts (101 ∷ 255 ∷ (u2 id ++ letter_of part ∷ bytes_of g old id part)) count into now
+  pub text : Puts (event_bytes id (letter_of part) (bytes_of g old id part)) count into now

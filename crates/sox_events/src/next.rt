@@ -3,7 +3,7 @@ ghost use Rattle.std.specs.Prelude.{◌≡◌, ◌==◌, ◌&&◌, ◌<◌, ◌�
 ghost use Rattle.std.specs.Prelude.{length, take};
 ghost use Rattle.std.specs.FinMap as map;
 ghost use Rattle.comp_tree.specs.Held.{components_of};
-ghost use Rattle.sox_msg.specs.Reply.{Puts, event_text, is_told};
+ghost use Rattle.sox_msg.specs.Reply.{Puts, event_bytes, is_told};
 ghost use Rattle.sub_table.specs.declared.part.Part.{Part as PartOf};
 ghost use Rattle.sub_table.specs.Table.{at, most_bytes, with_event};
 ghost use Rattle.link_prop.specs.Linked.{one_if};
@@ -11,14 +11,13 @@ ghost use Rattle.sox_events.specs.Compared.{Counts, has_event, how_many, risen, 
 ghost use Rattle.sox_events.specs.Due.{comparisons, Gives, HasRoom, Passes, before_it, all_of_them, bit_of, bytes_of};
 ghost use Rattle.sox_events.specs.Due.{is_last, letter_of, longest, marked, may_be_due, none_of_them, only, rank};
 ghost use Rattle.sox_events.specs.Due.{room_for, subscriptions};
-ghost use Rattle.sox_msg.specs.Command.{u2};
-ghost use Rattle.std.specs.Prelude.{◌∷◌, ◌++◌};
 
 use crate::subs::{Subs, is_dead};
 use app_parts::write_part;
 use link_prop::App;
 use sed_engine::Engine;
 use sed_value::Id;
+use sed_value::limits::LONGEST_PART;
 use sox_msg::{Event, write_event};
 use sub_table::{Part, SubTable};
 
@@ -172,7 +171,7 @@ fn event_of_part<E: Engine>(
     if !may_be_due(table, app, place, id, part) {
         return None;
     }
-    let mut bytes = [0; 438];
+    let mut bytes = [0; LONGEST_PART];
     let count = put_part(app, id, part, &mut bytes);
     app.settle(id, place, bit_of(part));
     event_of_bytes(table, place, id, part, &bytes[..count], into, compared)
@@ -192,10 +191,10 @@ fn may_be_due<E: Engine>(table: &SubTable, app: &App<E>, place: u8, id: Id, part
 }
 
 // Puts the bytes of a part of a live component in front of `bytes`, and says how many they are.
-fn put_part<E: Engine>(app: &App<E>, id: Id, part: Part, bytes: &mut [u8; 438]) -> usize
+fn put_part<E: Engine>(app: &App<E>, id: Id, part: Part, bytes: &mut [u8; LONGEST_PART]) -> usize
     requires { IsSome (map.get (components_of E.Engine app.now.tree).by_id id.0) }
     ensures front { take result bytes.new ≡ bytes_of E.Engine app.now id.0 part }
-    ensures few { result ≤ 438 }
+    ensures few { result ≤ LONGEST_PART }
     ensures fits { result ≤ longest (E.meaning app.now.tree.engine).schema part }
 {
     write_part(app, id, letter_of(part), bytes)
@@ -214,14 +213,14 @@ fn event_of_bytes(
     requires place { place < 16 }
     requires bound { id.0 < 4096 }
     requires subscribed { IsSome (at table.old place id.0 part) }
-    requires short { length bytes.now ≤ 438 }
+    requires short { length bytes.now ≤ LONGEST_PART }
     requires room { length bytes.now ≤ most_bytes table.old part }
     ensures event { MatchOption result
         ((is_last bytes.now (at table.old place id.0 part) ≡ true) × (table.new ≡ table.old) × (into.new ≡ into.old))
         (λ count. (is_last bytes.now (at table.old place id.0 part) ≡ false)
         × ((p i : ℕ) (other : PartOf) → at table.new p i other
         ≡ with_event place id.0 part bytes.now (at table.old) p i other)
-        × Puts (101 ∷ 255 ∷ (u2 id.0 ++ letter_of part ∷ bytes.now)) count into.old into.new) }
+        × Puts (event_bytes id.0 (letter_of part) bytes.now) count into.old into.new) }
     ensures compared { compared.new ≡ risen compared.old (one_if (has_event (at table.old place id.0 part))) }
     ensures room { (other : PartOf) → most_bytes table.new other ≡ most_bytes table.old other }
 {
@@ -234,8 +233,8 @@ fn event_of_bytes(
 
 // Puts the text of an event.
 fn put_event(id: Id, part: Part, bytes: &[u8], into: &mut [u8; 498]) -> usize
-    requires short { length bytes.now ≤ 438 }
-    ensures { Puts (101 ∷ 255 ∷ (u2 id.0 ++ letter_of part ∷ bytes.now)) result into.old into.new }
+    requires short { length bytes.now ≤ LONGEST_PART }
+    ensures { Puts (event_bytes id.0 (letter_of part) bytes.now) result into.old into.new }
 {
     let event = Event {
         id,

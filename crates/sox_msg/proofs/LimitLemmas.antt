@@ -1,7 +1,6 @@
 -- What keeps the platform's limits fits a message.
-use Rattle.std.proofs.Common.{◌≡◌, ℕ, ◌*◌, ◌≤◌, List, [], ◌∷◌, ◌++◌, length, refl, ap, arith, length-append}
-use Rattle.std.proofs.lemmas.List.Concat.{flat_map-cons}
-use Rattle.std.specs.List.{flat_map}
+use Rattle.std.proofs.Common.{◌≤◌, [], ◌∷◌, length, arith, length-append}
+use Rattle.sed_value.specs.declared.limits.TheConstants.{LONGEST_MESSAGE, LONGEST_PART}
 use Rattle.sed_value.specs.declared.refusal.Refusal.{Refusal}
 use Rattle.sed_value.specs.declared.refusal.Refusal.TheVariants.{Malformed, UnknownCommand, NoComponent, NoType, AbstractType, BadName, NameTaken, TooManyChildren, TooDeep, ComponentLimit, DataFull, NoSlot, WrongKindOfSlot, BadValue, BufferTooLong, LinkTypesDiffer, TargetLinked, LinksAtComponent, LinkLimit, NoLink, NotTheChildren, AppItself, Faulted, SaveDevice, StoreFull, OutOfMemory}
 use Rattle.sed_value.specs.Refusal.{text_of_refusal}
@@ -9,62 +8,7 @@ use Rattle.sox_msg.specs.declared.event.Event.{Event}
 use Rattle.sox_msg.specs.declared.reply.Reply.{Reply}
 use Rattle.sox_msg.specs.declared.reply.ReplyBody.{ReplyBody}
 use Rattle.sox_msg.specs.declared.reply.ReplyBody.TheVariants.{Done, Added, Part, Slot, Version, Refused}
-use Rattle.sox_msg.specs.Command.{str, u2}
-use Rattle.sox_msg.specs.Limits.{KitText, Link, PartFits, link_text, links, schema_text, tree, tree_part, values}
 use Rattle.sox_msg.specs.Reply.{FitsLimits, answer_of, event_text, reply_text}
-
-children-size : (children : List ℕ) → length (flat_map u2 children) ≡ 2 * length children
-children-size [] = refl
-children-size (child ∷ rest) =
-    omega (arith, ap length (flat_map-cons u2 child rest), length-append (u2 child) (flat_map u2 rest), children-size rest)
-
-links-size : (all : List Link) → length (flat_map link_text all) ≡ 6 * length all
-links-size [] = refl
-links-size (first ∷ rest) =
-    omega (
-      arith,
-      ap length (flat_map-cons link_text first rest),
-      length-append (link_text first) (flat_map link_text rest),
-      links-size rest,
-    )
-
-abbrev kit_text : KitText → List ℕ
-kit_text kit = str kit.name ++ kit.checksum
-
-kits-size : (kits : List KitText) → length (flat_map kit_text kits) ≤ 29 * length kits
-kits-size [] = omega arith
-kits-size (kit ∷ rest) =
-    omega (
-      arith,
-      ap length (flat_map-cons kit_text kit rest),
-      length-append (kit_text kit) (flat_map kit_text rest),
-      length-append (str kit.name) kit.checksum,
-      length-append kit.name (0 ∷ []),
-      kit.short,
-      kit.four,
-      kits-size rest,
-    )
-
-pub tree-size : (kit kind : ℕ) (name : List ℕ) (parent : ℕ) (children : List ℕ) → length name ≤ 31
-    → length children ≤ 200 → length (tree_part kit kind name parent children) ≤ 438
-tree-size kit kind name parent children short few =
-    omega (
-      arith,
-      length-append (str name) (u2 parent ++ 255 ∷ length children ∷ flat_map u2 children),
-      length-append name (0 ∷ []),
-      children-size children,
-      short,
-      few,
-    )
-
-pub part-size : (bytes : List ℕ) → PartFits bytes → length bytes ≤ 438
-part-size bytes (tree kit kind name parent children short few) = tree-size kit kind name parent children short few
-part-size bytes (values all few) = omega (arith, few)
-part-size bytes (links all few) =
-    omega (arith, length-append (flat_map link_text all) (255 ∷ 255 ∷ []), links-size all, few)
-
-pub schema-size : (kits : List KitText) → length kits ≤ 16 → length (schema_text kits) ≤ 465
-schema-size kits few = omega (arith, kits-size kits, few)
 
 pub refusal-size : (refusal : Refusal) → length (text_of_refusal refusal) ≤ 18
 refusal-size Malformed = omega arith
@@ -97,14 +41,15 @@ refusal-size OutOfMemory = omega arith
 answer-size : (body : ReplyBody) → FitsLimits body → length (answer_of body) ≤ 496
 answer-size (Done letter) fits = omega arith
 answer-size (Added id) fits = omega arith
-answer-size (Part id part bytes) fits = omega (arith, part-size bytes.now fits)
+answer-size (Part id part bytes) fits = omega (arith, fits)
 answer-size (Slot id slot bytes) fits = omega (arith, fits)
-answer-size (Version schema) fits = omega (arith, ap length fits.2, schema-size fits.0 fits.1)
+answer-size (Version schema) fits = omega (arith, fits)
 answer-size (Refused refusal) fits =
     omega (arith, length-append (text_of_refusal refusal) (0 ∷ []), refusal-size refusal)
 
-pub reply-size : (reply : Reply) → FitsLimits reply.body → length (reply_text reply) ≤ 498
+pub reply-size : (reply : Reply) → FitsLimits reply.body → length (reply_text reply) ≤ LONGEST_MESSAGE
 reply-size reply fits = omega (arith, answer-size reply.body fits)
 
-pub event-size : (event : Event) → PartFits event.bytes.now → length (event_text event) ≤ 498
-event-size event fits = omega (arith, part-size event.bytes.now fits)
+pub event-size : (event : Event) → length event.bytes.now ≤ LONGEST_PART
+    → length (event_text event) ≤ LONGEST_MESSAGE
+event-size event fits = omega (arith, fits)

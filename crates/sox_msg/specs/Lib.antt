@@ -1,7 +1,6 @@
 pub mod Answered
 pub mod Command
 pub mod Forms
-pub mod Limits
 pub mod Refused
 pub mod Reply
 pub mod View

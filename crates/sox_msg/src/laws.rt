@@ -4,10 +4,11 @@ ghost use Rattle.sed_value.specs.Refusal.{text_of_refusal};
 ghost use Rattle.sed_value.specs.declared.refusal.Refusal.{Refusal as Refused};
 ghost use Rattle.sox_msg.specs.Answered.{answered_of};
 ghost use Rattle.sox_msg.specs.Command.{Asking, IsRequest, IsMalformed, HasUnknownLetter, number_in};
-ghost use Rattle.sox_msg.specs.Limits.{KitText, PartFits, schema_text, tree_part};
 ghost use Rattle.sox_msg.specs.Reply.{event_text, reply_text, FitsLimits, MayReply};
 ghost use Rattle.sox_msg.specs.declared.event.Event.{Event as Told};
 ghost use Rattle.sox_msg.specs.declared.reply.Reply.{Reply as Answer};
+
+use sed_value::limits::{LONGEST_MESSAGE, LONGEST_PART};
 
 /// A payload is one request at most, a request has one payload at most, and its number is that of its payload.
 pub fn payloads_are_one_request()
@@ -28,14 +29,11 @@ pub fn texts_are_one_answer()
         → (event.id ≡ other.id) × (event.part ≡ other.part) × (event.bytes.now ≡ other.bytes.now) }
 {}
 
-/// Within the platform's limits each reply and each event fits a message of 498 bytes: a part `t` has at most 438
-/// bytes, a part or value at most 438, the text of at most 16 kits at most 465.
+/// Within the platform's limits each reply and each event fits a message: where a part or a value has at most
+/// `LONGEST_PART` bytes, and the text of the kits at most `LONGEST_SCHEMA`. The text of a refusal has at most 18.
 pub fn texts_fit_a_message()
-    ensures tree { (kit kind : ℕ) (name : List ℕ) (parent : ℕ) (children : List ℕ) → length name ≤ 31
-        → length children ≤ 200 → length (tree_part kit kind name parent children) ≤ 438 }
-    ensures parts { (bytes : List ℕ) → PartFits bytes → length bytes ≤ 438 }
-    ensures schema { (kits : List KitText) → length kits ≤ 16 → length (schema_text kits) ≤ 465 }
     ensures refusals { (refusal : Refused) → length (text_of_refusal refusal) ≤ 18 }
-    ensures replies { (reply : Answer) → FitsLimits reply.body → length (reply_text reply) ≤ 498 }
-    ensures events { (event : Told) → PartFits event.bytes.now → length (event_text event) ≤ 498 }
+    ensures replies { (reply : Answer) → FitsLimits reply.body → length (reply_text reply) ≤ LONGEST_MESSAGE }
+    ensures events { (event : Told) → length event.bytes.now ≤ LONGEST_PART
+        → length (event_text event) ≤ LONGEST_MESSAGE }
 {}

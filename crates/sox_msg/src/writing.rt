@@ -1,6 +1,7 @@
-//! Writing a reply and an event.
-ghost use Rattle.std.specs.Prelude.{◌≡◌, ◌≤◌, ◌+◌, ◌∷◌, [], ◌++◌, length, IsTrue};
+//! Writing a reply, a refusal and an event.
+ghost use Rattle.std.specs.Prelude.{◌≡◌, ℕ, ◌≤◌, ◌+◌, ◌∷◌, [], ◌++◌, length, IsTrue};
 ghost use Rattle.sed_wire.specs.Writing.{Appends, Puts, room};
+ghost use Rattle.sox_msg.specs.Answered.{answered_text, refused_for};
 ghost use Rattle.sox_msg.specs.Command.{str, u2};
 ghost use Rattle.sox_msg.specs.Reply as replies;
 ghost use Rattle.sox_msg.specs.Reply.{MayReply, answer_of, event_text, is_told, reply_text};
@@ -8,12 +9,13 @@ ghost use Rattle.sox_msg.specs.Reply.{MayReply, answer_of, event_text, is_told, 
 use crate::event::Event;
 use crate::reply::{Reply, ReplyBody};
 use sed_value::Id;
+use sed_value::limits::LONGEST_MESSAGE;
 use sed_wire::Writer;
 
 /// Writes the text of a reply to the front of `into`, and says how many bytes it has. What stood behind it stays.
-pub fn write_reply(reply: &Reply, into: &mut [u8; 498]) -> usize
+pub fn write_reply(reply: &Reply, into: &mut [u8; LONGEST_MESSAGE]) -> usize
     requires may { MayReply reply.now.body }
-    requires fits { length (reply_text reply.now) ≤ 498 }
+    requires fits { length (reply_text reply.now) ≤ LONGEST_MESSAGE }
     ensures { Puts (reply_text reply.now) result into.old into.new }
 {
     let mut writer = Writer::new(into);
@@ -22,10 +24,22 @@ pub fn write_reply(reply: &Reply, into: &mut [u8; 498]) -> usize
     writer.done()
 }
 
+/// Writes the text of a refusal, for a cause that is no command's refusal and has a text of at most 495 bytes, to the
+/// front of `into`, and says how many bytes it has. `number` is the request's. What stood behind it stays.
+pub fn write_refusal(number: u8, cause: &str, into: &mut [u8; LONGEST_MESSAGE]) -> usize
+    requires { length cause.now ≤ 495 }
+    ensures { (which : ℕ) → Puts (answered_text number (refused_for which cause.now)) result into.old into.new }
+{
+    let mut writer = Writer::new(into);
+    writer.put_bytes(&[b'!', number]);
+    put_text(&mut writer, cause);
+    writer.done()
+}
+
 /// Writes the text of an event to the front of `into`, and says how many bytes it has. What stood behind it stays.
-pub fn write_event(event: &Event, into: &mut [u8; 498]) -> usize
+pub fn write_event(event: &Event, into: &mut [u8; LONGEST_MESSAGE]) -> usize
     requires may { IsTrue (is_told event.now.part) }
-    requires fits { length (event_text event.now) ≤ 498 }
+    requires fits { length (event_text event.now) ≤ LONGEST_MESSAGE }
     ensures { Puts (event_text event.now) result into.old into.new }
 {
     let mut writer = Writer::new(into);

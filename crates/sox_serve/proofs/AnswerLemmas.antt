@@ -1,8 +1,6 @@
 -- What a call leaves is what the answer of its command says.
-use Rattle.std.proofs.lemmas.Bool.Decides.{nat_tests}
-use Rattle.std.proofs.Common.{◌≡◌, ◌≢◌, ℕ, List, Bool, true, false, inl, inr, refl, sym, ◌∙◌, ap, subst, arith}
-use Rattle.std.specs.Prelude.{ℤ, ◌==◌, ◌⊎◌, IsOk, Option, Some, None}
-use Rattle.sed_value.specs.Refusal.{number_of_refusal}
+use Rattle.std.proofs.Common.{◌≡◌, ◌≢◌, ℕ, List, false, inl, inr, refl, sym, ◌∙◌, ap, subst}
+use Rattle.std.specs.Prelude.{ℤ, ◌⊎◌, IsOk, Option, Some, None}
 use Rattle.sed_value.specs.declared.refusal.Refusal.{Refusal}
 use Rattle.sed_value.specs.declared.refusal.Refusal.TheVariants.{OutOfMemory}
 use Rattle.sed_engine.specs.declared.engine.Engine.{Ghosts}
@@ -16,12 +14,11 @@ use Rattle.link_prop.specs.Linked.{Linked, application_of}
 use Rattle.link_prop.specs.Marks.{Tells}
 use Rattle.sox_msg.specs.Answered as told
 use Rattle.sox_msg.specs.Command.{Asked, add}
-use Rattle.sox_serve.specs.Answer.{Answer, WantsMemory, answer_by, command_of, done_with, refusal_of, refused_by}
+use Rattle.sox_serve.specs.Answer.{Answer, WantsMemory, answer_by, command_of, done_with, refused_by}
 use Rattle.sox_serve.specs.Replies.{reply_bytes}
 use Rattle.sox_serve.specs.declared.served.Served.{Served}
 use Rattle.sox_serve.specs.declared.served.Served.TheVariants.{Replied}
 use Rattle.sox_serve.proofs.ByRow.{refused_first}
-use Rattle.sox_serve.proofs.OneText.{refusal_found}
 use Rattle.sox_serve.specs.Serves.{Gives, Serves, answer_over}
 
 -- the answer itself, and nothing else
@@ -40,13 +37,8 @@ ok_if_none first edited none = subst (λ (r : Option Refusal). IsOk (unless_refu
 
 -- a refusal is want of memory, or another
 wants_or_not : (refusal : Refusal) → (refusal ≡ OutOfMemory) ⊎ (refusal ≢ OutOfMemory)
-wants_or_not refusal = by_number (number_of_refusal refusal == 26) refl
-  where
-    by_number : (b : Bool) → (number_of_refusal refusal == 26) ≡ b → (refusal ≡ OutOfMemory) ⊎ (refusal ≢ OutOfMemory)
-    by_number true is =
-        let same : number_of_refusal refusal ≡ 26 = grind (arith, nat_tests, is) in
-        inl (sym (refusal_found refusal) ∙ ap refusal_of same)
-    by_number false is = inr (λ same. let no : true ≡ false = sym (ap (λ (r : Refusal). number_of_refusal r == 26) same) ∙ is in cc)
+wants_or_not OutOfMemory = inl refl
+wants_or_not refusal = inr (λ same. cc)
 
 -- ---- add
 

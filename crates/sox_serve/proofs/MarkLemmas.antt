@@ -10,9 +10,9 @@ use Rattle.link_prop.specs.Marks.{AppPart, KeepsAppMarks, is_in_row, no_links, n
 use Rattle.link_prop.specs.Marks.AppPart.{OfTree, OfLinks}
 use Rattle.link_prop.proofs.AppMarks.{keeps_all}
 use Rattle.sox_msg.specs.Answered as told
-use Rattle.sox_msg.specs.Answered.{Answered}
+use Rattle.sox_msg.specs.Answered.{Answered, capital_in}
 use Rattle.sox_msg.specs.Command.{Asked, invoke}
-use Rattle.sox_serve.specs.Replies.{capital_in, reply_bytes}
+use Rattle.sox_serve.specs.Replies.{reply_bytes}
 use Rattle.sox_serve.specs.Marks.{KeepsRow, MarksByRow, Row, nothing, row_of}
 use Rattle.sox_serve.proofs.RefusalLemmas.{first_byte}
 

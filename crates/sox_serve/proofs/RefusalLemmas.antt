@@ -7,10 +7,10 @@ use Rattle.comp_tree.specs.Application.{Application}
 use Rattle.comp_tree.specs.Edit.{Edit, Edited, Reply, Done, Added, Told}
 use Rattle.link_prop.specs.Linked.{Linked, application_of}
 use Rattle.sox_msg.specs.Answered as told
-use Rattle.sox_msg.specs.Answered.{Answered}
+use Rattle.sox_msg.specs.Answered.{Answered, capital_in}
 use Rattle.sox_msg.specs.Command.{Asked, add, read_part, delete, invoke, link, unlink, rename, reorder, read_slot, subscribe, unsubscribe, version, write, clear}
 use Rattle.sox_serve.specs.Answer.{Answer, answer_by, answered_by, asks_for_save, command_of, done_with}
-use Rattle.sox_serve.specs.Replies.{capital_in, reply_bytes}
+use Rattle.sox_serve.specs.Replies.{reply_bytes}
 use Rattle.sox_serve.specs.declared.served.Served.{Served}
 use Rattle.sox_serve.specs.Serves.{Gives, IsAnswered, Serves, answer_over}
 
@@ -49,7 +49,7 @@ begins_otherwise true answered number other = refl
 begins_otherwise false answered number other = other
 
 -- so where it is one, the command has changed nothing
-stays_if_refused : (a : Application) (asked : Asked) (end : Result Edited ℕ) (number : ℕ) (refusal : Refusal)
+stays_if_refused : (a : Application) (asked : Asked) (end : Result Edited Refusal) (number : ℕ) (refusal : Refusal)
     → reply_bytes number (answer_by a asked end).reply ≡ reply_bytes number (Some (told.refused refusal))
     → (answer_by a asked end).application ≡ a
 stays_if_refused a asked (Err n) number refusal same = refl

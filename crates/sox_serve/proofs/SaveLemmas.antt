@@ -71,7 +71,7 @@ save_wants_none (write id slot value) = refl
 save_wants_none (clear id) = refl
 
 -- what is not refused is done
-done_end : (a : Application) (asked : Asked) (end : Result Edited ℕ) → IsOk end → (answer_by a asked end).served ≡ served_by asked
+done_end : (a : Application) (asked : Asked) (end : Result Edited Refusal) → IsOk end → (answer_by a asked end).served ≡ served_by asked
 done_end a asked (Ok edited) is = refl
 done_end a asked (Err n) is = absurd (let no : false ≡ true = is in cc)
 

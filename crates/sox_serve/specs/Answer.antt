@@ -1,10 +1,8 @@
 -- What a command comes to: the application after it, what is asked of the node, and the reply.
-use Rattle.std.specs.Prelude.{ℕ, ℤ, ◌≡◌, ◌-◌, Bool, true, false, IsTrue, IsOk, if◌then◌else◌, slice_get, Option, Some}
-use Rattle.std.specs.Prelude.{None, Result, Ok, Err}
-use Rattle.std.specs.Option.{option_map_or}
+use Rattle.std.specs.Prelude.{ℕ, ℤ, ◌≡◌, ◌-◌, Bool, true, false, IsTrue, IsOk, if◌then◌else◌, Option, Some, None}
+use Rattle.std.specs.Prelude.{Result, Ok, Err}
 use Rattle.sed_value.specs.declared.refusal.Refusal.{Refusal}
-use Rattle.sed_value.specs.declared.refusal.Refusal.TheVariants.{Malformed, OutOfMemory}
-use Rattle.sed_value.specs.Refusal.{refusals}
+use Rattle.sed_value.specs.declared.refusal.Refusal.TheVariants.{OutOfMemory}
 use Rattle.sed_engine.specs.Code.{Meaning}
 use Rattle.comp_tree.specs.Application.{Application}
 use Rattle.comp_tree.specs.Edit.{Command, Add, ReadPart, Delete, Invoke, Connect, Disconnect, Rename, Reorder, ReadSlot}
@@ -80,13 +78,9 @@ done_with asked edited = record {
 abbrev pub refused_by : Application → Refusal → Answer
 refused_by a refusal = record { application = a; served = served.Replied; reply = Some (told.refused refusal) }
 
--- the refusal of a number; each number of one is in the table
-abbrev pub refusal_of : ℕ → Refusal
-refusal_of number = option_map_or (λ r. r) (slice_get refusals (number - 1)) Malformed
-
-abbrev pub answer_by : Application → Asked → Result Edited ℕ → Answer
+abbrev pub answer_by : Application → Asked → Result Edited Refusal → Answer
 answer_by a asked (Ok edited) = done_with asked edited
-answer_by a asked (Err number) = refused_by a (refusal_of number)
+answer_by a asked (Err refusal) = refused_by a refusal
 
 -- with so many turns for each root call, at a moment
 abbrev pub answer : Meaning → Application → Asked → ℕ → ℤ → Answer

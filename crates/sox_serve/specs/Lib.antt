@@ -2,5 +2,4 @@ pub mod Answer
 pub mod Replies
 pub mod Table
 pub mod Serves
-pub mod Groups
 pub mod Marks

@@ -1,6 +1,7 @@
 -- What a request leaves: the application, what is asked of the node, and the bytes of the reply.
 use Rattle.std.specs.Prelude.{ℕ, ℤ, ◌≡◌, ◌⊎◌, Bool, true, false, IsTrue, List}
 use Rattle.sed_engine.specs.declared.engine.Engine.{Ghosts}
+use Rattle.comp_tree.specs.declared.new_component.NewComponent.{NewComponent}
 use Rattle.link_prop.specs.Linked.{Linked, application_of}
 use Rattle.link_prop.specs.Marks.{Tells}
 use Rattle.sox_msg.specs.Command.{Asked, add}
@@ -23,6 +24,10 @@ pub record Gives {E : Type 0} (g : Ghosts E) (old new : Linked E) (asks : Served
   pub meaning : g.meaning new.tree.engine ≡ g.meaning old.tree.engine
   pub steady : g.fixed new.tree.engine ≡ g.fixed old.tree.engine
   pub tells : Tells g old new
+
+-- a new component that is asked for, without where its bytes lie in memory
+abbrev pub added_as : NewComponent → Asked
+added_as new = add new.parent.0 new.kit new.number new.name.now new.config.now
 
 -- a new component
 abbrev pub is_add : Asked → Bool

@@ -1,17 +1,13 @@
 //! Laws of answers. Each is the contract of a function that does nothing.
 ghost use Rattle.std.specs.Prelude.{◌≡◌, ℕ, ℤ, IsOk, Some, None};
-ghost use Rattle.sed_value.specs.Refusal.{number_of_refusal};
 ghost use Rattle.sed_value.specs.declared.refusal.Refusal.{Refusal};
 ghost use Rattle.sed_engine.specs.Code.{Meaning};
 ghost use Rattle.comp_tree.specs.Application.{Application};
 ghost use Rattle.comp_tree.specs.Edit.{Edit};
 ghost use Rattle.comp_tree.specs.Refusals.{first_refusal};
-ghost use Rattle.sox_msg.specs.Answered.{answered_of, refused};
+ghost use Rattle.sox_msg.specs.Answered.{refused};
 ghost use Rattle.sox_msg.specs.Command.{Asked};
-ghost use Rattle.sox_msg.specs.Reply.{reply_text};
-ghost use Rattle.sox_msg.specs.declared.reply.Reply.{Reply};
-ghost use Rattle.sox_serve.specs.Answer.{answer, command_of, refused_by, refusal_of};
-ghost use Rattle.sox_serve.specs.Replies.{answered_text};
+ghost use Rattle.sox_serve.specs.Answer.{answer, command_of, refused_by};
 ghost use Rattle.sox_serve.specs.Table.{refusals_of};
 ghost use Rattle.sox_serve.specs.declared.served.Served.TheVariants.{SaveAsked};
 
@@ -34,10 +30,4 @@ pub fn refused_commands_change_nothing()
         → ((answer m a asked turns moment).application ≡ a) × ((answer m a asked turns moment).reply ≡ None) }
     ensures reply { (m : Meaning) (a : Application) (asked : Asked) (turns : ℕ) (moment : ℤ)
         → (answer m a asked turns moment).reply ≡ None → (answer m a asked turns moment).served ≡ SaveAsked }
-{}
-
-/// Each refusal has the number by which it is found, and a reply has the text of its answer.
-pub fn answers_have_one_text()
-    ensures refusals { (refusal : Refusal) → refusal_of (number_of_refusal refusal) ≡ refusal }
-    ensures replies { (reply : Reply) → reply_text reply ≡ answered_text reply.number (answered_of reply.body) }
 {}

@@ -8,7 +8,6 @@
 #![tactic(auto)]
 
 mod answering;
-mod groups;
 mod laws;
 mod links;
 mod reading;
@@ -20,9 +19,7 @@ mod shape;
 mod values;
 mod watching;
 
-pub use laws::{
-    answers_have_one_text, commands_are_refused_by_their_rows, refused_commands_change_nothing,
-};
+pub use laws::{commands_are_refused_by_their_rows, refused_commands_change_nothing};
 pub use reply_buf::ReplyBuf;
 pub use served::Served;
 pub use serving::serve;

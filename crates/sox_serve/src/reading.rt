@@ -1,46 +1,32 @@
 //! Commands that ask what there is.
-ghost use Rattle.std.specs.Prelude.{◌≡◌, ◌≤◌, ℕ, ℤ, Some, IsTrue, length};
-ghost use Rattle.comp_tree.specs.Edit.{part_bytes, schema_bytes};
+ghost use Rattle.std.specs.Prelude.{◌≡◌, ℕ, ℤ, Some, IsTrue};
+ghost use Rattle.comp_tree.specs.Edit.{part_bytes};
 ghost use Rattle.comp_tree.specs.Values.{spelling_of};
 ghost use Rattle.link_prop.specs.Linked.{application_of};
 ghost use Rattle.sox_serve.specs.Replies.{reply_bytes};
 ghost use Rattle.sox_msg.specs.Answered as told;
 ghost use Rattle.sox_msg.specs.Command.{is_part, read_part as part_read, read_slot as slot_read};
-ghost use Rattle.sox_msg.specs.Command.{version as version_read, CanBeAsked};
-ghost use Rattle.sox_serve.specs.Groups.{asked_of_read};
+ghost use Rattle.sox_msg.specs.Command.{version as version_read};
 ghost use Rattle.sox_serve.specs.Serves.{Gives, answer_over};
 
 use crate::Served;
 use crate::answering::check_live;
-use crate::groups::ReadCommand;
 use crate::replies::{reply_part, reply_refused, reply_slot, reply_version};
 use crate::reply_buf::ReplyBuf;
 use app_parts::{write_part, write_schema, write_value};
 use link_prop::App;
 use sed_engine::Engine;
+use sed_value::limits::{LONGEST_PART, LONGEST_SCHEMA};
 use sed_value::{Id, SlotBuf, Value};
 
-/// Does such a command.
-pub fn serve_read<E: Engine>(
+/// Tells a part of a component.
+pub fn read_part<E: Engine>(
     app: &App<E>,
-    command: ReadCommand,
+    id: Id,
+    part: u8,
     number: u8,
     into: &mut ReplyBuf,
 ) -> Served
-    requires { CanBeAsked (asked_of_read command) }
-    ensures { (turns : ℕ) (moment : ℤ)
-        → Gives E.Engine app.now app.now result into.new number
-        (answer_over E.Engine app.now (asked_of_read command) turns moment) }
-{
-    match command {
-        ReadCommand::Part { id, part } => read_part(app, id, part, number, into),
-        ReadCommand::Slot { id, slot } => read_slot(app, id, slot, number, into),
-        ReadCommand::Version => read_version(app, number, into),
-    }
-}
-
-// Tells a part of a component.
-fn read_part<E: Engine>(app: &App<E>, id: Id, part: u8, number: u8, into: &mut ReplyBuf) -> Served
     requires { IsTrue (is_part part) }
     ensures { (turns : ℕ) (moment : ℤ)
         → Gives E.Engine app.now app.now result into.new number
@@ -60,13 +46,19 @@ fn put_part<E: Engine>(app: &App<E>, id: Id, part: u8, number: u8, into: &mut Re
         (Some (told.part id.0 part
         (part_bytes (E.meaning app.now.tree.engine) (application_of E.Engine app.now) id.0 part))) }
 {
-    let mut bytes = [0; 438];
+    let mut bytes = [0; LONGEST_PART];
     let count = write_part(app, id, part, &mut bytes);
     reply_part(into, number, id, part, &bytes[..count]);
 }
 
-// Tells the value of a property.
-fn read_slot<E: Engine>(app: &App<E>, id: Id, slot: u8, number: u8, into: &mut ReplyBuf) -> Served
+/// Tells the value of a property.
+pub fn read_slot<E: Engine>(
+    app: &App<E>,
+    id: Id,
+    slot: u8,
+    number: u8,
+    into: &mut ReplyBuf,
+) -> Served
     ensures { (turns : ℕ) (moment : ℤ)
         → Gives E.Engine app.now app.now result into.new number
         (answer_over E.Engine app.now (slot_read id.0 slot) turns moment) }
@@ -88,13 +80,13 @@ fn put_slot(value: &Value, id: Id, slot: u8, number: u8, into: &mut ReplyBuf)
     reply_slot(into, number, id, slot, &bytes[..count]);
 }
 
-// Tells the kits.
-fn read_version<E: Engine>(app: &App<E>, number: u8, into: &mut ReplyBuf) -> Served
+/// Tells the kits.
+pub fn read_version<E: Engine>(app: &App<E>, number: u8, into: &mut ReplyBuf) -> Served
     ensures { (turns : ℕ) (moment : ℤ)
         → Gives E.Engine app.now app.now result into.new number
         (answer_over E.Engine app.now version_read turns moment) }
 {
-    let mut bytes = [0; 465];
+    let mut bytes = [0; LONGEST_SCHEMA];
     let count = write_schema(app.tree().schema(), &mut bytes);
     reply_version(into, number, &bytes[..count]);
     Served::Replied

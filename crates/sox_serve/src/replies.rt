@@ -6,6 +6,7 @@ ghost use Rattle.sox_msg.specs.Command.{is_part};
 ghost use Rattle.sox_msg.specs.Reply.{is_plain};
 
 use crate::reply_buf::ReplyBuf;
+use sed_value::limits::{LONGEST_PART, LONGEST_SCHEMA};
 use sed_value::{Id, Refusal};
 use sox_msg::{Reply, ReplyBody, texts_fit_a_message};
 
@@ -38,7 +39,7 @@ pub fn reply_added(into: &mut ReplyBuf, number: u8, id: Id)
 /// Tells a part of a component.
 pub fn reply_part(into: &mut ReplyBuf, number: u8, id: Id, part: u8, bytes: &[u8])
     requires part { IsTrue (is_part part) }
-    requires few { length bytes.now ≤ 438 }
+    requires few { length bytes.now ≤ LONGEST_PART }
     ensures { into.new ≡ reply_bytes number (Some (told.part id.0 part bytes.now)) }
 {
     let body = ReplyBody::Part { id, part, bytes };
@@ -47,7 +48,7 @@ pub fn reply_part(into: &mut ReplyBuf, number: u8, id: Id, part: u8, bytes: &[u8
 
 /// Tells the value of a property.
 pub fn reply_slot(into: &mut ReplyBuf, number: u8, id: Id, slot: u8, bytes: &[u8])
-    requires { length bytes.now ≤ 438 }
+    requires { length bytes.now ≤ LONGEST_PART }
     ensures { into.new ≡ reply_bytes number (Some (told.slot id.0 slot bytes.now)) }
 {
     let body = ReplyBody::Slot { id, slot, bytes };
@@ -56,7 +57,7 @@ pub fn reply_slot(into: &mut ReplyBuf, number: u8, id: Id, slot: u8, bytes: &[u8
 
 /// Tells the kits.
 pub fn reply_version(into: &mut ReplyBuf, number: u8, schema: &[u8])
-    requires { length schema.now ≤ 465 }
+    requires { length schema.now ≤ LONGEST_SCHEMA }
     ensures { into.new ≡ reply_bytes number (Some (told.version schema.now)) }
 {
     let body = ReplyBody::Version { schema };

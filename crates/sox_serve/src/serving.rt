@@ -1,5 +1,5 @@
 //! One request.
-ghost use Rattle.std.specs.Prelude.{◌≡◌, ◌≤◌, ◌↔◌, [], true, IsTrue, Some, None};
+ghost use Rattle.std.specs.Prelude.{◌≡◌, ◌↔◌, [], true, IsTrue, Some, None};
 ghost use Rattle.sed_value.specs.declared.refusal.Refusal.{Refusal};
 ghost use Rattle.link_prop.specs.Linked.{application_of};
 ghost use Rattle.link_prop.specs.Marks.{Tells};
@@ -10,24 +10,24 @@ ghost use Rattle.sox_serve.specs.Replies.{reply_bytes};
 ghost use Rattle.sox_msg.specs.Answered.{refused as refused_as};
 ghost use Rattle.sox_msg.specs.Command.{CanBeAsked};
 ghost use Rattle.sox_msg.specs.View.{asked_of};
-ghost use Rattle.sox_serve.specs.Groups.{asked_of_group};
 ghost use Rattle.sox_serve.specs.Marks.{KeepsRow, MarksByRow, nothing, row_of};
 ghost use Rattle.sox_serve.specs.Serves.{Gives, Serves, answer_over};
 
-use crate::groups::{Group, group_of};
-use crate::links::serve_links;
-use crate::reading::serve_read;
+use crate::links::{link, unlink};
+use crate::reading::{read_part, read_slot, read_version};
 use crate::reply_buf::ReplyBuf;
-use crate::shape::serve_shape;
-use crate::values::serve_values;
-use crate::watching::serve_watch;
+use crate::shape::{add, delete, rename, reorder};
+use crate::values::{clear, invoke, write};
+use crate::watching::{subscribe, unsubscribe};
 use crate::{Served, refused_commands_change_nothing};
+use comp_tree::{NewComponent, Turns};
 use link_prop::App;
 use sed_engine::Engine;
-use sox_msg::Request;
+use sox_msg::{Command, Request};
+use sub_table::LinkRec;
 
 /// Does one request on an application, and puts its reply in the place of what there was. The callbacks and actions
-/// that it calls have so many turns each, 1 to 1,000,000, at a moment in nanoseconds.
+/// that it calls have so many turns each, at a moment in nanoseconds.
 ///
 /// The application after it, what is asked of the node and the bytes of the reply are those of the answer to its
 /// command. So a refusal is the first of the command's row, and leaves the application as it was; and a save is asked
@@ -39,14 +39,12 @@ use sox_msg::Request;
 /// subscribe, an unsubscribe and a save that is asked for mark nothing, and neither does a request that is refused.
 pub fn serve<E: Engine>(
     app: &mut App<E>,
-    turns: u32,
+    turns: Turns,
     ticks: i64,
     request: &Request<'_>,
     reply: &mut ReplyBuf,
 ) -> Served
-    requires can { CanBeAsked (asked_of request.now.command) }
-    requires some_turns { 1 ≤ turns }
-    requires most_turns { turns ≤ 1000000 }
+    requires { CanBeAsked (asked_of request.now.command) }
     ensures served { Serves E.Engine app.old app.new (asked_of request.now.command)
         request.now.number turns ticks result reply.new }
     ensures refused { (refusal : Refusal) → reply.new ≡ reply_bytes request.now.number (Some (refused_as refusal))
@@ -68,30 +66,81 @@ pub fn serve<E: Engine>(
     ensures steady { E.fixed app.new.tree.engine ≡ E.fixed app.old.tree.engine }
 {
     refused_commands_change_nothing();
-    let group = group_of(request.command);
-    serve_group(app, &group, request.number, turns, ticks, reply)
+    serve_command(app, request.command, request.number, turns, ticks, reply)
 }
 
-// Does a command in its group.
-fn serve_group<E: Engine>(
+// Does a command.
+fn serve_command<E: Engine>(
     app: &mut App<E>,
-    group: &Group<'_>,
+    command: Command<'_>,
     number: u8,
-    turns: u32,
+    turns: Turns,
     ticks: i64,
     into: &mut ReplyBuf,
 ) -> Served
-    requires can { CanBeAsked (asked_of_group group.now) }
-    requires some_turns { 1 ≤ turns }
-    requires most_turns { turns ≤ 1000000 }
-    ensures served { Serves E.Engine app.old app.new (asked_of_group group.now) number turns ticks result into.new }
-    ensures marks { MarksByRow E.Engine app.old app.new (asked_of_group group.now) number into.new }
+    requires { CanBeAsked (asked_of command) }
+    ensures served { Serves E.Engine app.old app.new (asked_of command.entry) number turns ticks result into.new }
+    ensures marks { MarksByRow E.Engine app.old app.new (asked_of command.entry) number into.new }
 {
-    match group {
-        Group::Shape(command) => serve_shape(app, command, number, turns, ticks, into),
-        Group::Values(command) => serve_values(app, command, number, turns, ticks, into),
-        Group::Links(command) => serve_links(app, *command, number, into),
-        Group::Read(command) => serve_read(app, *command, number, into),
-        Group::Watch(command) => serve_watch(app, *command, number, into),
+    match command {
+        Command::Add {
+            parent,
+            kit,
+            kind,
+            name,
+            config,
+        } => {
+            let asked = NewComponent {
+                parent,
+                kit,
+                number: kind,
+                name,
+                config,
+            };
+            add(app, asked, number, turns, ticks, into)
+        }
+        Command::ReadPart { id, part } => read_part(app, id, part, number, into),
+        Command::Delete { id } => delete(app, id, number, turns, ticks, into),
+        Command::Invoke { id, slot, arg } => {
+            invoke(app, id, slot, arg, number, turns, ticks, into)
+        }
+        Command::Link {
+            from,
+            from_slot,
+            to,
+            to_slot,
+        } => {
+            let l = LinkRec {
+                from,
+                from_slot,
+                to,
+                to_slot,
+            };
+            link(app, l, number, into)
+        }
+        Command::Unlink {
+            from,
+            from_slot,
+            to,
+            to_slot,
+        } => {
+            let l = LinkRec {
+                from,
+                from_slot,
+                to,
+                to_slot,
+            };
+            unlink(app, l, number, into)
+        }
+        Command::Rename { id, name } => rename(app, id, name, number, into),
+        Command::Reorder { id, children } => reorder(app, id, children, number, into),
+        Command::ReadSlot { id, slot } => read_slot(app, id, slot, number, into),
+        Command::Subscribe { id, mask } => subscribe(app, id, mask, number, into),
+        Command::Unsubscribe { id, mask } => unsubscribe(app, id, mask, number, into),
+        Command::Version => read_version(app, number, into),
+        Command::Write { id, slot, value } => {
+            write(app, id, slot, value, number, turns, ticks, into)
+        }
+        Command::Clear { id } => clear(app, id, number, into),
     }
 }

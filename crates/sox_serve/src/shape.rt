@@ -1,86 +1,46 @@
 //! Commands that change which components there are, or what they are called.
-ghost use Rattle.std.specs.Prelude.{◌≤◌, ℕ, ℤ};
-ghost use Rattle.sox_msg.specs.Command.{add as added, delete as deleted, rename as renamed, reorder as reordered};
-ghost use Rattle.sox_serve.specs.Groups.{asked_of_shape};
+ghost use Rattle.std.specs.Prelude.{ℕ, ℤ};
+ghost use Rattle.sox_msg.specs.Command.{delete as deleted, rename as renamed, reorder as reordered};
 ghost use Rattle.sox_serve.specs.Marks.{MarksByRow};
-ghost use Rattle.sox_serve.specs.Serves.{Gives, Serves, answer_over};
+ghost use Rattle.sox_serve.specs.Serves.{Gives, Serves, added_as, answer_over};
 
 use crate::Served;
 use crate::answering::reply_to;
-use crate::groups::ShapeCommand;
 use crate::replies::{reply_added, reply_done, reply_refused};
 use crate::reply_buf::ReplyBuf;
+use comp_tree::{NewComponent, Turns};
 use link_prop::App;
 use sed_engine::Engine;
-use sed_value::{Id, Refusal};
+use sed_value::Id;
 
-/// Does such a command.
-pub fn serve_shape<E: Engine>(
+/// Adds a component.
+pub fn add<E: Engine>(
     app: &mut App<E>,
-    command: &ShapeCommand<'_>,
+    asked: NewComponent<'_>,
     number: u8,
-    turns: u32,
+    turns: Turns,
     ticks: i64,
     into: &mut ReplyBuf,
 ) -> Served
-    requires some_turns { 1 ≤ turns }
-    requires most_turns { turns ≤ 1000000 }
-    ensures served { Serves E.Engine app.old app.new (asked_of_shape command.now) number turns ticks result into.new }
-    ensures marks { MarksByRow E.Engine app.old app.new (asked_of_shape command.now) number into.new }
+    ensures served { Serves E.Engine app.old app.new (added_as asked.entry) number turns ticks result into.new }
+    ensures marks { MarksByRow E.Engine app.old app.new (added_as asked.entry) number into.new }
 {
-    match command {
-        ShapeCommand::Add {
-            parent,
-            kit,
-            kind,
-            name,
-            config,
-        } => add(
-            app, *parent, *kit, *kind, name, config, number, turns, ticks, into,
-        ),
-        ShapeCommand::Delete { id } => delete(app, *id, number, turns, ticks, into),
-        ShapeCommand::Rename { id, name } => rename(app, *id, name, number, into),
-        ShapeCommand::Reorder { id, children } => reorder(app, *id, children, number, into),
-    }
-}
-
-// Adds a component.
-fn add<E: Engine>(
-    app: &mut App<E>,
-    parent: Id,
-    kit: u8,
-    kind: u8,
-    name: &[u8],
-    config: &[u8],
-    number: u8,
-    turns: u32,
-    ticks: i64,
-    into: &mut ReplyBuf,
-) -> Served
-    requires some_turns { 1 ≤ turns }
-    requires most_turns { turns ≤ 1000000 }
-    ensures served { Serves E.Engine app.old app.new (added parent.0 kit kind name.now config.now)
-        number turns ticks result into.new }
-    ensures marks { MarksByRow E.Engine app.old app.new (added parent.0 kit kind name.now config.now) number into.new }
-{
-    match app.add(parent, kit, kind, name, config, turns, ticks) {
+    match app.add(asked, turns, ticks) {
         Ok(id) => reply_added(into, number, id),
         Err(refusal) => reply_refused(into, number, refusal),
     }
     Served::Replied
 }
 
-// Deletes a component and those below it.
-fn delete<E: Engine>(
+/// Deletes a component and those below it.
+pub fn delete<E: Engine>(
     app: &mut App<E>,
     id: Id,
     number: u8,
-    turns: u32,
+    turns: Turns,
     ticks: i64,
     into: &mut ReplyBuf,
 ) -> Served
-    requires some_turns { 1 ≤ turns }
-    requires most_turns { turns ≤ 1000000 }
     ensures served { Gives E.Engine app.old app.new result into.new number
         (answer_over E.Engine app.old (deleted id.0) turns ticks) }
     ensures marks { MarksByRow E.Engine app.old app.new (deleted id.0) number into.new }
@@ -97,8 +57,8 @@ fn delete<E: Engine>(
     }
 }
 
-// Gives a component another name.
-fn rename<E: Engine>(
+/// Gives a component another name.
+pub fn rename<E: Engine>(
     app: &mut App<E>,
     id: Id,
     name: &[u8],
@@ -115,8 +75,8 @@ fn rename<E: Engine>(
     Served::Replied
 }
 
-// Puts a component's children in another order.
-fn reorder<E: Engine>(
+/// Puts a component's children in another order.
+pub fn reorder<E: Engine>(
     app: &mut App<E>,
     id: Id,
     children: &[u8],

@@ -1,59 +1,30 @@
 //! Commands that change what a component holds.
-ghost use Rattle.std.specs.Prelude.{◌≡◌, ◌≤◌, ℕ, ℤ, not, IsTrue};
+ghost use Rattle.std.specs.Prelude.{◌≡◌, ℕ, ℤ, not, IsTrue};
 ghost use Rattle.comp_tree.specs.Edit.{is_save as is_save_of};
 ghost use Rattle.sox_msg.specs.Command.{write as written, invoke as invoked, clear as cleared};
-ghost use Rattle.sox_serve.specs.Groups.{asked_of_values};
 ghost use Rattle.sox_serve.specs.Marks.{MarksByRow};
 ghost use Rattle.sox_serve.specs.Serves.{Gives, answer_over};
 
 use crate::Served;
 use crate::answering::reply_to;
-use crate::groups::ValueCommand;
 use crate::replies::reply_refused;
 use crate::reply_buf::ReplyBuf;
+use comp_tree::Turns;
 use link_prop::App;
 use sed_engine::Engine;
 use sed_value::Id;
 
-/// Does such a command.
-pub fn serve_values<E: Engine>(
-    app: &mut App<E>,
-    command: &ValueCommand<'_>,
-    number: u8,
-    turns: u32,
-    ticks: i64,
-    into: &mut ReplyBuf,
-) -> Served
-    requires some_turns { 1 ≤ turns }
-    requires most_turns { turns ≤ 1000000 }
-    ensures served { Gives E.Engine app.old app.new result into.new number
-        (answer_over E.Engine app.old (asked_of_values command.now) turns ticks) }
-    ensures marks { MarksByRow E.Engine app.old app.new (asked_of_values command.now) number into.new }
-{
-    match command {
-        ValueCommand::Write { id, slot, value } => {
-            write(app, *id, *slot, value, number, turns, ticks, into)
-        }
-        ValueCommand::Invoke { id, slot, arg } => {
-            invoke(app, *id, *slot, arg, number, turns, ticks, into)
-        }
-        ValueCommand::Clear { id } => clear(app, *id, number, into),
-    }
-}
-
-// Writes a property.
-fn write<E: Engine>(
+/// Writes a property.
+pub fn write<E: Engine>(
     app: &mut App<E>,
     id: Id,
     slot: u8,
     value: &[u8],
     number: u8,
-    turns: u32,
+    turns: Turns,
     ticks: i64,
     into: &mut ReplyBuf,
 ) -> Served
-    requires some_turns { 1 ≤ turns }
-    requires most_turns { turns ≤ 1000000 }
     ensures served { Gives E.Engine app.old app.new result into.new number
         (answer_over E.Engine app.old (written id.0 slot value.now) turns ticks) }
     ensures marks { MarksByRow E.Engine app.old app.new (written id.0 slot value.now) number into.new }
@@ -63,8 +34,8 @@ fn write<E: Engine>(
     Served::Replied
 }
 
-// Sets a component's fault to 0.
-fn clear<E: Engine>(app: &mut App<E>, id: Id, number: u8, into: &mut ReplyBuf) -> Served
+/// Sets a component's fault to 0.
+pub fn clear<E: Engine>(app: &mut App<E>, id: Id, number: u8, into: &mut ReplyBuf) -> Served
     ensures served { (turns : ℕ) (moment : ℤ)
         → Gives E.Engine app.old app.new result into.new number
         (answer_over E.Engine app.old (cleared id.0) turns moment) }
@@ -75,19 +46,17 @@ fn clear<E: Engine>(app: &mut App<E>, id: Id, number: u8, into: &mut ReplyBuf) -
     Served::Replied
 }
 
-// Runs an action, or asks for a save where it is the App's `save`.
-fn invoke<E: Engine>(
+/// Runs an action, or asks for a save where it is the App's `save`.
+pub fn invoke<E: Engine>(
     app: &mut App<E>,
     id: Id,
     slot: u8,
     arg: &[u8],
     number: u8,
-    turns: u32,
+    turns: Turns,
     ticks: i64,
     into: &mut ReplyBuf,
 ) -> Served
-    requires some_turns { 1 ≤ turns }
-    requires most_turns { turns ≤ 1000000 }
     ensures served { Gives E.Engine app.old app.new result into.new number
         (answer_over E.Engine app.old (invoked id.0 slot arg.now) turns ticks) }
     ensures marks { MarksByRow E.Engine app.old app.new (invoked id.0 slot arg.now) number into.new }
@@ -112,13 +81,11 @@ fn run<E: Engine>(
     slot: u8,
     arg: &[u8],
     number: u8,
-    turns: u32,
+    turns: Turns,
     ticks: i64,
     into: &mut ReplyBuf,
 ) -> Served
-    requires no_save { IsTrue (not (is_save_of id.0 slot)) }
-    requires some_turns { 1 ≤ turns }
-    requires most_turns { turns ≤ 1000000 }
+    requires { IsTrue (not (is_save_of id.0 slot)) }
     ensures served { Gives E.Engine app.old app.new result into.new number
         (answer_over E.Engine app.old (invoked id.0 slot arg.now) turns ticks) }
     ensures marks { MarksByRow E.Engine app.old app.new (invoked id.0 slot arg.now) number into.new }

@@ -1,37 +1,24 @@
 //! Commands that begin or end events of a component's parts.
 ghost use Rattle.std.specs.Prelude.{ℕ, ℤ};
 ghost use Rattle.sox_msg.specs.Command.{subscribe as subscribed, unsubscribe as unsubscribed};
-ghost use Rattle.sox_serve.specs.Groups.{asked_of_watch};
 ghost use Rattle.sox_serve.specs.Serves.{Gives, answer_over};
 
 use crate::Served;
 use crate::answering::check_live;
-use crate::groups::WatchCommand;
 use crate::replies::{reply_done, reply_refused};
 use crate::reply_buf::ReplyBuf;
 use link_prop::App;
 use sed_engine::Engine;
 use sed_value::Id;
 
-/// Does such a command.
-pub fn serve_watch<E: Engine>(
+/// Begins events.
+pub fn subscribe<E: Engine>(
     app: &App<E>,
-    command: WatchCommand,
+    id: Id,
+    mask: u8,
     number: u8,
     into: &mut ReplyBuf,
 ) -> Served
-    ensures { (turns : ℕ) (moment : ℤ)
-        → Gives E.Engine app.now app.now result into.new number
-        (answer_over E.Engine app.now (asked_of_watch command) turns moment) }
-{
-    match command {
-        WatchCommand::Begin { id, mask } => subscribe(app, id, mask, number, into),
-        WatchCommand::End { id, mask } => unsubscribe(app, id, mask, number, into),
-    }
-}
-
-// Begins events.
-fn subscribe<E: Engine>(app: &App<E>, id: Id, mask: u8, number: u8, into: &mut ReplyBuf) -> Served
     ensures { (turns : ℕ) (moment : ℤ)
         → Gives E.Engine app.now app.now result into.new number
         (answer_over E.Engine app.now (subscribed id.0 mask) turns moment) }
@@ -48,8 +35,14 @@ fn subscribe<E: Engine>(app: &App<E>, id: Id, mask: u8, number: u8, into: &mut R
     }
 }
 
-// Ends events.
-fn unsubscribe<E: Engine>(app: &App<E>, id: Id, mask: u8, number: u8, into: &mut ReplyBuf) -> Served
+/// Ends events.
+pub fn unsubscribe<E: Engine>(
+    app: &App<E>,
+    id: Id,
+    mask: u8,
+    number: u8,
+    into: &mut ReplyBuf,
+) -> Served
     ensures { (turns : ℕ) (moment : ℤ)
         → Gives E.Engine app.now app.now result into.new number
         (answer_over E.Engine app.now (unsubscribed id.0 mask) turns moment) }

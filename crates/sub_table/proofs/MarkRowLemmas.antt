@@ -1,10 +1,9 @@
 -- Rows with all marks set.
-use Rattle.std.proofs.Common.{ℕ, ◌≡◌, Bool, true, inl, inr, List, [], length, refl, sym, ◌∙◌, ap, arith, get_or, replicate}
-use Rattle.std.specs.List.{All}
+use Rattle.std.proofs.Common.{ℕ, ◌≡◌, Bool, true, inl, inr, List, [], length, refl, ◌∙◌, ap, arith, get_or, replicate}
 use Rattle.std.proofs.Math.ListN.{get_or-eq_default}
 use Rattle.std.proofs.lemmas.Bool.{cases_lt}
 use Rattle.std.proofs.lemmas.List.{get_or-replicate, length-replicate}
-use Rattle.sub_table.specs.Marked.{AreRows, Marked, has_mark}
+use Rattle.sub_table.specs.Marked.{AreRows, has_mark}
 
 same_or : {A : Type 0} (x : A) (n k : ℕ) → get_or (replicate n x) k x ≡ x
 same_or x n k = elim (cases_lt k n) [

@@ -1,5 +1,6 @@
 -- A link, and how many there may be.
 use Rattle.std.specs.Prelude.{ℕ}
+use Rattle.sed_value.specs.declared.limits.TheConstants.{MOST_LINKS}
 
 -- from a slot of a component to a slot of a component
 pub record Link : Type 0 where
@@ -9,4 +10,4 @@ pub record Link : Type 0 where
   pub to_slot : ℕ
 
 abbrev pub most_links : ℕ
-most_links = 8192
+most_links = MOST_LINKS

@@ -1,6 +1,7 @@
 -- Components whose links are marked, for session places.
 use Rattle.std.specs.Prelude.{ℕ, ◌≡◌, Bool, true, List, [], length, slice_index_or}
 use Rattle.std.specs.List.{All}
+use Rattle.sed_value.specs.declared.limits.TheConstants.{MOST_COMPONENTS, MOST_SESSIONS}
 
 -- a row for each id, and in it a mark for each place
 abbrev pub Marked : Type 0
@@ -10,13 +11,12 @@ Marked = List (List Bool)
 abbrev pub has_mark : Marked → ℕ → ℕ → Bool
 has_mark marked id place = slice_index_or (slice_index_or marked id []) place true
 
--- there are 4,096 ids
+-- how many ids there are, and how many places
 abbrev pub most_ids : ℕ
-most_ids = 4096
+most_ids = MOST_COMPONENTS
 
--- and 16 places
 abbrev pub places : ℕ
-places = 16
+places = MOST_SESSIONS
 
 -- each id has a mark for each place
 pub record AreRows (marked : Marked) : Type 0 where

@@ -70,7 +70,7 @@ impl LinkMarks {
 
 // A row for each id, with all marks set.
 fn all_set(alloc: Global) -> Result<Vec<[bool; MOST_SESSIONS]>, AllocError>
-    ensures { IfOk result (λ rows. rows.items ≡ replicate 4096 (replicate 16 true)) }
+    ensures { IfOk result (λ rows. rows.items ≡ replicate most_ids (replicate places true)) }
 {
     let mut rows = Vec::with_capacity(alloc, MOST_COMPONENTS)?;
     for _id in 0..MOST_COMPONENTS {

@@ -5,7 +5,7 @@ ghost use Rattle.std.specs.Option.{option_copied};
 ghost use Rattle.std.specs.Vec.{vec_capacity, vec_len};
 ghost use Rattle.sub_table.specs.Rows.{text_at};
 
-use sed_value::Memory;
+use sed_value::{Memory, put_at};
 use std::alloc::Global;
 use std::marker::Model;
 
@@ -135,14 +135,6 @@ fn field(bytes: &[u8], start: usize, len: usize) -> &[u8]
     ensures { result.now ≡ take len (drop start bytes.now) }
 {
     &bytes[start..start + len]
-}
-
-// Puts bytes over those from a place on.
-fn put_at(bytes: &mut [u8], start: usize, event: &[u8])
-    requires { start + length event.now ≤ length bytes.old }
-    ensures { bytes.new ≡ take start bytes.old ++ (event.now ++ drop (start + length event.now) bytes.old) }
-{
-    bytes[start..start + event.len()].copy_from_slice(event);
 }
 
 // Puts so many bytes from one place on over those from another on.

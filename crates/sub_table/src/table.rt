@@ -5,6 +5,7 @@ ghost use Rattle.std.specs.Int.{bit_at};
 ghost use Rattle.std.specs.Option.{option_copied};
 ghost use Rattle.sub_table.specs.declared.part.Part.{Part as PartOf};
 ghost use Rattle.sub_table.specs.Parts.{is_in, one_of, width_of};
+ghost use Rattle.sub_table.specs.Marked.{most_ids};
 ghost use Rattle.sub_table.specs.Events.{Changes, kept_at, posted, subscribed, unsubscribed};
 ghost use Rattle.sub_table.specs.Table.{at, most_bytes, end_of, is_any, is_subscribed, kept_of, number_of, IsNextId};
 ghost use Rattle.sub_table.specs.Table.{IsNextNumber, nothing_subscribed};
@@ -75,7 +76,7 @@ impl SubTable {
     /// The parts of a mask are subscribed at a place. One that was already stays as it is.
     pub fn subscribe(&mut self, place: u8, id: Id, mask: u8)
         requires place { place < 16 }
-        requires id { id.0 < 4096 }
+        requires id { id.0 < most_ids }
         requires mask { mask < 16 }
         ensures after { (p i : ℕ) (part : PartOf) → at self.new p i part
             ≡ with_subscribed place id.0 mask (at self.old) p i part }
@@ -91,7 +92,7 @@ impl SubTable {
     /// The parts of a mask are not subscribed any more at a place, and their last events are forgotten.
     pub fn unsubscribe(&mut self, place: u8, id: Id, mask: u8)
         requires place { place < 16 }
-        requires id { id.0 < 4096 }
+        requires id { id.0 < most_ids }
         requires mask { mask < 16 }
         ensures after { (p i : ℕ) (part : PartOf) → at self.new p i part
             ≡ without_subscribed place id.0 mask (at self.old) p i part }
@@ -106,7 +107,7 @@ impl SubTable {
 
     /// Nothing of an id is subscribed any more, at any place.
     pub fn drop_id(&mut self, id: Id)
-        requires { id.0 < 4096 }
+        requires { id.0 < most_ids }
         ensures after { (p i : ℕ) (part : PartOf) → at self.new p i part ≡ without_id id.0 (at self.old) p i part }
         ensures widths { (part : PartOf) → most_bytes self.new part ≡ most_bytes self.old part }
     {
@@ -129,7 +130,7 @@ impl SubTable {
     /// The parts of an id that are subscribed at a place, as a mask.
     pub fn mask(&self, place: u8, id: Id) -> u8
         requires place { place < 16 }
-        requires id { id.0 < 4096 }
+        requires id { id.0 < most_ids }
         ensures parts { (part : PartOf) → is_in result part ≡ is_some (at self.now place id.0 part) }
         ensures bound { result < 16 }
     {
@@ -146,7 +147,7 @@ impl SubTable {
     /// isn't.
     pub fn last(&self, place: u8, id: Id, part: Part) -> Option<&[u8]>
         requires place { place < 16 }
-        requires id { id.0 < 4096 }
+        requires id { id.0 < most_ids }
         ensures { option_copied result ≡ unwrap_or (at self.now place id.0 part) None }
     {
         self.events_of(part).last(number_of(place, id))
@@ -155,7 +156,7 @@ impl SubTable {
     /// An event of these bytes is posted of a part that is subscribed. They are no more than its width.
     pub fn post(&mut self, place: u8, id: Id, part: Part, event: &[u8])
         requires place { place < 16 }
-        requires id { id.0 < 4096 }
+        requires id { id.0 < most_ids }
         requires subscribed { IsSome (at self.old place id.0 part) }
         requires short { length event.now ≤ most_bytes self.old part }
         ensures after { (p i : ℕ) (other : PartOf) → at self.new p i other
@@ -176,8 +177,8 @@ impl SubTable {
         ensures { MatchOption result ((id : ℕ) → from.0 ≤ id → is_subscribed (at self.now) place id ≡ false)
             (λ id. IsNextId (at self.now) place from.0 id.0) }
     {
-        let first = usize::from(place) * 4096;
-        match self.next_number(first + usize::from(from.0), first + 4096) {
+        let first = usize::from(place) * MOST_COMPONENTS;
+        match self.next_number(first + usize::from(from.0), first + MOST_COMPONENTS) {
             Some(number) => Some(Id((number - first) as u16)),
             None => None,
         }
@@ -237,11 +238,11 @@ impl SubTable {
 // The number of a subscriber.
 fn number_of(place: u8, id: Id) -> usize
     requires place { place < 16 }
-    requires id { id.0 < 4096 }
+    requires id { id.0 < most_ids }
     ensures same { result ≡ number_of place id.0 }
     ensures bound { result < 65536 }
 {
-    usize::from(place) * 4096 + usize::from(id.0)
+    usize::from(place) * MOST_COMPONENTS + usize::from(id.0)
 }
 
 // Subscribes, where the part is meant.

@@ -1,12 +1,14 @@
 -- The code of `sys` alone is whole, and the one object is one that may be kept.
-use Rattle.std.proofs.Common.{◌≡◌, inl, inr, ℕ, zero, suc, ◌+◌, ◌<◌, ◌≤◌, ◌==◌, ◌&&◌, ◌||◌, Bool, true, false, cond, if◌then◌else◌, List, [], ◌∷◌, length, Some, None, refl, sym, ap, subst, lit≤, lit<, arith}
-use Rattle.std.specs.Prelude.{IfSome, IsSome, IsSomeAnd, All, slice_get, count_by}
+use Rattle.std.proofs.Common.{◌≡◌, inl, inr, ℕ, zero, suc, ◌+◌, ◌<◌, ◌≤◌, ◌==◌, ◌&&◌, ◌||◌, Bool, true, false, cond, if◌then◌else◌, List, [], ◌∷◌, length, pos, Some, None, refl, sym, ap, subst, lit≤, lit<, arith}
+use Rattle.std.specs.Prelude.{◌^◌, IfSome, IsSome, IsSomeAnd, IsTrue, All, slice_get, count_by, codes}
 use Rattle.std.specs.Int.{w32}
 use Rattle.std.proofs.lemmas.Bool.{and_from, cases_eq}
 use Rattle.std.proofs.lemmas.Bool.Decides.{nat_tests}
 use Rattle.std.proofs.lemmas.List.Elements.{All-nil, All-cons}
 use Rattle.std.proofs.lemmas.List.Sums.{count_by-le-length, sum_by-cons}
+use Rattle.sed_value.specs.Names.{is_kit_name}
 use Rattle.sed_value.specs.Value.{is_signed}
+use Rattle.sed_value.specs.declared.kit.KitRef.{KitRef}
 use Rattle.sed_typed.specs.declared.schema.ClassInfo.{ClassInfo}
 use Rattle.sed_typed.specs.declared.schema.Schema.{Schema}
 use Rattle.sed_typed.specs.declared.schema.SlotInfo.{SlotInfo}
@@ -14,6 +16,7 @@ use Rattle.sed_engine.proofs.Asking.{Asked, may_from}
 use Rattle.sed_typed.specs.Classes.{base_of}
 use Rattle.sed_typed.specs.Contents.{value_at}
 use Rattle.sed_typed.specs.Sizes.{config_size, runtime_size}
+use Rattle.sed_typed.specs.Spelled.{CanBeTold}
 use Rattle.sed_typed.specs.TypedSchema.{types_at}
 use Rattle.sed_engine.specs.Asked.{MayAsk}
 use Rattle.sed_engine.specs.Code.{Meaning, Question, is_creatable, slot_type, slot_path}
@@ -189,6 +192,29 @@ components (suc (suc zero)) = record { marked = refl; meta = λ e. refl }
 components (suc (suc (suc zero))) = record { marked = refl; meta = λ e. refl }
 components (suc (suc (suc (suc zero)))) = record { marked = refl; meta = λ e. refl }
 components (suc (suc (suc (suc (suc n))))) = tt
+
+-- ---- what a file tells
+
+alone : (P : KitRef → Type 0) → P (record { name = codes "sys"; checksum = pos 0 }) → All P sys_kits
+alone P h = All-cons P (record { name = codes "sys"; checksum = pos 0 }) [] h (All-nil P)
+
+told : CanBeTold sys_schema
+told = record {
+  names = alone (λ kit. IsTrue (is_kit_name kit.name)) refl;
+  checksums = alone (λ kit. IsTrue (is_signed w32 kit.checksum)) refl;
+  numbers = all_five (λ c. c.number < 2 ^ 8) numbers_small;
+}
+  where
+    numbers_small : (n : ℕ) → IfSome (slice_get sys_classes n) (λ c. c.number < 2 ^ 8)
+    numbers_small zero = lit< tt
+    numbers_small (suc zero) = lit< tt
+    numbers_small (suc (suc zero)) = lit< tt
+    numbers_small (suc (suc (suc zero))) = lit< tt
+    numbers_small (suc (suc (suc (suc zero)))) = lit< tt
+    numbers_small (suc (suc (suc (suc (suc n))))) = tt
+
+pub sys_told : (schema : Schema) → IsSys schema → CanBeTold schema
+sys_told schema sys = subst CanBeTold (schema_is schema sys) told
 
 -- ---- classes
 

@@ -137,6 +137,10 @@ impl Engine for Tiny {
         &self.schema
     }
 
+    fn data_limit(&self) -> usize {
+        self.limit as usize
+    }
+
     // `meta` is the only property.
     fn same_field(&self, _t: TypeNo, _a: SlotNo, _b: SlotNo) -> bool {
         let _limit = self.limit;

@@ -1,15 +1,16 @@
 //! Components over the machine of an image: what their code does, and how they come and go.
-ghost use Rattle.std.specs.Prelude.{◌≡◌, ◌≤◌};
+ghost use Rattle.std.specs.Prelude.{◌≡◌};
 ghost use Rattle.comp_tree.specs.Edit.{is_save as is_save_of};
 
 use crate::images::read_written;
 use crate::told::outcome_of;
-use comp_tree::Tree;
+use comp_tree::{NewComponent, Tree, Turns};
 use rows::{Case, CaseFault, is_row, text_of};
 use scode_engine::Machine;
 use scode_verify::verify;
 use sed_engine::Engine;
 use sed_typed::SlotNo;
+use sed_value::limits::MOST_TURNS;
 use sed_value::{Id, SlotBuf, Value};
 use std::rt::Files;
 
@@ -172,7 +173,16 @@ fn do_at<E: Engine>(case: &mut Case, stage: &mut Stage<E>, word: &str, id: Id, w
     let bytes = case.bytes_in(words, 0);
     let bytes = bytes.as_slice();
     match word {
-        "add" => case.show(&tree.add(id, 1, number, name, bytes, turns, moment)),
+        "add" => {
+            let asked = NewComponent {
+                parent: id,
+                kit: 1,
+                number,
+                name,
+                config: bytes,
+            };
+            case.show(&tree.add(asked, turns, moment));
+        }
         "delete" => case.show(&tree.delete(id, turns, moment)),
         "execute" => execute(case, tree, id, turns, moment),
         "clear" => case.show(&tree.clear(id)),
@@ -185,18 +195,15 @@ fn do_at<E: Engine>(case: &mut Case, stage: &mut Stage<E>, word: &str, id: Id, w
     }
 }
 
-// So many turns, as a root call may have.
-fn budget(turns: u32) -> u32
-    ensures some { 1 ≤ result }
-    ensures most { result ≤ 1000000 }
-{
-    turns.max(1).min(1_000_000)
+// So many turns, or as many as a root call may have.
+fn budget(turns: u32) -> Turns {
+    match Turns::new(turns.max(1).min(MOST_TURNS)) {
+        Some(turns) => turns,
+        None => unreachable!(),
+    }
 }
 
-fn execute<E: Engine>(case: &mut Case, tree: &mut Tree<E>, id: Id, turns: u32, moment: i64)
-    requires some_turns { 1 ≤ turns }
-    requires most_turns { turns ≤ 1000000 }
-{
+fn execute<E: Engine>(case: &mut Case, tree: &mut Tree<E>, id: Id, turns: Turns, moment: i64) {
     let Some(entry) = tree.find(id) else {
         return case.put(b"none");
     };

@@ -2,7 +2,7 @@
 ghost use Rattle.std.specs.Prelude.{◌≡◌, ◌<◌, length};
 
 use crate::told::{array, here, tell};
-use dasp_session::{Handed, Outbox, Sessions, Users, digest, is_same_digest, nonce};
+use dasp_session::{Handed, Outbox, Sessions, Users, credential, digest, is_same_digest, nonce};
 use rows::{Case, CaseFault};
 use sed_outside::Addr;
 use std::alloc::Global;
@@ -21,12 +21,15 @@ pub fn users(case: &mut Case) {
     }
 }
 
-/// What a call gives of twenty bytes, and a number or bytes.
+/// What a call gives of twenty bytes, and a number or bytes; and the credential of a user's name and a password.
 pub fn digests(case: &mut Case) {
     let call = case.text();
     let first = case.text();
-    let first = array(case, first.as_str());
     let second = case.text();
+    if call.as_str() == "credential" {
+        return case.hex(&credential(first.as_bytes(), second.as_bytes()));
+    }
+    let first = array(case, first.as_str());
     match call.as_str() {
         "nonce" => {
             let made = case.parsed(second.as_str());

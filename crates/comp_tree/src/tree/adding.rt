@@ -1,23 +1,25 @@
 //! Components that come.
-ghost use Rattle.std.specs.Prelude.{◌≡◌, ◌≢◌, ◌↔◌, ◌<◌, ◌≤◌, ◌+◌, ◌++◌, ◌∷◌, ℕ, [], false, IsTrue, IsSome, IfErr, IfOk};
+ghost use Rattle.std.specs.Prelude.{◌≡◌, ◌≢◌, ◌↔◌, ◌<◌, ◌+◌, ◌++◌, ◌∷◌, ℕ, [], false, IsTrue, IsSome, IfErr, IfOk};
 ghost use Rattle.std.specs.Prelude.{IfSome, OnOk, OnErr, MatchResult, length, Some, None, Err};
 ghost use Rattle.std.specs.FinMap as map;
 ghost use Rattle.sed_engine.specs.Code.{is_creatable};
 ghost use Rattle.sed_value.specs.declared.refusal.Refusal.TheVariants.{OutOfMemory};
-ghost use Rattle.comp_tree.specs.Allowed.{HasRoom, MayAdd};
+ghost use Rattle.comp_tree.specs.Adding.{MayAddNew, after_new, refusals_of_new};
+ghost use Rattle.comp_tree.specs.Allowed.{HasRoom};
 ghost use Rattle.comp_tree.specs.Application.{data_size_of, is_live, most_children, with_components};
 ghost use Rattle.node_table.specs.Changed.{with_children};
-ghost use Rattle.comp_tree.specs.Edit.{class_or_none};
-ghost use Rattle.comp_tree.specs.Edits.{added, after_add};
+ghost use Rattle.comp_tree.specs.Edits.{added};
 ghost use Rattle.comp_tree.specs.Marks.{KeepsMarks, added_at, all_parts, marks_at, no_marks, parts_at};
 ghost use Rattle.comp_tree.specs.Order.{least_free};
-ghost use Rattle.comp_tree.specs.Refusals.{config_types, first_refusal, refusals_of_add};
+ghost use Rattle.comp_tree.specs.Refusals.{config_types, first_refusal};
 ghost use Rattle.comp_tree.specs.SameCode.{SameCode};
 ghost use Rattle.comp_tree.specs.Values.{taken};
 ghost use Rattle.node_table.specs.Read.{refusal_of_values};
 
 use crate::joining::{kind_to_add, new_child};
+use crate::new_component::NewComponent;
 use crate::tree::Tree;
+use crate::turns::Turns;
 use node_table::{Children, Marks, Node, Nodes, Parts, config_refusal, store_config};
 use sed_engine::{AddRefusal, Callback, Engine, Place};
 use sed_typed::TypeNo;
@@ -33,50 +35,34 @@ struct Newcomer {
 impl<E: Engine> Tree<E> {
     ghost use Rattle.comp_tree.specs.Held.{components_of};
 
-    /// Adds a component of the type with this number in this kit, named so, as the last child of a
-    /// parent. It takes the least free id; its config properties get the values that are given, in
-    /// the order of the slots; then its `start` is called, with so many turns, 1 to 1,000,000, at a
-    /// moment in nanoseconds. A trap of it is no refusal.
+    /// Adds a component that is asked for. It takes the least free id; then its `start` is called, with
+    /// so many turns at a moment in nanoseconds. A trap of it is no refusal.
     ///
     /// The first refusal of its row comes exactly where one holds. `OutOfMemory` comes where none
     /// does, and only over an engine that is not fixed. An error changes no component.
-    pub fn add(
-        &mut self,
-        parent: Id,
-        kit: u8,
-        number: u8,
-        name: &[u8],
-        config: &[u8],
-        turns: u32,
-        ticks: i64,
-    ) -> Result<Id, Refusal>
-        requires some_turns { 1 ≤ turns }
-        requires most_turns { turns ≤ 1000000 }
+    pub fn add(&mut self, asked: NewComponent<'_>, turns: Turns, ticks: i64) -> Result<Id, Refusal>
         ensures id { IfOk result (λ id. id.0 ≡ least_free (components_of E.Engine self.old).by_id) }
         ensures fresh { IfOk result (λ id. map.get (components_of E.Engine self.old).by_id id.0 ≡ None) }
-        ensures done { OnOk result (components_of E.Engine self.new
-            ≡ (after_add (E.meaning self.old.engine) (components_of E.Engine self.old)
-            parent.0 (class_or_none (E.meaning self.old.engine) kit number) name.now config.now turns ticks).left) }
-        ensures allowed { OnOk result
-            (first_refusal (refusals_of_add (E.meaning self.old.engine) (components_of E.Engine self.old)
-            parent.0 kit number name.now config.now) ≡ None) }
-        ensures refused { IfErr result (λ refusal. refusal ≢ OutOfMemory
-            → first_refusal (refusals_of_add (E.meaning self.old.engine)
-            (components_of E.Engine self.old) parent.0 kit number name.now config.now) ≡ Some refusal) }
-        ensures memory { result ≡ Err OutOfMemory → (E.fixed self.old.engine ≡ false)
-            × (first_refusal (refusals_of_add (E.meaning self.old.engine)
-            (components_of E.Engine self.old) parent.0 kit number name.now config.now) ≡ None) }
-        ensures marks { MatchResult result (λ id. KeepsMarks E.Engine (added_at parent.0 id.0) self.old self.new)
+        ensures done { OnOk result (components_of E.Engine self.new ≡ (after_new (E.meaning self.old.engine)
+            (components_of E.Engine self.old) asked.entry turns ticks).left) }
+        ensures allowed { OnOk result (first_refusal
+            (refusals_of_new (E.meaning self.old.engine) (components_of E.Engine self.old) asked.entry) ≡ None) }
+        ensures refused { IfErr result (λ refusal. refusal ≢ OutOfMemory → first_refusal
+            (refusals_of_new (E.meaning self.old.engine) (components_of E.Engine self.old) asked.entry) ≡ Some refusal) }
+        ensures memory { result ≡ Err OutOfMemory → (E.fixed self.old.engine ≡ false) × (first_refusal
+            (refusals_of_new (E.meaning self.old.engine) (components_of E.Engine self.old) asked.entry) ≡ None) }
+        ensures marks { MatchResult result
+            (λ id. KeepsMarks E.Engine (added_at asked.entry.parent.0 id.0) self.old self.new)
             (λ _. KeepsMarks E.Engine no_marks self.old self.new) }
         ensures set { IfOk result (λ id. (at : ℕ) → marks_at self.new id.0 at ≡ all_parts) }
         ensures stays { OnErr result (components_of E.Engine self.new ≡ components_of E.Engine self.old) }
         ensures same { SameCode E.Engine self.old.engine self.new.engine }
     {
-        let new = match self.may_add(parent, kit, number, name, config) {
+        let new = match self.may_add(asked) {
             Ok(new) => new,
             Err(refusal) => return Err(refusal),
         };
-        let id = match self.grow(parent, new.kind, new.name, config) {
+        let id = match self.grow(asked.parent, new.kind, new.name, asked.config) {
             Ok(id) => id,
             Err(AddRefusal::DataFull) => return Err(Refusal::DataFull),
             Err(AddRefusal::Memory) => return Err(Refusal::OutOfMemory),
@@ -87,32 +73,24 @@ impl<E: Engine> Tree<E> {
 
     // The type and the name of a component that is to be added, or why it may not; of its data
     // nothing is asked.
-    fn may_add(
-        &self,
-        parent: Id,
-        kit: u8,
-        number: u8,
-        name: &[u8],
-        config: &[u8],
-    ) -> Result<Newcomer, Refusal>
+    fn may_add(&self, asked: NewComponent<'_>) -> Result<Newcomer, Refusal>
         ensures { MatchResult result (λ new.
-            MayAdd (E.meaning self.now.engine) (components_of E.Engine self.now)
-            parent.0 kit number name.now config.now new.kind.0 new.name)
-            (λ refusal. first_refusal (refusals_of_add (E.meaning self.now.engine)
-            (components_of E.Engine self.now) parent.0 kit number name.now config.now) ≡ Some refusal) }
+            MayAddNew (E.meaning self.now.engine) (components_of E.Engine self.now) asked.entry new.kind.0 new.name)
+            (λ refusal. first_refusal (refusals_of_new (E.meaning self.now.engine)
+            (components_of E.Engine self.now) asked.entry) ≡ Some refusal) }
     {
-        let Some(_above) = self.nodes.get(parent) else {
+        let Some(_above) = self.nodes.get(asked.parent) else {
             return Err(Refusal::NoComponent);
         };
-        let kind = match kind_to_add(self.engine.schema(), kit, number) {
+        let kind = match kind_to_add(self.engine.schema(), asked.kit, asked.number) {
             Ok(kind) => kind,
             Err(refusal) => return Err(refusal),
         };
-        let name = match new_child(&self.nodes, parent, name) {
+        let name = match new_child(&self.nodes, asked.parent, asked.name) {
             Ok(name) => name,
             Err(refusal) => return Err(refusal),
         };
-        match config_refusal(self.engine.schema(), kind, config) {
+        match config_refusal(self.engine.schema(), kind, asked.config) {
             Some(refusal) => Err(refusal),
             None => Ok(Newcomer { kind, name }),
         }

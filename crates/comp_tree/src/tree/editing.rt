@@ -1,5 +1,5 @@
 //! Names, order and values of components that are live.
-ghost use Rattle.std.specs.Prelude.{◌≡◌, ◌≤◌, ℕ, not, IsTrue, IsSomeAnd, OnOk, OnErr, IfOk, MatchResult, Some, None};
+ghost use Rattle.std.specs.Prelude.{◌≡◌, ℕ, not, IsTrue, IsSomeAnd, OnOk, OnErr, IfOk, MatchResult, Some, None};
 ghost use Rattle.std.specs.FinMap as map;
 ghost use Rattle.sed_engine.specs.Code.{may_call, may_store, slot_type};
 ghost use Rattle.sed_wire.specs.Spelling.{can_be_held};
@@ -16,6 +16,7 @@ ghost use Rattle.sed_engine.specs.declared.call.Root.TheVariants.{Action as Acti
 use crate::order::{new_order, reorder_node};
 use crate::siblings::{new_name, rename_node};
 use crate::tree::Tree;
+use crate::turns::Turns;
 use node_table::{Parts, are_same, form_of, one_argument, one_value};
 use sed_engine::{CallEnd, Callback, Engine, Root};
 use sed_typed::{SlotForm, SlotNo};
@@ -67,18 +68,16 @@ impl<E: Engine> Tree<E> {
     }
 
     /// Writes a property, and calls `changed` where the stored value differs from the one before,
-    /// with so many turns, 1 to 1,000,000, at a moment in nanoseconds. A trap of it is no refusal.
-    /// The first refusal of its row comes exactly where one holds, and then all is as it was.
+    /// with so many turns at a moment in nanoseconds. A trap of it is no refusal. The first refusal
+    /// of its row comes exactly where one holds, and then all is as it was.
     pub fn write(
         &mut self,
         id: Id,
         slot: u8,
         value: &[u8],
-        turns: u32,
+        turns: Turns,
         ticks: i64,
     ) -> Result<(), Refusal>
-        requires some_turns { 1 ≤ turns }
-        requires most_turns { turns ≤ 1000000 }
         ensures done { OnOk result (components_of E.Engine self.new
             ≡ after_write (E.meaning self.old.engine) (components_of E.Engine self.old)
             id.0 slot value.now turns ticks) }
@@ -102,21 +101,18 @@ impl<E: Engine> Tree<E> {
         Ok(())
     }
 
-    /// Runs an action with its argument, with so many turns, 1 to 1,000,000, at a moment in
-    /// nanoseconds. A trap becomes the component's fault, and is no refusal. The first refusal of
-    /// its row comes exactly where one holds, and then all is as it was. The App's `save` is not
-    /// asked for here.
+    /// Runs an action with its argument, with so many turns at a moment in nanoseconds. A trap
+    /// becomes the component's fault, and is no refusal. The first refusal of its row comes exactly
+    /// where one holds, and then all is as it was. The App's `save` is not asked for here.
     pub fn invoke(
         &mut self,
         id: Id,
         slot: u8,
         arg: &[u8],
-        turns: u32,
+        turns: Turns,
         ticks: i64,
     ) -> Result<CallEnd, Refusal>
-        requires no_save { IsTrue (not (is_save id.0 slot)) }
-        requires some_turns { 1 ≤ turns }
-        requires most_turns { turns ≤ 1000000 }
+        requires { IsTrue (not (is_save id.0 slot)) }
         ensures done { OnOk result (components_of E.Engine self.new
             ≡ (after_invoke (E.meaning self.old.engine) (components_of E.Engine self.old)
             id.0 (record { 0 = slot }) arg.now turns ticks).left) }

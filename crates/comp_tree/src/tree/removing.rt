@@ -1,5 +1,5 @@
 //! Components that go.
-ghost use Rattle.std.specs.Prelude.{◌≡◌, ◌≢◌, ◌≤◌, IsTrue, All, OnOk, OnErr, MatchResult, Some, None};
+ghost use Rattle.std.specs.Prelude.{◌≡◌, ◌≢◌, IsTrue, All, OnOk, OnErr, MatchResult, Some, None};
 ghost use Rattle.comp_tree.specs.Application.{is_live, with_components};
 ghost use Rattle.comp_tree.specs.Calls.{call_each};
 ghost use Rattle.comp_tree.specs.Edits.{after_delete, removed};
@@ -12,6 +12,7 @@ use crate::joining::parent_of;
 use crate::leaving::{at_and_below, children_without, remove_each};
 use crate::order::reorder_node;
 use crate::tree::Tree;
+use crate::turns::Turns;
 use sed_engine::{Callback, Engine};
 use sed_value::{Id, Refusal};
 
@@ -19,13 +20,11 @@ impl<E: Engine> Tree<E> {
     ghost use Rattle.comp_tree.specs.Held.{components_of};
 
     /// Deletes a component and those below it. First the `stop` of each is called, depth first, with
-    /// so many turns, 1 to 1,000,000, at a moment in nanoseconds; a trap of it is no refusal. Then
-    /// they go: the parent has one child less, the others keep their order.
+    /// so many turns at a moment in nanoseconds; a trap of it is no refusal. Then they go: the
+    /// parent has one child less, the others keep their order.
     ///
     /// The first refusal of its row comes exactly where one holds, and then the tree is as it was.
-    pub fn delete(&mut self, id: Id, turns: u32, ticks: i64) -> Result<(), Refusal>
-        requires some_turns { 1 ≤ turns }
-        requires most_turns { turns ≤ 1000000 }
+    pub fn delete(&mut self, id: Id, turns: Turns, ticks: i64) -> Result<(), Refusal>
         ensures done { OnOk result (components_of E.Engine self.new
             ≡ after_delete (E.meaning self.old.engine) (components_of E.Engine self.old) id.0 turns ticks) }
         ensures refused { MatchResult result (λ _.
@@ -50,10 +49,8 @@ impl<E: Engine> Tree<E> {
     }
 
     // Calls the `stop` of each of these.
-    fn stop_each(&mut self, ids: &[u16], turns: u32, ticks: i64)
-        requires live { All (λ id. IsTrue (is_live (components_of E.Engine self.old).by_id id)) ids.now }
-        requires some_turns { 1 ≤ turns }
-        requires most_turns { turns ≤ 1000000 }
+    fn stop_each(&mut self, ids: &[u16], turns: Turns, ticks: i64)
+        requires { All (λ id. IsTrue (is_live (components_of E.Engine self.old).by_id id)) ids.now }
         ensures left { components_of E.Engine self.new
             ≡ (call_each (E.meaning self.old.engine) Callback.Stop turns
             ticks (components_of E.Engine self.old) ids.now).left }

@@ -1,5 +1,5 @@
 //! Root calls on components.
-ghost use Rattle.std.specs.Prelude.{◌≡◌, ◌≤◌, ℕ, IsTrue, IsSome, IsSomeAnd, OnOk, OnErr, MatchResult, Some, None};
+ghost use Rattle.std.specs.Prelude.{◌≡◌, ℕ, IsTrue, IsSome, IsSomeAnd, OnOk, OnErr, MatchResult, Some, None};
 ghost use Rattle.std.specs.FinMap as map;
 ghost use Rattle.sed_engine.specs.Code.{may_call};
 ghost use Rattle.comp_tree.specs.Application.{fault_of};
@@ -10,6 +10,7 @@ ghost use Rattle.comp_tree.specs.Refusals.{first_refusal, refusals_of_clear};
 ghost use Rattle.comp_tree.specs.SameCode.{SameCode};
 
 use crate::tree::Tree;
+use crate::turns::Turns;
 use node_table::Parts;
 use sed_engine::{CallEnd, Callback, Engine, Root};
 use sed_value::{Id, Refusal, SlotBuf, Value};
@@ -17,13 +18,11 @@ use sed_value::{Id, Refusal, SlotBuf, Value};
 impl<E: Engine> Tree<E> {
     ghost use Rattle.comp_tree.specs.Held.{components_of};
 
-    /// Runs `execute` of a component whose fault is 0, with so many turns, 1 to 1,000,000, at a
-    /// moment in nanoseconds. A trap becomes its fault.
-    pub fn execute(&mut self, id: Id, turns: u32, ticks: i64) -> CallEnd
+    /// Runs `execute` of a component whose fault is 0, with so many turns at a moment in
+    /// nanoseconds. A trap becomes its fault.
+    pub fn execute(&mut self, id: Id, turns: Turns, ticks: i64) -> CallEnd
         requires live { IsSome (map.get (components_of E.Engine self.old).by_id id.0) }
         requires no_fault { fault_of (components_of E.Engine self.old).by_id id.0 ≡ 0 }
-        requires some_turns { 1 ≤ turns }
-        requires most_turns { turns ≤ 1000000 }
         ensures left { components_of E.Engine self.new
             ≡ (execute_at (E.meaning self.old.engine) (components_of E.Engine self.old) id.0 turns ticks).left }
         ensures end { result ≡ (execute_at (E.meaning self.old.engine)
@@ -36,10 +35,8 @@ impl<E: Engine> Tree<E> {
 
     /// Calls a callback of a component; `slot` is the argument of `changed` and is otherwise not
     /// read. A trap becomes its fault; where its fault isn't 0, nothing is run.
-    pub fn callback(&mut self, id: Id, c: Callback, slot: u8, turns: u32, ticks: i64) -> CallEnd
-        requires live { IsSome (map.get (components_of E.Engine self.old).by_id id.0) }
-        requires some_turns { 1 ≤ turns }
-        requires most_turns { turns ≤ 1000000 }
+    pub fn callback(&mut self, id: Id, c: Callback, slot: u8, turns: Turns, ticks: i64) -> CallEnd
+        requires { IsSome (map.get (components_of E.Engine self.old).by_id id.0) }
         ensures left { components_of E.Engine self.new
             ≡ (Call (E.meaning self.old.engine) (components_of E.Engine self.old) id.0 c slot turns ticks).left }
         ensures end { result ≡ (Call (E.meaning self.old.engine) (components_of E.Engine self.old)
@@ -75,13 +72,11 @@ impl<E: Engine> Tree<E> {
         id: Id,
         which: Root,
         arg: &SlotBuf,
-        turns: u32,
+        turns: Turns,
         ticks: i64,
     ) -> CallEnd
-        requires may { IsSomeAnd (map.get (components_of E.Engine self.old).by_id id.0)
+        requires { IsSomeAnd (map.get (components_of E.Engine self.old).by_id id.0)
             (λ c. IsTrue (may_call (E.meaning self.old.engine) c.class which arg.now)) }
-        requires some_turns { 1 ≤ turns }
-        requires most_turns { turns ≤ 1000000 }
         ensures left { components_of E.Engine self.new
             ≡ (run_at (E.meaning self.old.engine) (components_of E.Engine self.old)
             id.0 which arg.now turns ticks).left }
@@ -96,11 +91,9 @@ impl<E: Engine> Tree<E> {
     }
 
     // A root call on a component, where its fault is 0, of which the marks say nothing yet.
-    fn run(&mut self, id: Id, which: Root, arg: &SlotBuf, turns: u32, ticks: i64) -> CallEnd
-        requires may { IsSomeAnd (map.get (components_of E.Engine self.old).by_id id.0)
+    fn run(&mut self, id: Id, which: Root, arg: &SlotBuf, turns: Turns, ticks: i64) -> CallEnd
+        requires { IsSomeAnd (map.get (components_of E.Engine self.old).by_id id.0)
             (λ c. IsTrue (may_call (E.meaning self.old.engine) c.class which arg.now)) }
-        requires some_turns { 1 ≤ turns }
-        requires most_turns { turns ≤ 1000000 }
         ensures left { components_of E.Engine self.new
             ≡ (run_at (E.meaning self.old.engine) (components_of E.Engine self.old)
             id.0 which arg.now turns ticks).left }
@@ -109,13 +102,14 @@ impl<E: Engine> Tree<E> {
         ensures marks { (other at : ℕ) → marks_at self.new other at ≡ marks_at self.old other at }
         ensures same { SameCode E.Engine self.old.engine self.new.engine }
     {
+        let most = turns.number();
         let Some(node) = self.nodes.get(id) else {
-            return CallEnd::Done { left: turns };
+            return CallEnd::Done { left: most };
         };
         if node.fault != 0 {
-            return CallEnd::Done { left: turns };
+            return CallEnd::Done { left: most };
         }
-        let end = self.engine.call(node.place, which, arg, turns, ticks);
+        let end = self.engine.call(node.place, which, arg, most, ticks);
         self.nodes.set_fault(id, fault_number(end));
         end
     }

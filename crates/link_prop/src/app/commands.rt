@@ -1,20 +1,22 @@
 //! Calls that are the tree's own. Each leaves the links as they were.
-ghost use Rattle.std.specs.Prelude.{◌≡◌, ◌≢◌, ◌≤◌, ◌||◌, ℕ, not, true, false, IsTrue, IsSome, IfErr, IfOk, OnOk, OnErr};
+ghost use Rattle.std.specs.Prelude.{◌≡◌, ◌≢◌, ◌||◌, ℕ, not, true, false, IsTrue, IsSome, IfErr, IfOk, OnOk, OnErr};
 ghost use Rattle.std.specs.Prelude.{MatchResult, Some, None, Err};
 ghost use Rattle.std.specs.FinMap as map;
+ghost use Rattle.comp_tree.specs.Adding.{after_new, refusals_of_new};
 ghost use Rattle.comp_tree.specs.Application.{fault_of};
 ghost use Rattle.comp_tree.specs.Calls.{Call, execute_at};
 ghost use Rattle.sed_value.specs.declared.refusal.Refusal.TheVariants.{OutOfMemory};
-ghost use Rattle.comp_tree.specs.Edit.{class_or_none, is_save};
-ghost use Rattle.comp_tree.specs.Edits.{after_add, after_clear, after_invoke, after_rename, after_reorder, after_write};
+ghost use Rattle.comp_tree.specs.Edit.{is_save};
+ghost use Rattle.comp_tree.specs.Edits.{after_clear, after_invoke, after_rename, after_reorder, after_write};
 ghost use Rattle.comp_tree.specs.Order.{least_free};
-ghost use Rattle.comp_tree.specs.Refusals.{first_refusal, refusals_of_add, refusals_of_clear, refusals_of_invoke};
+ghost use Rattle.comp_tree.specs.Refusals.{first_refusal, refusals_of_clear, refusals_of_invoke};
 ghost use Rattle.comp_tree.specs.Refusals.{refusals_of_rename, refusals_of_reorder, refusals_of_write};
 ghost use Rattle.comp_tree.specs.SameCode.{SameCode};
 ghost use Rattle.link_prop.specs.Marks.{AppPart, KeepsAppMarks, added_at, has_mark, is_marked, links_of_new, no_links};
 ghost use Rattle.link_prop.specs.Marks.{no_marks, tree_at, values_at};
 
 use crate::app::App;
+use comp_tree::{NewComponent, Turns};
 use sed_engine::{CallEnd, Callback, Engine};
 use sed_value::{Id, Refusal};
 use sub_table::LinkMarks;
@@ -22,49 +24,32 @@ use sub_table::LinkMarks;
 impl<E: Engine> App<E> {
     ghost use Rattle.comp_tree.specs.Held.{components_of};
 
-    /// Adds a component of the type with this number in this kit, named so, as the last child of a parent. It takes the
-    /// least free id; its config properties get the values that are given, in the order of the slots; then its `start`
-    /// is called, with so many turns, 1 to 1,000,000, at a moment in nanoseconds. A trap of it is no refusal.
+    /// Adds a component that is asked for. It takes the least free id; then its `start` is called, with so many turns
+    /// at a moment in nanoseconds. A trap of it is no refusal.
     ///
     /// The first refusal of its row comes exactly where one holds. `OutOfMemory` comes where none does, and only over
     /// an engine that is not fixed. An error changes no component.
-    pub fn add(
-        &mut self,
-        parent: Id,
-        kit: u8,
-        number: u8,
-        name: &[u8],
-        config: &[u8],
-        turns: u32,
-        ticks: i64,
-    ) -> Result<Id, Refusal>
-        requires some_turns { 1 ≤ turns }
-        requires most_turns { turns ≤ 1000000 }
+    pub fn add(&mut self, asked: NewComponent<'_>, turns: Turns, ticks: i64) -> Result<Id, Refusal>
         ensures id { IfOk result (λ id. id.0 ≡ least_free (components_of E.Engine self.old.tree).by_id) }
         ensures fresh { IfOk result (λ id. map.get (components_of E.Engine self.old.tree).by_id id.0 ≡ None) }
-        ensures done { OnOk result (components_of E.Engine self.new.tree
-            ≡ (after_add (E.meaning self.old.tree.engine) (components_of E.Engine self.old.tree) parent.0
-            (class_or_none (E.meaning self.old.tree.engine) kit number) name.now config.now turns ticks).left) }
-        ensures allowed { OnOk result
-            (first_refusal (refusals_of_add (E.meaning self.old.tree.engine)
-            (components_of E.Engine self.old.tree) parent.0 kit number name.now config.now) ≡ None) }
-        ensures refused { IfErr result (λ refusal. refusal ≢ OutOfMemory
-            → first_refusal (refusals_of_add (E.meaning self.old.tree.engine)
-            (components_of E.Engine self.old.tree) parent.0 kit number name.now config.now) ≡ Some refusal) }
+        ensures done { OnOk result (components_of E.Engine self.new.tree ≡ (after_new
+            (E.meaning self.old.tree.engine) (components_of E.Engine self.old.tree) asked.entry turns ticks).left) }
+        ensures allowed { OnOk result (first_refusal (refusals_of_new
+            (E.meaning self.old.tree.engine) (components_of E.Engine self.old.tree) asked.entry) ≡ None) }
+        ensures refused { IfErr result (λ refusal. refusal ≢ OutOfMemory → first_refusal (refusals_of_new
+            (E.meaning self.old.tree.engine) (components_of E.Engine self.old.tree) asked.entry) ≡ Some refusal) }
         ensures memory { result ≡ Err OutOfMemory → (E.fixed self.old.tree.engine ≡ false)
-            × (first_refusal (refusals_of_add (E.meaning self.old.tree.engine)
-            (components_of E.Engine self.old.tree) parent.0 kit number name.now config.now) ≡ None) }
+            × (first_refusal (refusals_of_new (E.meaning self.old.tree.engine)
+            (components_of E.Engine self.old.tree) asked.entry) ≡ None) }
         ensures stays { OnErr result (components_of E.Engine self.new.tree ≡ components_of E.Engine self.old.tree) }
         ensures marks { MatchResult result (λ id.
-            KeepsAppMarks E.Engine (added_at parent.0 id.0) (links_of_new id.0) self.old self.new)
+            KeepsAppMarks E.Engine (added_at asked.entry.parent.0 id.0) (links_of_new id.0) self.old self.new)
             (λ _. KeepsAppMarks E.Engine no_marks no_links self.old self.new) }
         ensures set { IfOk result (λ id. (at : ℕ) (part : AppPart) → is_marked self.new id.0 at part ≡ true) }
         ensures links { self.new.links ≡ self.old.links }
         ensures same { SameCode E.Engine self.old.tree.engine self.new.tree.engine }
     {
-        let added = self
-            .tree
-            .add(parent, kit, number, name, config, turns, ticks);
+        let added = self.tree.add(asked, turns, ticks);
         mark_added(&mut self.marks, added);
         added
     }
@@ -103,19 +88,17 @@ impl<E: Engine> App<E> {
         self.tree.reorder(id, children)
     }
 
-    /// Writes a property, and calls `changed` where the stored value differs from the one before, with so many turns, 1
-    /// to 1,000,000, at a moment in nanoseconds. A trap of it is no refusal. The first refusal of its row comes exactly
-    /// where one holds, and then all is as it was.
+    /// Writes a property, and calls `changed` where the stored value differs from the one before, with so many turns at
+    /// a moment in nanoseconds. A trap of it is no refusal. The first refusal of its row comes exactly where one holds,
+    /// and then all is as it was.
     pub fn write(
         &mut self,
         id: Id,
         slot: u8,
         value: &[u8],
-        turns: u32,
+        turns: Turns,
         ticks: i64,
     ) -> Result<(), Refusal>
-        requires some_turns { 1 ≤ turns }
-        requires most_turns { turns ≤ 1000000 }
         ensures done { OnOk result (components_of E.Engine self.new.tree
             ≡ after_write (E.meaning self.old.tree.engine) (components_of E.Engine self.old.tree)
             id.0 slot value.now turns ticks) }
@@ -132,20 +115,18 @@ impl<E: Engine> App<E> {
         self.tree.write(id, slot, value, turns, ticks)
     }
 
-    /// Runs an action with its argument, with so many turns, 1 to 1,000,000, at a moment in nanoseconds. A trap becomes
-    /// the component's fault, and is no refusal. The first refusal of its row comes exactly where one holds, and then
-    /// all is as it was. The App's `save` is not asked for here.
+    /// Runs an action with its argument, with so many turns at a moment in nanoseconds. A trap becomes the component's
+    /// fault, and is no refusal. The first refusal of its row comes exactly where one holds, and then all is as it was.
+    /// The App's `save` is not asked for here.
     pub fn invoke(
         &mut self,
         id: Id,
         slot: u8,
         arg: &[u8],
-        turns: u32,
+        turns: Turns,
         ticks: i64,
     ) -> Result<CallEnd, Refusal>
-        requires no_save { IsTrue (not (is_save id.0 slot)) }
-        requires some_turns { 1 ≤ turns }
-        requires most_turns { turns ≤ 1000000 }
+        requires { IsTrue (not (is_save id.0 slot)) }
         ensures done { OnOk result (components_of E.Engine self.new.tree
             ≡ (after_invoke (E.meaning self.old.tree.engine) (components_of E.Engine self.old.tree)
             id.0 (record { 0 = slot }) arg.now turns ticks).left) }
@@ -182,13 +163,11 @@ impl<E: Engine> App<E> {
         self.tree.clear(id)
     }
 
-    /// Runs `execute` of a component whose fault is 0, with so many turns, 1 to 1,000,000, at a moment in nanoseconds.
-    /// A trap becomes its fault.
-    pub fn execute(&mut self, id: Id, turns: u32, ticks: i64) -> CallEnd
+    /// Runs `execute` of a component whose fault is 0, with so many turns at a moment in nanoseconds. A trap becomes
+    /// its fault.
+    pub fn execute(&mut self, id: Id, turns: Turns, ticks: i64) -> CallEnd
         requires live { IsSome (map.get (components_of E.Engine self.old.tree).by_id id.0) }
         requires no_fault { fault_of (components_of E.Engine self.old.tree).by_id id.0 ≡ 0 }
-        requires some_turns { 1 ≤ turns }
-        requires most_turns { turns ≤ 1000000 }
         ensures left { components_of E.Engine self.new.tree
             ≡ (execute_at (E.meaning self.old.tree.engine) (components_of E.Engine self.old.tree)
             id.0 turns ticks).left }
@@ -203,10 +182,8 @@ impl<E: Engine> App<E> {
 
     /// Calls a callback of a component; `slot` is the argument of `changed` and is otherwise not read. A trap becomes
     /// its fault; where its fault isn't 0, nothing is run.
-    pub fn callback(&mut self, id: Id, c: Callback, slot: u8, turns: u32, ticks: i64) -> CallEnd
-        requires live { IsSome (map.get (components_of E.Engine self.old.tree).by_id id.0) }
-        requires some_turns { 1 ≤ turns }
-        requires most_turns { turns ≤ 1000000 }
+    pub fn callback(&mut self, id: Id, c: Callback, slot: u8, turns: Turns, ticks: i64) -> CallEnd
+        requires { IsSome (map.get (components_of E.Engine self.old.tree).by_id id.0) }
         ensures left { components_of E.Engine self.new.tree
             ≡ (Call (E.meaning self.old.tree.engine) (components_of E.Engine self.old.tree)
             id.0 c slot turns ticks).left }

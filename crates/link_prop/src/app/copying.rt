@@ -12,7 +12,7 @@ ghost use Rattle.comp_tree.specs.SameCode.{SameCode};
 ghost use Rattle.link_prop.specs.Marks.{KeepsAppMarks, no_links, values_at};
 
 use crate::app::App;
-use comp_tree::Tree;
+use comp_tree::{Tree, Turns};
 use sed_engine::{CallEnd, Callback, Engine};
 use sed_value::Id;
 use sub_table::LinkRec;
@@ -21,11 +21,9 @@ impl<E: Engine> App<E> {
     ghost use Rattle.comp_tree.specs.Held.{components_of};
 
     /// Copies the links into a component, by ascending target slot, each as an assignment does, and calls `changed`
-    /// after each copy that changes what is stored, with so many turns, 1 to 1,000,000, at a moment in nanoseconds. It
-    /// answers how many of these calls trapped.
-    pub fn copy_into(&mut self, id: Id, turns: u32, ticks: i64) -> u32
-        requires some_turns { 1 ≤ turns }
-        requires most_turns { turns ≤ 1000000 }
+    /// after each copy that changes what is stored, with so many turns at a moment in nanoseconds. It answers how many
+    /// of these calls trapped.
+    pub fn copy_into(&mut self, id: Id, turns: Turns, ticks: i64) -> u32
         ensures copied { (before : ℕ)
             → copied_into (E.meaning self.old.tree.engine) self.old.links turns ticks
             (record { left = components_of E.Engine self.old.tree; traps = before }) id.0
@@ -47,12 +45,16 @@ impl<E: Engine> App<E> {
 }
 
 // Copies along links into a component one after another, and says how many calls of `changed` trapped.
-fn copy_all<E: Engine>(tree: &mut Tree<E>, links: &[LinkRec], id: Id, turns: u32, ticks: i64) -> u32
+fn copy_all<E: Engine>(
+    tree: &mut Tree<E>,
+    links: &[LinkRec],
+    id: Id,
+    turns: Turns,
+    ticks: i64,
+) -> u32
     requires typed { All (IsLink (E.meaning tree.old.engine) (components_of E.Engine tree.old).by_id) links.now }
     requires into { All (λ l. l.to ≡ id.0) links.now }
     requires few { length links.now ≤ most_links }
-    requires some_turns { 1 ≤ turns }
-    requires most_turns { turns ≤ 1000000 }
     ensures copied { (before : ℕ)
         → fold (copy_along (E.meaning tree.old.engine) turns ticks)
         (record { left = components_of E.Engine tree.old; traps = before }) links.now
@@ -78,10 +80,8 @@ fn counted(traps: u32, trapped: bool) -> u32
 }
 
 // Copies along a link, and says whether `changed` was called and trapped.
-fn copy_one<E: Engine>(tree: &mut Tree<E>, link: LinkRec, turns: u32, ticks: i64) -> bool
-    requires typed { IsLink (E.meaning tree.old.engine) (components_of E.Engine tree.old).by_id link }
-    requires some_turns { 1 ≤ turns }
-    requires most_turns { turns ≤ 1000000 }
+fn copy_one<E: Engine>(tree: &mut Tree<E>, link: LinkRec, turns: Turns, ticks: i64) -> bool
+    requires { IsLink (E.meaning tree.old.engine) (components_of E.Engine tree.old).by_id link }
     ensures copied { (traps : ℕ)
         → copy_along (E.meaning tree.old.engine) turns ticks
         (record { left = components_of E.Engine tree.old; traps = traps }) link

@@ -1,5 +1,5 @@
 //! Components that go, and the links at them.
-ghost use Rattle.std.specs.Prelude.{◌≡◌, ◌<◌, ◌≤◌, All, OnOk, OnErr, MatchResult, Some, None};
+ghost use Rattle.std.specs.Prelude.{◌≡◌, ◌<◌, All, OnOk, OnErr, MatchResult, Some, None};
 ghost use Rattle.sub_table.specs.Links.{without_links_at};
 ghost use Rattle.sub_table.specs.Marks.{AreMarked};
 ghost use Rattle.comp_tree.specs.Application.{most_components};
@@ -12,6 +12,7 @@ ghost use Rattle.link_prop.specs.Marks.{KeepsAppMarks, links_with, tree_above};
 use crate::app::App;
 use crate::app::marking::mark_linked;
 use crate::ends::is_live;
+use comp_tree::Turns;
 use sed_engine::Engine;
 use sed_value::limits::MOST_COMPONENTS;
 use sed_value::{Id, Refusal};
@@ -21,11 +22,9 @@ impl<E: Engine> App<E> {
     ghost use Rattle.comp_tree.specs.Held.{components_of};
 
     /// Deletes a component and those below it, and each link at one of them. First the `stop` of each is called, depth
-    /// first, with so many turns, 1 to 1,000,000, at a moment in nanoseconds; a trap of it is no refusal. The first
-    /// refusal of its row comes exactly where one holds, and then all is as it was. It never wants memory.
-    pub fn delete(&mut self, id: Id, turns: u32, ticks: i64) -> Result<(), Refusal>
-        requires some_turns { 1 ≤ turns }
-        requires most_turns { turns ≤ 1000000 }
+    /// first, with so many turns at a moment in nanoseconds; a trap of it is no refusal. The first refusal of its row
+    /// comes exactly where one holds, and then all is as it was. It never wants memory.
+    pub fn delete(&mut self, id: Id, turns: Turns, ticks: i64) -> Result<(), Refusal>
         ensures done { OnOk result (components_of E.Engine self.new.tree
             ≡ after_delete (E.meaning self.old.tree.engine) (components_of E.Engine self.old.tree) id.0 turns ticks) }
         ensures links { OnOk result (self.new.links

@@ -1,28 +1,32 @@
-use Rattle.std.proofs.Common.{◌≡◌, ◌∙◌, ◌+◌, ◌*◌, ◌≤◌, sym, subst, ℕ, length, [], ◌∷◌, IsTrue, arith}
-use Rattle.disk_model.specs.Disk.{Image, SyncsUp}
-use Rattle.app_save.specs.Saving.{LeavesOnly}
-use Rattle.app_save.specs.Making.{IsBlank, NewOrNone, blank_store}
+use Rattle.std.proofs.Common.{◌∙◌, ◌+◌, ◌*◌, ◌≤◌, sym, subst, ℕ, length, [], ◌∷◌, IsTrue, arith}
+use Rattle.disk_model.specs.Disk.{Image}
+use Rattle.app_save.specs.Making.{IsBlank, NewOrNone}
 use Rattle.app_save.proofs.Moments.{then_time, then_during, then_marks, then_syncs, since_none, at_end}
-use Rattle.app_save.proofs.MadeBytes.{blank_is}
-use Rattle.app_save.proofs.MadeSyncs.{since_header, since_payload, since_gate, made_exact, done_through}
+use Rattle.app_save.proofs.MadeSyncs.{Zeroed, zeroed, Bodied, since_header, since_payload, since_gate, made_exact, done_through}
 use Rattle.app_save.proofs.Made.{made_done, none_longer}
+use Rattle.app_save.proofs.making.write_store.Goals.{After-write_at, After-write_through-2}
 use Rattle.app_save.proofs.making.write_store.Goals as goal
+
+-- up to the sync of the zeros, and to that of the payload
+zeros_at : (g : _) (c : After-write_at g) → IsTrue (g.D.Disk.meaning c.args.disk.now).tells → Zeroed c.args.slot (g.D.Disk.meaning c.args.disk.now) (g.D.Disk.meaning c.sync.new.self)
+zeros_at g c told = zeroed c.in_ok-sync.field-0 c.args.slot (g.D.Disk.meaning c.args.disk.now) (g.D.Disk.meaning c.write_zeros.new.disk) (g.D.Disk.meaning c.sync.new.self) told
+    c.write_zeros.ensures.time c.sync.ensures.time c.write_zeros.ensures.syncs (c.in_ok-write_zeros.ensures.blank told) (c.in_ok-sync.ensures.durable (c.write_zeros.ensures.time.told ∙ told)) c.in_ok-sync.ensures.syncs
+
+body_at : (g : _) (c : After-write_through-2 g) → IsTrue (g.D.Disk.meaning c.sync.new.self).tells → Bodied c.args.payload.now c.behind_gate.result (g.D.Disk.meaning c.sync.new.self) (g.D.Disk.meaning c.write_at.new.self) (g.D.Disk.meaning c.write_through.new.disk)
+body_at g c told_z =
+    let told_b : IsTrue (g.D.Disk.meaning c.write_at.new.self).tells = c.write_at.ensures.time.told ∙ told_z in
+    let header = c.in_ok-write_at.ensures.writes told_z in
+    let lands = c.in_ok-write_through.ensures.lands told_b in
+    record { told = c.write_through.ensures.time.told ∙ told_b; torn_header = header.torn; holds_header = header.holds; torn = lands.torn; holds = lands.holds; rests = lands.rests }
 
 pub returns-clause-saved : goal.returns-clause-saved
 returns-clause-saved g c told =
     let z0 = g.D.Disk.meaning c.write_zeros.new.disk in
     let z = g.D.Disk.meaning c.sync.new.self in
-    let b = g.D.Disk.meaning c.write_at.new.self in
-    let d = g.D.Disk.meaning c.write_through.new.disk in
-    let e = g.D.Disk.meaning c.write_through-2.new.disk in
     let told_z0 : IsTrue z0.tells = c.write_zeros.ensures.time.told ∙ told in
-    let told_z : IsTrue z.tells = c.sync.ensures.time.told ∙ told_z0 in
-    let told_b : IsTrue b.tells = c.write_at.ensures.time.told ∙ told_z in
-    let told_d : IsTrue d.tells = c.write_through.ensures.time.told ∙ told_b in
     let blank = subst (λ (i : Image). IsBlank (2 * (c.args.slot + 6)) i) (sym (c.in_ok-sync.ensures.durable told_z0).kept) (c.in_ok-write_zeros.ensures.blank told) in
-    let header = c.in_ok-write_at.ensures.writes told_z in
-    let body = c.in_ok-write_through.ensures.lands told_b in
-    made_done c.write_through-2.result c.args.slot c.behind_gate.result c.args.payload.now z b d e blank c.behind_gate.ensures.five c.requires.fits header.torn header.holds body.torn body.holds (c.write_through-2.ensures.lands told_d) c.behind_gate.ensures.len c.behind_gate.ensures.generation
+    let body = body_at g (goal.at.returns-clause-saved g c).After-write_through-2 (c.sync.ensures.time.told ∙ told_z0) in
+    made_done c.write_through-2.result c.args.slot c.behind_gate.result c.args.payload.now z (g.D.Disk.meaning c.write_at.new.self) (g.D.Disk.meaning c.write_through.new.disk) (g.D.Disk.meaning c.write_through-2.new.disk) blank c.behind_gate.ensures.five c.requires.fits body.torn_header body.holds_header body.torn body.holds (c.write_through-2.ensures.lands body.told) c.behind_gate.ensures.len c.behind_gate.ensures.generation
 
 pub returns-clause-bound : goal.returns-clause-bound
 returns-clause-bound g c told short =
@@ -82,98 +86,35 @@ returns-in_err-sync-clause-since g c told told_syncs =
 
 pub returns-in_err-write_at-clause-since : goal.returns-in_err-write_at-clause-since
 returns-in_err-write_at-clause-since g c told told_syncs =
-    let a = g.D.Disk.meaning c.args.disk.now in
-    let z0 = g.D.Disk.meaning c.write_zeros.new.disk in
-    let z = g.D.Disk.meaning c.sync.new.self in
-    let b = g.D.Disk.meaning c.write_at.new.self in
-    let told_z0 : IsTrue z0.tells = c.write_zeros.ensures.time.told ∙ told in
-    let told_z : IsTrue z.tells = c.sync.ensures.time.told ∙ told_z0 in
-    let durable = c.in_ok-sync.ensures.durable told_z0 in
-    let zeros : z0.content ≡ blank_store c.args.slot = blank_is (2 * (c.args.slot + 6)) z0.content (c.in_ok-write_zeros.ensures.blank told) in
-    let to_z = then_time a z0 z c.write_zeros.ensures.time c.sync.ensures.time in
-    let up_z : SyncsUp a z 1 = then_syncs a z0 z 1 c.write_zeros.ensures.time c.sync.ensures.time c.write_zeros.ensures.syncs c.in_ok-sync.ensures.syncs in
-    let blank : LeavesOnly z z.now (blank_store c.args.slot) = λ i left. durable.durable i left ∙ zeros in
-    since_header c.args.slot c.args.payload.now c.behind_gate.result c.requires.fits c.behind_gate.ensures.bytes a z b told told_syncs to_z up_z blank c.write_at.ensures.time (c.write_at.ensures.writes told_z).during
+    let zeros = zeros_at g (goal.at.returns-in_err-write_at-clause-since g c).After-write_at told in
+    since_header c.args.slot c.args.payload.now c.behind_gate.result c.requires.fits c.behind_gate.ensures.bytes _ _ _ told told_syncs zeros c.write_at.ensures.time (c.write_at.ensures.writes zeros.told).during
 
 pub returns-in_err-write_through-clause-since : goal.returns-in_err-write_through-clause-since
 returns-in_err-write_through-clause-since g c told told_syncs =
-    let a = g.D.Disk.meaning c.args.disk.now in
-    let z0 = g.D.Disk.meaning c.write_zeros.new.disk in
-    let z = g.D.Disk.meaning c.sync.new.self in
-    let b = g.D.Disk.meaning c.write_at.new.self in
-    let d = g.D.Disk.meaning c.write_through.new.disk in
-    let told_z0 : IsTrue z0.tells = c.write_zeros.ensures.time.told ∙ told in
-    let told_z : IsTrue z.tells = c.sync.ensures.time.told ∙ told_z0 in
-    let durable = c.in_ok-sync.ensures.durable told_z0 in
-    let zeros : z0.content ≡ blank_store c.args.slot = blank_is (2 * (c.args.slot + 6)) z0.content (c.in_ok-write_zeros.ensures.blank told) in
-    let to_z = then_time a z0 z c.write_zeros.ensures.time c.sync.ensures.time in
-    let up_z : SyncsUp a z 1 = then_syncs a z0 z 1 c.write_zeros.ensures.time c.sync.ensures.time c.write_zeros.ensures.syncs c.in_ok-sync.ensures.syncs in
-    let blank : LeavesOnly z z.now (blank_store c.args.slot) = λ i left. durable.durable i left ∙ zeros in
-    let told_b : IsTrue b.tells = c.write_at.ensures.time.told ∙ told_z in
-    since_payload c.args.slot c.args.payload.now c.behind_gate.result c.requires.fits c.behind_gate.ensures.bytes a z b told told_syncs to_z up_z blank c.write_at.ensures.time (c.write_at.ensures.writes told_z).during
-    d c.write_through.ensures.time (c.write_through.ensures.lands told_b).during
+    let zeros = zeros_at g (goal.at.returns-in_err-write_through-clause-since g c).After-write_at told in
+    since_payload c.args.slot c.args.payload.now c.behind_gate.result c.requires.fits c.behind_gate.ensures.bytes _ _ _ told told_syncs zeros c.write_at.ensures.time (c.write_at.ensures.writes zeros.told).during
+    _ c.write_through.ensures.time (c.write_through.ensures.lands (c.write_at.ensures.time.told ∙ zeros.told)).during
 
 pub returns-clause-since : goal.returns-clause-since
 returns-clause-since g c told told_syncs =
-    let a = g.D.Disk.meaning c.args.disk.now in
-    let z0 = g.D.Disk.meaning c.write_zeros.new.disk in
-    let z = g.D.Disk.meaning c.sync.new.self in
-    let b = g.D.Disk.meaning c.write_at.new.self in
-    let d = g.D.Disk.meaning c.write_through.new.disk in
-    let e = g.D.Disk.meaning c.write_through-2.new.disk in
-    let told_z0 : IsTrue z0.tells = c.write_zeros.ensures.time.told ∙ told in
-    let told_z : IsTrue z.tells = c.sync.ensures.time.told ∙ told_z0 in
-    let durable = c.in_ok-sync.ensures.durable told_z0 in
-    let zeros : z0.content ≡ blank_store c.args.slot = blank_is (2 * (c.args.slot + 6)) z0.content (c.in_ok-write_zeros.ensures.blank told) in
-    let to_z = then_time a z0 z c.write_zeros.ensures.time c.sync.ensures.time in
-    let up_z : SyncsUp a z 1 = then_syncs a z0 z 1 c.write_zeros.ensures.time c.sync.ensures.time c.write_zeros.ensures.syncs c.in_ok-sync.ensures.syncs in
-    let blank : LeavesOnly z z.now (blank_store c.args.slot) = λ i left. durable.durable i left ∙ zeros in
-    let told_b : IsTrue b.tells = c.write_at.ensures.time.told ∙ told_z in
-    let told_d : IsTrue d.tells = c.write_through.ensures.time.told ∙ told_b in
-    let header = c.in_ok-write_at.ensures.writes told_z in
-    let body = c.in_ok-write_through.ensures.lands told_b in
-    since_gate c.args.slot c.args.payload.now c.behind_gate.result c.requires.fits c.behind_gate.ensures.bytes a z b told told_syncs to_z up_z blank c.write_at.ensures.time (c.write_at.ensures.writes told_z).during
-    d c.write_through.ensures.time (c.write_through.ensures.lands told_b).during
-    (durable.kept ∙ zeros) header.torn header.holds body.torn body.holds body.rests e c.write_through-2.ensures.time (c.write_through-2.ensures.lands told_d).during
+    let zeros = zeros_at g (goal.at.returns-clause-since g c).After-write_at told in
+    let body = body_at g (goal.at.returns-clause-since g c).After-write_through-2 zeros.told in
+    since_gate c.args.slot c.args.payload.now c.behind_gate.result c.requires.fits c.behind_gate.ensures.bytes _ _ _ told told_syncs zeros c.write_at.ensures.time (c.write_at.ensures.writes zeros.told).during
+    _ c.write_through.ensures.time (c.write_through.ensures.lands (c.write_at.ensures.time.told ∙ zeros.told)).during body _ c.write_through-2.ensures.time (c.write_through-2.ensures.lands body.told).during
 
 pub returns-clause-exact : goal.returns-clause-exact
 returns-clause-exact g c told =
-    let a = g.D.Disk.meaning c.args.disk.now in
-    let z0 = g.D.Disk.meaning c.write_zeros.new.disk in
-    let z = g.D.Disk.meaning c.sync.new.self in
-    let b = g.D.Disk.meaning c.write_at.new.self in
-    let d = g.D.Disk.meaning c.write_through.new.disk in
-    let e = g.D.Disk.meaning c.write_through-2.new.disk in
-    let told_z0 : IsTrue z0.tells = c.write_zeros.ensures.time.told ∙ told in
-    let told_z : IsTrue z.tells = c.sync.ensures.time.told ∙ told_z0 in
-    let told_b : IsTrue b.tells = c.write_at.ensures.time.told ∙ told_z in
-    let told_d : IsTrue d.tells = c.write_through.ensures.time.told ∙ told_b in
-    let zeros : z.content ≡ blank_store c.args.slot = (c.in_ok-sync.ensures.durable told_z0).kept ∙ blank_is (2 * (c.args.slot + 6)) z0.content (c.in_ok-write_zeros.ensures.blank told) in
-    let header = c.in_ok-write_at.ensures.writes told_z in
-    let body = c.in_ok-write_through.ensures.lands told_b in
-    made_exact c.write_through-2.result c.args.slot c.args.payload.now c.behind_gate.result c.requires.fits c.behind_gate.ensures.bytes z b d e zeros header.torn header.holds body.torn body.holds (c.write_through-2.ensures.lands told_d)
+    let zeros = zeros_at g (goal.at.returns-clause-exact g c).After-write_at told in
+    let body = body_at g (goal.at.returns-clause-exact g c).After-write_through-2 zeros.told in
+    made_exact c.write_through-2.result c.args.slot c.args.payload.now c.behind_gate.result c.requires.fits c.behind_gate.ensures.bytes _ _ _ _ zeros.is body (c.write_through-2.ensures.lands body.told)
 
 pub returns-clause-syncs : goal.returns-clause-syncs
 returns-clause-syncs g c told told_syncs =
-    let a = g.D.Disk.meaning c.args.disk.now in
-    let z0 = g.D.Disk.meaning c.write_zeros.new.disk in
     let z = g.D.Disk.meaning c.sync.new.self in
     let b = g.D.Disk.meaning c.write_at.new.self in
     let d = g.D.Disk.meaning c.write_through.new.disk in
-    let e = g.D.Disk.meaning c.write_through-2.new.disk in
-    let told_z0 : IsTrue z0.tells = c.write_zeros.ensures.time.told ∙ told in
-    let told_z : IsTrue z.tells = c.sync.ensures.time.told ∙ told_z0 in
-    let durable = c.in_ok-sync.ensures.durable told_z0 in
-    let zeros : z0.content ≡ blank_store c.args.slot = blank_is (2 * (c.args.slot + 6)) z0.content (c.in_ok-write_zeros.ensures.blank told) in
-    let to_z = then_time a z0 z c.write_zeros.ensures.time c.sync.ensures.time in
-    let up_z : SyncsUp a z 1 = then_syncs a z0 z 1 c.write_zeros.ensures.time c.sync.ensures.time c.write_zeros.ensures.syncs c.in_ok-sync.ensures.syncs in
-    let blank : LeavesOnly z z.now (blank_store c.args.slot) = λ i left. durable.durable i left ∙ zeros in
-    let told_b : IsTrue b.tells = c.write_at.ensures.time.told ∙ told_z in
-    let told_d : IsTrue d.tells = c.write_through.ensures.time.told ∙ told_b in
-    let header = c.in_ok-write_at.ensures.writes told_z in
-    let body = c.in_ok-write_through.ensures.lands told_b in
-    let up_d : SyncsUp z d 1 = then_syncs z b d 1 c.write_at.ensures.time c.write_through.ensures.time c.write_at.ensures.syncs c.in_ok-write_through.ensures.syncs in
-    done_through c.args.slot c.args.payload.now c.behind_gate.result c.requires.fits c.behind_gate.ensures.bytes a z b told told_syncs to_z up_z blank c.write_at.ensures.time (c.write_at.ensures.writes told_z).during
-    d c.write_through.ensures.time (c.write_through.ensures.lands told_b).during
-    (durable.kept ∙ zeros) header.torn header.holds body.torn body.holds body.rests e c.write_through-2.ensures.time (c.write_through-2.ensures.lands told_d).during
-    c.write_through-2.result (c.write_through-2.ensures.lands told_d) up_d c.write_through-2.ensures.syncs
+    let zeros = zeros_at g (goal.at.returns-clause-syncs g c).After-write_at told in
+    let body = body_at g (goal.at.returns-clause-syncs g c).After-write_through-2 zeros.told in
+    done_through c.args.slot c.args.payload.now c.behind_gate.result c.requires.fits c.behind_gate.ensures.bytes _ z b told told_syncs zeros c.write_at.ensures.time (c.write_at.ensures.writes zeros.told).during
+    d c.write_through.ensures.time (c.write_through.ensures.lands (c.write_at.ensures.time.told ∙ zeros.told)).during body _ c.write_through-2.ensures.time (c.write_through-2.ensures.lands body.told).during
+    c.write_through-2.result (c.write_through-2.ensures.lands body.told) (then_syncs z b d 1 c.write_at.ensures.time c.write_through.ensures.time c.write_at.ensures.syncs c.in_ok-write_through.ensures.syncs) c.write_through-2.ensures.syncs

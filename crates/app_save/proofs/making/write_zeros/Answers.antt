@@ -1,8 +1,7 @@
-use Rattle.std.proofs.Common.{◌≡◌, ◌∙◌, ◌<◌, ◌≤◌, ◌*◌, ◌-◌, ◌+◌, min, ℕ, List, length, take, replicate, refl, arith}
-use Rattle.std.proofs.lemmas.List.{length-take-le, length-replicate}
+use Rattle.std.proofs.Common.{◌∙◌, ◌<◌, ◌≤◌, ◌*◌, ℕ, List, length, take, replicate, refl, arith}
 use Rattle.disk_model.specs.Disk.{Image}
 use Rattle.app_save.proofs.Moments.{then_time, then_marks, then_syncs, then_during, no_time, no_marks, no_syncs, now_alone}
-use Rattle.app_save.proofs.Made.{blank_further, blank_none, blank_all, zero_bytes, none_longer}
+use Rattle.app_save.proofs.Made.{blank_further, blank_none, blank_all, zero_bytes, none_longer, piece_length, piece_fits}
 use Rattle.app_save.proofs.making.write_zeros.Goals as goal
 
 pub loop-q-init : goal.loop-q-init
@@ -17,12 +16,8 @@ loop-q-preserved g c =
     let n = g.D.Disk.meaning c.write_at.new.self in
     let inv = c.loop-q.invariant in
     let below : 512 * c.loop-q.q < c.args.len = let t = c.loop-q-test.true in omega (arith, t) in
-    let k = c.min-size.result in
-    let is : k ≡ min (c.args.len - 512 * c.loop-q.q) 512 = c.min-size.ensures in
-    let bytes : List ℕ = take k (replicate 512 0) in
-    let whole = length-replicate {A = ℕ} 512 0 in
-    let long : length bytes ≡ k = length-take-le k (replicate 512 0) (grind (arith, is, whole)) in
-    let room : 512 * c.loop-q.q + length bytes ≤ c.args.len = grind (arith, long, is, below) in
+    let bytes : List ℕ = take c.min-size.result (replicate 512 0) in
+    let room = piece_fits c.args.len c.loop-q.q c.min-size.result below c.min-size.ensures in
     let e = c.in_ok-write_at.ensures in
     record {
       time = then_time a m n inv.time e.time;
@@ -32,7 +27,7 @@ loop-q-preserved g c =
       faults = e.cause.steady (λ failed. cc failed) ∙ inv.faults;
       blank = λ told.
           let writes = e.writes (inv.time.told ∙ told) in
-          blank_further c.args.len c.loop-q.q bytes m.content n.content below (long ∙ is) (zero_bytes k) (inv.blank told) writes.torn writes.holds;
+          blank_further c.args.len c.loop-q.q bytes m.content n.content below (piece_length c.args.len c.loop-q.q c.min-size.result c.min-size.ensures ∙ c.min-size.ensures) (zero_bytes c.min-size.result) (inv.blank told) writes.torn writes.holds;
       bound = λ told short. then_during a m n (λ (i : Image). length i ≤ c.args.len) told inv.time e.time (inv.bound told short)
           (none_longer c.args.len (512 * c.loop-q.q) bytes a m n room inv.time (inv.bound told short) (e.writes (inv.time.told ∙ told)).during);
     }
@@ -44,12 +39,8 @@ returns-in_err-write_at-clause-bound g c told short =
     let n = g.D.Disk.meaning c.write_at.new.self in
     let inv = c.loop-q.invariant in
     let below : 512 * c.loop-q.q < c.args.len = let t = c.loop-q-test.true in omega (arith, t) in
-    let k = c.min-size.result in
-    let is : k ≡ min (c.args.len - 512 * c.loop-q.q) 512 = c.min-size.ensures in
-    let bytes : List ℕ = take k (replicate 512 0) in
-    let whole = length-replicate {A = ℕ} 512 0 in
-    let long : length bytes ≡ k = length-take-le k (replicate 512 0) (grind (arith, is, whole)) in
-    let room : 512 * c.loop-q.q + length bytes ≤ c.args.len = grind (arith, long, is, below) in
+    let bytes : List ℕ = take c.min-size.result (replicate 512 0) in
+    let room = piece_fits c.args.len c.loop-q.q c.min-size.result below c.min-size.ensures in
     let e = c.write_at.ensures in
     then_during a m n (λ (i : Image). length i ≤ c.args.len) told inv.time e.time (inv.bound told short)
     (none_longer c.args.len (512 * c.loop-q.q) bytes a m n room inv.time (inv.bound told short) (e.writes (inv.time.told ∙ told)).during)

@@ -5,26 +5,27 @@ use Rattle.app_save.proofs.save.close_gate.Goals as goal
 
 pub returns-then-place-clause-during : goal.returns-then-place-clause-during
 returns-then-place-clause-during g c told =
-    let place = c.requires.place told in
+    let ready = c.requires.ready told in
     closing_during c.args.slot c.args.place.now.newest c.args.place.now.other c.requires.slots c.args.payload.now c.requires.fits (g.D.Disk.meaning c.args.disk.now) (g.D.Disk.meaning c.write_through.new.disk)
-    (c.requires.rests told) (c.requires.store told) place.newest c.write_through.result (place.is_open c.if-place.true) (c.write_through.ensures.lands told)
+    ready.rests ready.store ready.there.newest c.write_through.result (ready.there.is_open c.if-place.true) (c.write_through.ensures.lands told)
 
 pub returns-then-place-clause-closed : goal.returns-then-place-clause-closed
 returns-then-place-clause-closed g c told =
-    let place = c.requires.place told in
+    let ready = c.requires.ready told in
     closing_done c.args.slot c.args.place.now.newest c.args.place.now.other c.requires.slots c.args.payload.now c.requires.fits (g.D.Disk.meaning c.args.disk.now) (g.D.Disk.meaning c.write_through.new.disk)
-    (c.requires.rests told) (c.requires.store told) place.newest c.write_through.result (place.is_open c.if-place.true) (c.write_through.ensures.lands told)
+    ready.rests ready.store ready.there.newest c.write_through.result (ready.there.is_open c.if-place.true) (c.write_through.ensures.lands told)
 
 pub returns-clause-during : goal.returns-clause-during
 returns-clause-during g c told =
     let a = g.D.Disk.meaning c.args.disk.now in
-    closed_during c.args.slot c.args.place.now.newest c.args.place.now.other c.requires.slots c.args.payload.now c.requires.fits a a (c.requires.rests told) (c.requires.store told) (c.requires.place told).newest
+    let ready = c.requires.ready told in
+    closed_during c.args.slot c.args.place.now.newest c.args.place.now.other c.requires.slots c.args.payload.now c.requires.fits a a ready.rests ready.store ready.there.newest
 
 pub returns-clause-closed : goal.returns-clause-closed
 returns-clause-closed g c told =
     let a = g.D.Disk.meaning c.args.disk.now in
-    let place = c.requires.place told in
-    closed_already c.args.slot c.args.place.now.newest c.args.place.now.other c.requires.slots c.args.payload.now c.requires.fits a a (c.requires.rests told) (c.requires.store told) place.newest (place.is_shut c.if-place.false)
+    let ready = c.requires.ready told in
+    closed_already c.args.slot c.args.place.now.newest c.args.place.now.other c.requires.slots c.args.payload.now c.requires.fits a a ready.rests ready.store ready.there.newest (ready.there.is_shut c.if-place.false)
 
 pub returns-then-place-clause-touches : goal.returns-then-place-clause-touches
 returns-then-place-clause-touches g c told =

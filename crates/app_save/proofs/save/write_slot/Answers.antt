@@ -8,7 +8,7 @@ use Rattle.app_save.proofs.save.write_slot.Goals as goal
 pub fill-requires-clause-next : goal.fill-requires-clause-next
 fill-requires-clause-next g c told =
     let before : IsTrue (g.D.Disk.meaning c.args.disk.now).tells = sym c.close_gate.ensures.time.told ∙ told in
-    (c.requires.place before).next ∙ ap (λ (n : ℕ). (n + 1) % 3) (sym (c.in_ok-close_gate.ensures.closed before).closed.stays.generation)
+    (c.requires.ready before).there.next ∙ ap (λ (n : ℕ). (n + 1) % 3) (sym (c.in_ok-close_gate.ensures.closed before).closed.stays.generation)
 
 pub fill-requires-clause-closed : goal.fill-requires-clause-closed
 fill-requires-clause-closed g c told =

@@ -1,4 +1,4 @@
-use Rattle.std.proofs.Common.{◌≡◌, ℕ, ◌<◌, List, get_or, sym, ◌∙◌, ap, arith, below_more, eqb-true, eq-eqb}
+use Rattle.std.proofs.Common.{◌≡◌, ℕ, List, get_or, ◌∙◌, ap, arith, below_more, eqb-true, eq-eqb}
 use Rattle.std.specs.Int.Bits.{bit_or, bit_xor, or_zero_l, xor_self}
 use Rattle.std.proofs.lemmas.List.{ext_get_or}
 use Rattle.dasp_session.proofs.BitLemmas.{or-zero, xor-zero}

@@ -1,18 +1,15 @@
-use Rattle.std.proofs.Common.{ap, sym, subst}
-use Rattle.dasp_msg.specs.declared.kind.MsgKind.TheVariants.{Datagram}
-use Rattle.dasp_msg.specs.Shown.{Message}
-use Rattle.dasp_session.specs.Letters.{bare, carrying}
-use Rattle.dasp_session.specs.Outbox.{CanGo}
-use Rattle.dasp_session.proofs.LetterLemmas.{datagram_can, acks_are}
+use Rattle.std.proofs.Common.{List, ℕ, length, ◌≡◌, ◌∙◌, ap, sym, subst}
+use Rattle.std.specs.Prelude.{Option}
+use Rattle.std.specs.Option.{ForSome}
+use Rattle.dasp_msg.specs.OfKind as of_kind
 use Rattle.dasp_session.proofs.letters.datagram.Goals as goal
 
-pub returns : goal.returns
-returns c =
-    let acks = acks_are _ (bare c.args.remote_id Datagram) c.args.acks.now.number _ c.args.acks.now.more c.bare-msg.ensures c.more_of-msg.ensures in
-    let says = ap (λ (m : Message). carrying c.args.number c.args.payload.now m) acks in
-    record {
-      says = says;
-      can =
-          subst CanGo (sym says)
-          (datagram_can c.args.remote_id c.args.acks.now.number c.args.number c.args.acks.now.more c.args.payload.now c.requires.four c.requires.short);
-    }
+pub datagram-requires-clause-four : goal.datagram-requires-clause-four
+datagram-requires-clause-four c =
+    subst (λ (more : Option (List ℕ)). ForSome more (λ bytes. length bytes ≡ 4)) (sym c.more_of.ensures) c.requires.four
+
+pub returns-clause-says : goal.returns-clause-says
+returns-clause-says c =
+    c.datagram.ensures.says
+    ∙ ap (λ (more : Option (List ℕ)). of_kind.datagram c.args.remote_id c.args.acks.now.number more c.args.number c.args.payload.now)
+    c.more_of.ensures

@@ -1,11 +1,12 @@
-use Rattle.std.proofs.Common.{◌≡◌, ◌≤◌, ℕ, List, ◌∷◌, ◌++◌, length, take, drop, get_or, true, false, eqb, sym, ◌∙◌, ap, subst, arith, add-zero, eqb-true}
-use Rattle.std.specs.Prelude.{Some, None, position}
+use Rattle.std.proofs.Common.{◌≡◌, ◌≤◌, ℕ, List, ◌∷◌, ◌++◌, length, take, drop, get_or, true, eqb, sym, ◌∙◌, ap, subst, arith, add-zero, eqb-true}
+use Rattle.std.specs.Prelude.{Some, position}
 use Rattle.std.proofs.lemmas.Bool.{both_ways}
 use Rattle.std.proofs.lemmas.List.{take-append-drop, get_or-drop}
 use Rattle.std.proofs.lemmas.List.Quantifiers.{position-Some}
 use Rattle.hex.specs.Hex.{encode_lower, IsBytes}
 use Rattle.dasp_session.specs.declared.user.User.{User}
-use Rattle.dasp_session.specs.Line.{IsUser, line_of, is_user_name}
+use Rattle.dasp_msg.specs.UserName.{is_user_name}
+use Rattle.dasp_session.specs.Line.{IsUser, line_of}
 use Rattle.dasp_session.proofs.LineLemmas.{Cut, cut, Behind, behind_of, behind_whole, length-digits, line-whole}
 use Rattle.dasp_session.proofs.line.first_line.Goals as goal
 
@@ -40,11 +41,11 @@ returns-in-None c = λ user behind is whole.
     let found = c.colon_of.ensures in
     absurd (cc)
 
-pub returns-then-not-is_name : goal.returns-then-not-is_name
-returns-then-not-is_name c = λ user behind is whole.
+pub returns-then-not-is_user_name : goal.returns-then-not-is_user_name
+returns-then-not-is_user_name c = λ user behind is whole.
     let it = at user behind c.args.text.now _ _ c.in-Some.colon is whole (sym c.in-Some.is ∙ c.colon_of.ensures) c.split_at.ensures.front c.split_at.ensures.back in
-    let good : c.is_name.result ≡ true = c.is_name.ensures ∙ ap is_user_name it.name_is ∙ is.name in
-    absurd (both_ways c.is_name.result c.if-not-is_name.true good)
+    let good : c.is_user_name.result ≡ true = c.is_user_name.ensures ∙ ap is_user_name it.name_is ∙ is.name in
+    absurd (both_ways c.is_user_name.result c.if-not-is_user_name.true good)
 
 pub returns-then-rest-lt-LINE_BEHIND_NAME : goal.returns-then-rest-lt-LINE_BEHIND_NAME
 returns-then-rest-lt-LINE_BEHIND_NAME c = λ user behind is whole.
@@ -89,7 +90,7 @@ returns-in-Some-credential_of c =
     let twenty : length credential ≡ 20 = omega arith in
     let written = c.in-Some-credential_of.ensures.1 ∙ ap encode_lower (sym c.line_with.ensures.credential) in (
       record {
-        name = ap is_user_name c.line_with.ensures.name ∙ sym c.is_name.ensures ∙ c.if-not-is_name.false;
+        name = ap is_user_name c.line_with.ensures.name ∙ sym c.is_user_name.ensures ∙ c.if-not-is_user_name.false;
         credential = ap length c.line_with.ensures.credential ∙ twenty;
         bytes = subst IsBytes (sym c.line_with.ensures.credential) c.in-Some-credential_of.ensures.0;
       },

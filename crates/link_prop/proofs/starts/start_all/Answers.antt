@@ -8,7 +8,7 @@ use Rattle.comp_tree.specs.Held.{components_of}
 use Rattle.comp_tree.proofs.SameCodes.{same_still}
 use Rattle.link_prop.proofs.CallLemmas.{call_live}
 use Rattle.link_prop.proofs.CountedCalls.{counted_all, counted_more}
-use Rattle.link_prop.proofs.CycleMarks.{marked_again, marked_any, marked_none}
+use Rattle.link_prop.proofs.CycleMarks.{marked_again, marked_any}
 use Rattle.link_prop.proofs.starts.start_all.Goals as goal
 
 pub loop-id-preserved : goal.loop-id-preserved

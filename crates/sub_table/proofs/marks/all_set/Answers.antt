@@ -1,4 +1,4 @@
-use Rattle.std.proofs.Common.{ℕ, ◌≡◌, ◌≤◌, ◌++◌, ◌∷◌, Bool, true, List, [], sym, ◌∙◌, ap, subst, arith, replicate}
+use Rattle.std.proofs.Common.{ℕ, ◌≡◌, ◌≤◌, ◌++◌, ◌∷◌, Bool, true, List, [], ◌∙◌, ap, subst, arith, replicate}
 use Rattle.std.proofs.lemmas.List.{replicate_more}
 use Rattle.sub_table.proofs.marks.all_set.Goals as goal
 

@@ -32,8 +32,8 @@ returns-clause-refused g c =
     subst (λ (x : Held _). first_refusal (refusals_of_delete (components_of g.E.Engine x).by_id c.args.id.0) ≡ None) c.self.view_is
     (delete_allowed (g.E.Engine.live c.self.inside.engine) c.self.inside.nodes c.args.id.0 (sym c.if-not-contains.ensures.same) c.if-id-eq0.false)
 
-pub stop_each-requires-clause-live : goal.stop_each-requires-clause-live
-stop_each-requires-clause-live g c =
+pub stop_each-requires : goal.stop_each-requires
+stop_each-requires g c =
     let i = c.self.inside in
     subst (λ (x : Held _). All (λ id. IsTrue (is_live (components_of g.E.Engine x).by_id id)) c.as_slice.result.now) c.self.view_is
     (all_live i.nodes c.self.invariant.tree c.args.id.0 (sym c.if-not-contains.ensures.same) (g.E.Engine.live i.engine) c.as_slice.result.now (c.as_slice.ensures.value ∙ c.at_and_below-ids.ensures))

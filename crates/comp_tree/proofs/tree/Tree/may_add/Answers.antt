@@ -12,22 +12,22 @@ pub returns-in_default : goal.returns-in_default
 returns-in_default g c =
     let i = c.self.inside in
     let h : Held _ = record { engine = i.engine; nodes = i.nodes } in
-    subst (λ (x : Held _). first_refusal (refusals_of_add (g.E.Engine.meaning x.engine) (components_of g.E.Engine x) c.args.parent.0 c.args.kit c.args.number c.args.name.now c.args.config.now) ≡ Some NoComponent) c.self.view_is
-    (add_no_parent (g.E.Engine.meaning i.engine) (components_of g.E.Engine h) c.args.parent.0 c.args.kit c.args.number c.args.name.now c.args.config.now (live_same (g.E.Engine.live i.engine) i.nodes c.args.parent.0 ∙ ap is_some (sym c.in_default.ensures)))
+    subst (λ (x : Held _). first_refusal (refusals_of_add (g.E.Engine.meaning x.engine) (components_of g.E.Engine x) c.args.asked.parent.0 c.args.asked.kit c.args.asked.number c.args.asked.name.now c.args.asked.config.now) ≡ Some NoComponent) c.self.view_is
+    (add_no_parent (g.E.Engine.meaning i.engine) (components_of g.E.Engine h) c.args.asked.parent.0 c.args.asked.kit c.args.asked.number c.args.asked.name.now c.args.asked.config.now (live_same (g.E.Engine.live i.engine) i.nodes c.args.asked.parent.0 ∙ ap is_some (sym c.in_default.ensures)))
 
 pub returns-in-Err : goal.returns-in-Err
 returns-in-Err g c =
     let i = c.self.inside in
     let h : Held _ = record { engine = i.engine; nodes = i.nodes } in
-    subst (λ (x : Held _). first_refusal (refusals_of_add (g.E.Engine.meaning x.engine) (components_of g.E.Engine x) c.args.parent.0 c.args.kit c.args.number c.args.name.now c.args.config.now) ≡ Some c.in-Err.refusal) c.self.view_is
-    (add_no_kind (g.E.Engine.meaning i.engine) (components_of g.E.Engine h) c.args.parent.0 c.args.kit c.args.number c.args.name.now c.args.config.now (live_same (g.E.Engine.live i.engine) i.nodes c.args.parent.0 ∙ ap is_some (sym c.in-Some.ensures)) c.in-Err.refusal (c.in-Err.ensures (g.E.Engine.meaning i.engine) (sym c.schema.ensures.same)))
+    subst (λ (x : Held _). first_refusal (refusals_of_add (g.E.Engine.meaning x.engine) (components_of g.E.Engine x) c.args.asked.parent.0 c.args.asked.kit c.args.asked.number c.args.asked.name.now c.args.asked.config.now) ≡ Some c.in-Err.refusal) c.self.view_is
+    (add_no_kind (g.E.Engine.meaning i.engine) (components_of g.E.Engine h) c.args.asked.parent.0 c.args.asked.kit c.args.asked.number c.args.asked.name.now c.args.asked.config.now (live_same (g.E.Engine.live i.engine) i.nodes c.args.asked.parent.0 ∙ ap is_some (sym c.in-Some.ensures)) c.in-Err.refusal (c.in-Err.ensures (g.E.Engine.meaning i.engine) (sym c.schema.ensures.same)))
 
 pub returns-in-Err-new_child : goal.returns-in-Err-new_child
 returns-in-Err-new_child g c =
     let i = c.self.inside in
     let h : Held _ = record { engine = i.engine; nodes = i.nodes } in
-    subst (λ (x : Held _). first_refusal (refusals_of_add (g.E.Engine.meaning x.engine) (components_of g.E.Engine x) c.args.parent.0 c.args.kit c.args.number c.args.name.now c.args.config.now) ≡ Some c.in-Err-new_child.refusal) c.self.view_is
-    (add_no_child (g.E.Engine.meaning i.engine) (components_of g.E.Engine h) c.args.parent.0 c.args.kit c.args.number c.args.name.now c.args.config.now (live_same (g.E.Engine.live i.engine) i.nodes c.args.parent.0 ∙ ap is_some (sym c.in-Some.ensures)) c.in-Ok.kind.0 (c.in-Ok.ensures (g.E.Engine.meaning i.engine) (sym c.schema.ensures.same)) c.in-Err-new_child.refusal (c.in-Err-new_child.ensures (g.E.Engine.live i.engine)))
+    subst (λ (x : Held _). first_refusal (refusals_of_add (g.E.Engine.meaning x.engine) (components_of g.E.Engine x) c.args.asked.parent.0 c.args.asked.kit c.args.asked.number c.args.asked.name.now c.args.asked.config.now) ≡ Some c.in-Err-new_child.refusal) c.self.view_is
+    (add_no_child (g.E.Engine.meaning i.engine) (components_of g.E.Engine h) c.args.asked.parent.0 c.args.asked.kit c.args.asked.number c.args.asked.name.now c.args.asked.config.now (live_same (g.E.Engine.live i.engine) i.nodes c.args.asked.parent.0 ∙ ap is_some (sym c.in-Some.ensures)) c.in-Ok.kind.0 (c.in-Ok.ensures (g.E.Engine.meaning i.engine) (sym c.schema.ensures.same)) c.in-Err-new_child.refusal (c.in-Err-new_child.ensures (g.E.Engine.live i.engine)))
 
 pub config_refusal-requires : goal.config_refusal-requires
 config_refusal-requires g c =
@@ -37,14 +37,14 @@ pub returns-in-Some-config_refusal : goal.returns-in-Some-config_refusal
 returns-in-Some-config_refusal g c =
     let i = c.self.inside in
     let h : Held _ = record { engine = i.engine; nodes = i.nodes } in
-    subst (λ (x : Held _). first_refusal (refusals_of_add (g.E.Engine.meaning x.engine) (components_of g.E.Engine x) c.args.parent.0 c.args.kit c.args.number c.args.name.now c.args.config.now) ≡ Some c.in-Some-config_refusal.refusal) c.self.view_is
-    (add_bad_values (g.E.Engine.meaning i.engine) (components_of g.E.Engine h) c.args.parent.0 c.args.kit c.args.number c.args.name.now c.args.config.now (live_same (g.E.Engine.live i.engine) i.nodes c.args.parent.0 ∙ ap is_some (sym c.in-Some.ensures)) c.in-Ok.kind.0 (c.in-Ok.ensures (g.E.Engine.meaning i.engine) (sym c.schema.ensures.same)) c.in-Ok-new_child.name (c.in-Ok-new_child.ensures (g.E.Engine.live i.engine)) c.in-Some-config_refusal.refusal
+    subst (λ (x : Held _). first_refusal (refusals_of_add (g.E.Engine.meaning x.engine) (components_of g.E.Engine x) c.args.asked.parent.0 c.args.asked.kit c.args.asked.number c.args.asked.name.now c.args.asked.config.now) ≡ Some c.in-Some-config_refusal.refusal) c.self.view_is
+    (add_bad_values (g.E.Engine.meaning i.engine) (components_of g.E.Engine h) c.args.asked.parent.0 c.args.asked.kit c.args.asked.number c.args.asked.name.now c.args.asked.config.now (live_same (g.E.Engine.live i.engine) i.nodes c.args.asked.parent.0 ∙ ap is_some (sym c.in-Some.ensures)) c.in-Ok.kind.0 (c.in-Ok.ensures (g.E.Engine.meaning i.engine) (sym c.schema.ensures.same)) c.in-Ok-new_child.name (c.in-Ok-new_child.ensures (g.E.Engine.live i.engine)) c.in-Some-config_refusal.refusal
     (sym (c.in-Some-config_refusal.ensures (g.E.Engine.meaning i.engine) (sym c.schema-2.ensures.same))))
 
 pub returns-in-None : goal.returns-in-None
 returns-in-None g c =
     let i = c.self.inside in
     let h : Held _ = record { engine = i.engine; nodes = i.nodes } in
-    subst (λ (x : Held _). MayAdd (g.E.Engine.meaning x.engine) (components_of g.E.Engine x) c.args.parent.0 c.args.kit c.args.number c.args.name.now c.args.config.now c.in-Ok.kind.0 c.in-Ok-new_child.name) c.self.view_is
-    (may_add (g.E.Engine.meaning i.engine) (components_of g.E.Engine h) c.args.parent.0 c.args.kit c.args.number c.args.name.now c.args.config.now (live_same (g.E.Engine.live i.engine) i.nodes c.args.parent.0 ∙ ap is_some (sym c.in-Some.ensures)) c.in-Ok.kind.0 (c.in-Ok.ensures (g.E.Engine.meaning i.engine) (sym c.schema.ensures.same)) c.in-Ok-new_child.name (c.in-Ok-new_child.ensures (g.E.Engine.live i.engine))
+    subst (λ (x : Held _). MayAdd (g.E.Engine.meaning x.engine) (components_of g.E.Engine x) c.args.asked.parent.0 c.args.asked.kit c.args.asked.number c.args.asked.name.now c.args.asked.config.now c.in-Ok.kind.0 c.in-Ok-new_child.name) c.self.view_is
+    (may_add (g.E.Engine.meaning i.engine) (components_of g.E.Engine h) c.args.asked.parent.0 c.args.asked.kit c.args.asked.number c.args.asked.name.now c.args.asked.config.now (live_same (g.E.Engine.live i.engine) i.nodes c.args.asked.parent.0 ∙ ap is_some (sym c.in-Some.ensures)) c.in-Ok.kind.0 (c.in-Ok.ensures (g.E.Engine.meaning i.engine) (sym c.schema.ensures.same)) c.in-Ok-new_child.name (c.in-Ok-new_child.ensures (g.E.Engine.live i.engine))
     (sym (c.in-None.ensures (g.E.Engine.meaning i.engine) (sym c.schema-2.ensures.same))))

@@ -1,22 +1,17 @@
 use Rattle.std.proofs.Common.{◌≡◌, ◌<◌, ◌+◌, ◌↔◌, ℕ, Some, sym, ap, subst, ◌∙◌, arith}
-use Rattle.std.specs.Prelude.{Result, Err}
 use Rattle.std.specs.FinMap as map
 use Rattle.std.specs.Ordering.{nat_cmp}
 use Rattle.sed_typed.specs.Schemas.{type_at as class_numbered}
 use Rattle.sed_typed.specs.SysTypes.{app_type}
-use Rattle.sed_engine.specs.declared.call.AddRefusal.{AddRefusal}
 use Rattle.sed_engine.specs.declared.call.AddRefusal.TheVariants.{DataFull}
 use Rattle.sed_engine.specs.Code.{Meaning, Object, Places, data_of, new_object}
 use Rattle.comp_tree.specs.Edits.{app_class}
 use Rattle.comp_tree.specs.Held.{IsPlaced, IsTreeOf}
+use Rattle.comp_tree.proofs.MatchLemmas.{err_other}
 use Rattle.comp_tree.proofs.NodeTrees.{tree_first}
 use Rattle.comp_tree.proofs.TreeLemmas.{app_class_is, no_data, placed_first, app_first}
 use Rattle.comp_tree.proofs.MarkCalls.{all_none, all_set}
 use Rattle.comp_tree.proofs.tree.Tree.new.Goals as goal
-
--- the same error beside another type of value
-err_other : {A B : Type 0} (refusal : AddRefusal) → ◌≡◌ {A = Result A AddRefusal} (Err refusal) (Err DataFull) → ◌≡◌ {A = Result B AddRefusal} (Err refusal) (Err DataFull)
-err_other refusal e = ap Err (let same : refusal ≡ DataFull = cc in same)
 
 -- where nothing lives the App passes a limit by its own data
 passes : (m : Meaning) (live : Places) (limit kind : ℕ) → live ≡ map.empty → class_numbered m.schema.classes 0 app_type ≡ Some kind
@@ -33,7 +28,7 @@ pub returns-in-Err-clause-full : goal.returns-in-Err-clause-full
 returns-in-Err-clause-full g c =
     let class = ap (λ s. class_numbered s.classes 0 app_type) (sym c.schema.ensures.same) ∙ c.app_type-kind.ensures in
     let is = passes (g.E.Engine.meaning c.args.engine) (g.E.Engine.live c.args.engine) (g.E.Engine.limit c.args.engine) c.app_type-kind.result.0 c.requires class in
-    (λ e. is.0 (c.in-Err.ensures.full.0 (err_other c.in-Err.refusal e)), λ lt. err_other c.in-Err.refusal (c.in-Err.ensures.full.1 (is.1 lt)))
+    (λ e. is.0 (c.in-Err.ensures.full.0 (err_other c.in-Err.refusal DataFull e)), λ lt. err_other c.in-Err.refusal DataFull (c.in-Err.ensures.full.1 (is.1 lt)))
 
 pub returns-in-Err-new-clause-full : goal.returns-in-Err-new-clause-full
 returns-in-Err-new-clause-full g c =

@@ -17,12 +17,12 @@ use Rattle.comp_tree.proofs.tree.Tree.stop_each.Goals as goal
 pub loop-id-init : goal.loop-id-init
 loop-id-init g c = record { left = refl; live = λ q. refl; marks = keeps_same g.E.Engine (values_of_all c.args.ids.now) c.args.self.now c.args.self.now refl; same = same_yet }
 
-pub callback-end-requires-clause-live : goal.callback-end-requires-clause-live
-callback-end-requires-clause-live g c =
+pub callback-end-requires : goal.callback-end-requires
+callback-end-requires g c =
     let ids = c.args.ids.now in
     let x = get_or ids c.loop-id.id-index 0 in
     c.loop-id.invariant.live x
-    ∙ one_of (λ y. IsTrue (is_live (components_of g.E.Engine c.args.self.now).by_id y)) ids c.loop-id.id-index x c.requires.live c.loop-id-test.true (sym (get_or_default_zero ids c.loop-id.id-index x c.loop-id-test.true))
+    ∙ one_of (λ y. IsTrue (is_live (components_of g.E.Engine c.args.self.now).by_id y)) ids c.loop-id.id-index x c.requires c.loop-id-test.true (sym (get_or_default_zero ids c.loop-id.id-index x c.loop-id-test.true))
 
 pub loop-id-preserved : goal.loop-id-preserved
 loop-id-preserved g c =

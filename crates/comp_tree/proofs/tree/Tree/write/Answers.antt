@@ -12,8 +12,8 @@ use Rattle.comp_tree.proofs.MarkCalls.{keeps_then, same_either}
 use Rattle.comp_tree.proofs.RunLemmas.{run_alike}
 use Rattle.comp_tree.proofs.tree.Tree.write.Goals as goal
 
-pub callback-end-requires-clause-live : goal.callback-end-requires-clause-live
-callback-end-requires-clause-live g c =
+pub callback-end-requires : goal.callback-end-requires
+callback-end-requires g c =
     subst (λ (a : Components). IsSome (map.get a.by_id c.args.id.0)) (sym c.assign.ensures.stored)
     (store_live (g.E.Engine.meaning c.args.self.now.engine) (components_of g.E.Engine c.args.self.now) c.args.id.0 c.args.slot _ _ c.in-Ok.ensures.may)
 

@@ -1,4 +1,4 @@
-use Rattle.std.proofs.Common.{sym, ◌∙◌, subst}
+use Rattle.std.proofs.Common.{sym, subst}
 use Rattle.dasp_msg.specs.Receiving.{GapBits, ReceivesLike}
 use Rattle.dasp_msg.proofs.AheadLemmas.{is_ahead-bits}
 use Rattle.dasp_msg.proofs.receiver.Receiver.is_ahead.Goals as goal

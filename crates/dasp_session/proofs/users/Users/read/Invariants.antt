@@ -1,4 +1,4 @@
-use Rattle.std.proofs.Common.{◌≡◌, length, vec_len, vec_capacity}
+use Rattle.std.proofs.Common.{◌≡◌, length, vec_capacity}
 use Rattle.dasp_session.proofs.FileLemmas.{ReadSoFar}
 use Rattle.dasp_session.proofs.users.Users.read.Given as goal
 

@@ -1,64 +1,32 @@
-use Rattle.std.proofs.Common.{ap, refl, sym, subst}
-use Rattle.disk_model.specs.Replay.{synced, other}
-use Rattle.disk_model.specs.Recorded.{calls_of, HasEntry}
-use Rattle.disk_model.proofs.Entries.{tried, tried_record, quiet_entry, synced_is_quiet}
-use Rattle.disk_model.proofs.Steps.{call_time, call_marks, call_syncs, call_durable, failed_sync}
-use Rattle.disk_model.proofs.Tried.{history, idle_tried, recorded_call}
-use Rattle.disk_model.specs.declared.journal.Entry.TheVariants.{Synced, Other}
-use Rattle.sed_outside.specs.Failing.{FailsNow}
-use Rattle.disk_model.proofs.Fits.{has_room, room_is}
-use Rattle.disk_model.proofs.Recording.{added_entry, full_call, tried_call}
+use Rattle.std.proofs.Common.{refl, rules, ◌∙◌}
+use Rattle.disk_model.specs.declared.journal.Entry.TheVariants.{Synced}
+use Rattle.disk_model.proofs.Recording.{has, Has, Adds, fits, goes_synced, is_call, counts_call, failed_of, recorded_sync, synced_durable, synced_records, synced_undone, unmarked}
 use Rattle.disk_model.proofs.mem_disk.MemDiskDisk.sync.Goals as goal
 
+was : (c : goal.After-answer) → Has c.self.inside.first.items c.self.inside.log c.self.inside.journal c.self.inside.calls c.args.self.now
+was c = has _ _ _ _ c.self.view_is
+
+adds : (c : goal.After-answer) → Adds Synced c.self.inside.calls c.self.inside.journal c.record_call-done.new.journal c.record_call-done.result
+adds c = let said = c.record_call-done.ensures in record { added = said.done; failed = said.failed; planned = said.planned; fits = said.fits; full = said.full }
+
 pub invariant_of-self : goal.invariant_of-self
-invariant_of-self c = quiet_entry _ _ _ _ c.self.inside.journal c.record_call.new.journal Synced synced_is_quiet c.if-record_call.ensures.done c.self.invariant
+invariant_of-self c = recorded_sync _ (adds c) c.self.invariant
 
-pub invariant_of-self-else-record_call : goal.invariant_of-self-else-record_call
-invariant_of-self-else-record_call c = tried_record _ _ _ _ c.self.inside.journal c.record_call.new.journal (tried c.if-record_call.ensures.failed) c.self.invariant
+pub returns-clause-call : goal.returns-clause-call
+returns-clause-call c = is_call (was c) (has _ _ c.record_call-done.new.journal c.record_call-done.new.calls refl) (goes_synced (was c) (has _ _ c.record_call-done.new.journal c.record_call-done.new.calls refl) _ c.answer.result c.answer.ensures.done (adds c))
+    (counts_call (adds c) c.record_call-done.ensures.calls c.record_call-done.ensures.limit) (failed_of _ c.answer.ensures.done) (search rules) (search rules)
 
-pub returns-then-record_call-clause-time : goal.returns-then-record_call-clause-time
-returns-then-record_call-clause-time c = call_time c.args.self.now.history _ synced (ap (λ h. h.history.first) c.self.view_is) (recorded_call c.args.self.now.history c.self.inside.log.bytes c.self.inside.journal c.record_call.new.journal Synced (ap (λ h. h.history.calls) c.self.view_is) c.if-record_call.ensures.done)
+pub returns-clause-durable : goal.returns-clause-durable
+returns-clause-durable c = synced_durable (was c) (has _ _ c.record_call-done.new.journal c.record_call-done.new.calls refl) _ c.answer.result c.answer.ensures.done (adds c)
 
-pub returns-then-record_call-clause-marks : goal.returns-then-record_call-clause-marks
-returns-then-record_call-clause-marks c = call_marks c.args.self.now.history (history c.self.inside.first.items (calls_of c.self.inside.log.bytes c.record_call.new.journal.entries)) synced (ap (λ h. h.history.first) c.self.view_is) (recorded_call c.args.self.now.history c.self.inside.log.bytes c.self.inside.journal c.record_call.new.journal Synced (ap (λ h. h.history.calls) c.self.view_is) c.if-record_call.ensures.done)
+pub returns-clause-unmarked : goal.returns-clause-unmarked
+returns-clause-unmarked c = unmarked c.self.inside.journal c.record_call-done.new.journal Synced _ c.answer.result c.answer.ensures.done c.record_call-done.ensures.done
 
-pub returns-then-record_call-clause-syncs : goal.returns-then-record_call-clause-syncs
-returns-then-record_call-clause-syncs c = call_syncs c.args.self.now.history (history c.self.inside.first.items (calls_of c.self.inside.log.bytes c.record_call.new.journal.entries)) synced (ap (λ h. h.history.first) c.self.view_is) (recorded_call c.args.self.now.history c.self.inside.log.bytes c.self.inside.journal c.record_call.new.journal Synced (ap (λ h. h.history.calls) c.self.view_is) c.if-record_call.ensures.done)
+pub returns-clause-fits : goal.returns-clause-fits
+returns-clause-fits c free room = c.answer.ensures.done ∙ fits (was c) (adds c) free room
 
-pub returns-then-record_call-clause-durable : goal.returns-then-record_call-clause-durable
-returns-then-record_call-clause-durable c = call_durable c.args.self.now.history _ synced (ap (λ h. h.history.first) c.self.view_is) (recorded_call c.args.self.now.history c.self.inside.log.bytes c.self.inside.journal c.record_call.new.journal Synced (ap (λ h. h.history.calls) c.self.view_is) c.if-record_call.ensures.done) _ refl
+pub returns-clause-records : goal.returns-clause-records
+returns-clause-records c = synced_records (was c) (has _ _ c.record_call-done.new.journal c.record_call-done.new.calls refl) _ (adds c)
 
-pub returns-else-record_call-clause-time : goal.returns-else-record_call-clause-time
-returns-else-record_call-clause-time c = (idle_tried c.args.self.now.history _ c.self.inside.log.bytes c.self.inside.journal c.record_call.new.journal (ap (λ h. h.history.first) c.self.view_is) (ap (λ h. h.history.calls) c.self.view_is) refl (tried c.if-record_call.ensures.failed)).time
-
-pub returns-else-record_call-clause-marks : goal.returns-else-record_call-clause-marks
-returns-else-record_call-clause-marks c = (idle_tried c.args.self.now.history (history c.self.inside.first.items (calls_of c.self.inside.log.bytes c.record_call.new.journal.entries)) c.self.inside.log.bytes c.self.inside.journal c.record_call.new.journal (ap (λ h. h.history.first) c.self.view_is) (ap (λ h. h.history.calls) c.self.view_is) refl (tried c.if-record_call.ensures.failed)).marks
-
-pub returns-else-record_call-clause-syncs : goal.returns-else-record_call-clause-syncs
-returns-else-record_call-clause-syncs c = (idle_tried c.args.self.now.history (history c.self.inside.first.items (calls_of c.self.inside.log.bytes c.record_call.new.journal.entries)) c.self.inside.log.bytes c.self.inside.journal c.record_call.new.journal (ap (λ h. h.history.first) c.self.view_is) (ap (λ h. h.history.calls) c.self.view_is) refl (tried c.if-record_call.ensures.failed)).syncs
-
-pub returns-else-record_call-clause-durable : goal.returns-else-record_call-clause-durable
-returns-else-record_call-clause-durable c = failed_sync _ (idle_tried c.args.self.now.history _ c.self.inside.log.bytes c.self.inside.journal c.record_call.new.journal (ap (λ h. h.history.first) c.self.view_is) (ap (λ h. h.history.calls) c.self.view_is) refl (tried c.if-record_call.ensures.failed)).keeps
-
-pub returns-else-record_call-clause-fits : goal.returns-else-record_call-clause-fits
-returns-else-record_call-clause-fits c free room =
-    c.if-record_call.ensures.fits (subst (λ p. FailsNow p → ⊥) (sym (ap (λ h. h.plan) c.self.view_is)) free)
-    (has_room c.args.self.now c.self.inside.log.bytes c.self.inside.journal.entries (ap (λ h. h.history.calls) c.self.view_is) c.self.inside.journal.limit (ap (λ h. h.bounds.limit) c.self.view_is) room)
-
-pub returns-then-record_call-clause-full : goal.returns-then-record_call-clause-full
-returns-then-record_call-clause-full c full = absurd (full (room_is c.args.self.now c.self.inside.log.bytes c.self.inside.journal.entries (ap (λ h. h.history.calls) c.self.view_is) c.self.inside.journal.limit (ap (λ h. h.bounds.limit) c.self.view_is) (c.record_call.ensures.full c.if-record_call.true)))
-
-pub returns-then-record_call-clause-records : goal.returns-then-record_call-clause-records
-returns-then-record_call-clause-records c free = added_entry c.args.self.now _ c.self.inside.log.bytes c.self.inside.journal c.record_call.new.journal (ap (λ h. h.history.first) c.self.view_is) (ap (λ h. h.history.calls) c.self.view_is) (ap (λ h. h.history.is_marked) c.self.view_is) (ap (λ h. h.bounds.limit) c.self.view_is) refl Synced synced (λ l. refl) refl (c.record_call.ensures.full c.if-record_call.true) c.if-record_call.ensures.done
-
-pub returns-then-record_call-clause-undone : goal.returns-then-record_call-clause-undone
-returns-then-record_call-clause-undone c fails = absurd (let failed = c.record_call.ensures.planned (subst FailsNow (sym (ap (λ h. h.plan) c.self.view_is)) fails) in let done = c.if-record_call.true in cc)
-
-pub returns-else-record_call-clause-records : goal.returns-else-record_call-clause-records
-returns-else-record_call-clause-records c free = full_call c.args.self.now _ c.self.inside.log.bytes c.self.inside.journal c.record_call.new.journal (ap (λ h. h.history.first) c.self.view_is) (ap (λ h. h.history.calls) c.self.view_is) (ap (λ h. h.history.is_marked) c.self.view_is) (ap (λ h. h.bounds.limit) c.self.view_is) refl synced full refl (c.if-record_call.ensures.failed.full full)
-  where
-    full : HasEntry c.self.inside.journal → ⊥
-    full there = let done = c.record_call.ensures.fits (subst (λ p. FailsNow p → ⊥) (sym (ap (λ h. h.plan) c.self.view_is)) free) there in let failed = c.if-record_call.false in cc
-
-pub returns-else-record_call-clause-undone : goal.returns-else-record_call-clause-undone
-returns-else-record_call-clause-undone c fails = tried_call c.args.self.now _ c.self.inside.log.bytes c.self.inside.journal c.record_call.new.journal (ap (λ h. h.history.first) c.self.view_is) (ap (λ h. h.history.calls) c.self.view_is) (ap (λ h. h.history.is_marked) c.self.view_is) (ap (λ h. h.bounds.limit) c.self.view_is) refl Other other (λ l. refl) refl c.if-record_call.ensures.failed
+pub returns-clause-undone : goal.returns-clause-undone
+returns-clause-undone c = synced_undone (was c) (has _ _ c.record_call-done.new.journal c.record_call-done.new.calls refl) _ (adds c)

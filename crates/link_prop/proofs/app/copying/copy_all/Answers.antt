@@ -12,8 +12,8 @@ use Rattle.link_prop.proofs.CopiedLinks.{CopiedSoFar, alike_copy, copied_more, l
 use Rattle.link_prop.proofs.CopiedMarks.{keeps_more}
 use Rattle.link_prop.proofs.app.copying.copy_all.Goals as goal
 
-pub copy_one-trapped-requires-clause-typed : goal.copy_one-trapped-requires-clause-typed
-copy_one-trapped-requires-clause-typed g c =
+pub copy_one-trapped-requires : goal.copy_one-trapped-requires
+copy_one-trapped-requires g c =
     let m = g.E.Engine.meaning c.args.tree.now.engine in
     let now = components_of g.E.Engine c.loop-at.tree in
     subst (λ (m : Meaning). IsLink m now.by_id c.index-links-at.result) (sym c.loop-at.invariant.same.meaning)

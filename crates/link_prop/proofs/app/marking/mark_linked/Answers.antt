@@ -1,5 +1,5 @@
-use Rattle.std.proofs.Common.{◌≡◌, ℕ, Bool, true, false, refl, sym, ◌∙◌, ap, subst, ◌<◌, ◌≤◌, length, take}
-use Rattle.std.specs.Prelude.{List, ◌||◌, ◌&&◌}
+use Rattle.std.proofs.Common.{ℕ, Bool, sym, ◌∙◌, ap, subst, ◌<◌, ◌≤◌, take}
+use Rattle.std.specs.Prelude.{◌||◌, ◌&&◌}
 use Rattle.std.specs.List.{list_any}
 use Rattle.std.proofs.lemmas.List.Folds.{list_any_more}
 use Rattle.std.proofs.lemmas.Option.{get_or_from_slice_get}

@@ -20,6 +20,7 @@ pub invariant_of-result : goal.invariant_of-result
 invariant_of-result c = record {
   objects = subst (λ (i : Image). IsLoaded i c.in_ok-pool.pool) c.image-4.ensures.image c.in_ok-pool.ensures.loaded;
   schema_is = c.in_ok-schema.ensures ∙ ap schema_of c.image.ensures.image;
+  told = c.schema_is_spelled_out.ensures.told;
   zeros_are = subst (λ (i : Image). AreZeros i c.in_ok-zeros.zeros.items) c.image-2.ensures.image c.in_ok-zeros.ensures;
   rows_are = subst (λ (i : Image). AreRows i.methods c.in_ok-rows.rows.items) c.image-3.ensures.image c.in_ok-rows.ensures;
   room = record {

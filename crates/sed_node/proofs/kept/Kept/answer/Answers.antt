@@ -1,9 +1,8 @@
 use Rattle.std.proofs.Common.{ℕ, refl, sym, subst}
 use Rattle.std.specs.Prelude.{Result}
 use Rattle.sed_value.specs.declared.refusal.Refusal.{Refusal}
-use Rattle.sox_msg.specs.Answered.{refused}
+use Rattle.sox_msg.specs.Answered.{answered_text, refused}
 use Rattle.sox_msg.specs.declared.command.Request.{Request}
-use Rattle.sox_serve.specs.Replies.{answered_text}
 use Rattle.dasp_session.specs.Receive.{post_of}
 use Rattle.dasp_session.specs.Standing.{Leaves}
 use Rattle.node_events.specs.Heard.{Wish, is_refused}
@@ -59,7 +58,7 @@ returns-in-Err-clause-answers g c = λ n wish holds is.
 pub returns-in-Err-clause-is_kept : goal.returns-in-Err-clause-is_kept
 returns-in-Err-clause-is_kept g c =
     kept_by g.E.Engine c.args.self.now _ c.requires.is_kept refl c.requires.is_kept.whole c.requires.is_kept.agree
-    (λ part. refl) refl
+    (λ part. refl)
 
 pub returns-in-Err-clause-same : goal.returns-in-Err-clause-same
 returns-in-Err-clause-same g c = record { code = refl; setup = refl; fixed = refl }

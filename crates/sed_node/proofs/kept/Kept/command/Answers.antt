@@ -26,12 +26,6 @@ use Rattle.sed_node.proofs.Saved.{begun_is, may_happen}
 use Rattle.sed_node.proofs.Small.{served_small}
 use Rattle.sed_node.proofs.kept.Kept.command.Goals as goal
 
-pub serve-asked-requires-clause-some_turns : goal.serve-asked-requires-clause-some_turns
-serve-asked-requires-clause-some_turns g c = c.requires.is_kept.turns.some
-
-pub serve-asked-requires-clause-most_turns : goal.serve-asked-requires-clause-most_turns
-serve-asked-requires-clause-most_turns g c = c.requires.is_kept.turns.most
-
 pub subscribe_as-requires-clause-small : goal.subscribe_as-requires-clause-small
 subscribe_as-requires-clause-small g c =
     served_small g.E.Engine c.args.self.now.app c.serve-asked.new.app (asked_of c.args.request.now.command)
@@ -88,7 +82,7 @@ returns-then-is_save-clause-is_kept g c =
     c.requires.is_kept.whole)
     (c.agreement_lasts.ensures c.args.self.now.app c.serve-asked.new.app (subscriptions c.args.self.now.subs)
     c.serve-asked.ensures.tells c.requires.is_kept.agree)
-    (λ part. refl) refl
+    (λ part. refl)
 
 pub returns-then-is_save-clause-same : goal.returns-then-is_save-clause-same
 returns-then-is_save-clause-same g c = record {
@@ -143,7 +137,7 @@ returns-clause-is_kept g c =
     (c.subscribe_as.ensures.agree
     (c.agreement_lasts.ensures c.args.self.now.app c.serve-asked.new.app (subscriptions c.args.self.now.subs)
     c.serve-asked.ensures.tells c.requires.is_kept.agree))
-    c.subscribe_as.ensures.room refl
+    c.subscribe_as.ensures.room
 
 pub returns-clause-same : goal.returns-clause-same
 returns-clause-same g c =

@@ -24,7 +24,7 @@ drop_session-requires g c = c.datagram.ensures.ended_place _ c.in-Ended.is
 pub answer-requires-clause-is_kept : goal.answer-requires-clause-is_kept
 answer-requires-clause-is_kept g c =
     let kept = c.requires.stands.1.is_kept in
-    kept_by g.E.Engine c.args.self.now _ kept refl kept.whole kept.agree (λ part. refl) refl
+    kept_by g.E.Engine c.args.self.now _ kept refl kept.whole kept.agree (λ part. refl)
 
 pub answer-requires-clause-place : goal.answer-requires-clause-place
 answer-requires-clause-place g c = c.datagram.ensures.payload_place _ _ c.in-Payload.is
@@ -43,7 +43,7 @@ returns-in-Nothing-clause-delivers g c = λ n heard stands is.
     c.few_messages_are_sent.ensures.datagram g.E.Engine
     g.D.Disk.meaning c.args.self.now _ n c.args.from heard nothing_wrong
     c.datagram.new.out c.args.disk.now c.args.disk.now stands
-    (kept_by g.E.Engine c.args.self.now _ kept refl kept.whole kept.agree (λ part. refl) refl)
+    (kept_by g.E.Engine c.args.self.now _ kept refl kept.whole kept.agree (λ part. refl))
     (record { code = refl; setup = refl; fixed = refl }) (tt {0})
     (λ so. absurd (let no : false ≡ true = so in cc))
     (lands_nothing g.E.Engine g.D.Disk.meaning c.args.self.now _ n c.args.from nothing_wrong c.args.bytes.now
@@ -68,7 +68,7 @@ returns-in-Ended-clause-delivers g c = λ n heard stands is.
     (kept_by g.E.Engine c.args.self.now _ kept refl kept.whole
     (c.subscribing_keeps_agreement.ensures.no_session c.args.self.now.app (subscriptions c.args.self.now.subs)
     (subscriptions c.drop_session.new.self) c.in-Ended.place
-    c.drop_session.ensures.after kept.agree) c.drop_session.ensures.room refl)
+    c.drop_session.ensures.after kept.agree) c.drop_session.ensures.room)
     (record { code = refl; setup = refl; fixed = refl }) (tt {0})
     (λ so. absurd (let no : false ≡ true = so in cc))
     (lands_ended g.E.Engine g.D.Disk.meaning c.args.self.now _ n c.args.from nothing_wrong c.args.bytes.now

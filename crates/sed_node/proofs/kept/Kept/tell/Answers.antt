@@ -50,7 +50,7 @@ events-preserved g c =
           (c.events_keep_agreement.ensures.event c.events.self.app c.next_event.new.app subs
           (subscriptions c.next_event.new.self) place (before_it id part) id part
           c.in-Some.count c.events.text c.next_event.new.into gives i.is_kept.agree)
-          c.next_event.ensures.room refl;
+          c.next_event.ensures.room;
       same = record { code = gives.meaning ∙ i.same.code; setup = i.same.setup; fixed = gives.steady ∙ i.same.fixed };
       live = c.post.ensures.live;
       most = (let waits = c.post.ensures.waits in let few =
@@ -83,7 +83,7 @@ returns-in-None-clause-is_kept g c =
     (subst (AllMarksAgree g.E.Engine c.next_event.new.app) (sym none.1)
     (c.events_keep_agreement.ensures.none c.events.self.app c.next_event.new.app (subscriptions c.events.self.subs)
     c.args.place all_of_them none.0 i.is_kept.agree))
-    c.next_event.ensures.room refl
+    c.next_event.ensures.room
 
 pub returns-in-None-clause-same : goal.returns-in-None-clause-same
 returns-in-None-clause-same g c =

@@ -17,12 +17,6 @@ use Rattle.sed_node.proofs.Keeping.{kept_by}
 use Rattle.sed_node.proofs.Sending.{at_most}
 use Rattle.sed_node.proofs.kept.Kept.tick.Goals as goal
 
-pub cycle-end-requires-clause-some_turns : goal.cycle-end-requires-clause-some_turns
-cycle-end-requires-clause-some_turns g c = c.requires.stands.1.is_kept.turns.some
-
-pub cycle-end-requires-clause-most_turns : goal.cycle-end-requires-clause-most_turns
-cycle-end-requires-clause-most_turns g c = c.requires.stands.1.is_kept.turns.most
-
 pub visit_all-requires-clause-is_kept : goal.visit_all-requires-clause-is_kept
 visit_all-requires-clause-is_kept g c =
     let kept = c.requires.stands.1.is_kept in
@@ -33,7 +27,7 @@ visit_all-requires-clause-is_kept g c =
     kept.code kept.whole))
     (c.agreement_lasts.ensures c.args.self.now.app c.cycle-end.new.app (subscriptions c.args.self.now.subs)
     c.cycle-end.ensures.marks.tells kept.agree)
-    (λ part. refl) refl
+    (λ part. refl)
 
 pub returns : goal.returns
 returns g c = record {

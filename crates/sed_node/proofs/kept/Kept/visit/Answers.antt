@@ -34,7 +34,7 @@ returns-then-not-tick-clause-is_kept g c =
     (c.subscribing_keeps_agreement.ensures.no_session c.args.self.now.app (subscriptions c.args.self.now.subs)
     (subscriptions c.drop_session.new.self) c.args.place
     c.drop_session.ensures.after c.requires.is_kept.agree)
-    c.drop_session.ensures.room refl
+    c.drop_session.ensures.room
 
 pub returns-then-not-tick-clause-same : goal.returns-then-not-tick-clause-same
 returns-then-not-tick-clause-same g c = record { code = refl; setup = refl; fixed = refl }
@@ -42,7 +42,7 @@ returns-then-not-tick-clause-same g c = record { code = refl; setup = refl; fixe
 pub tell-requires-clause-is_kept : goal.tell-requires-clause-is_kept
 tell-requires-clause-is_kept g c =
     kept_by g.E.Engine c.args.self.now _ c.requires.is_kept refl c.requires.is_kept.whole c.requires.is_kept.agree
-    (λ part. refl) refl
+    (λ part. refl)
 
 pub tell-requires-clause-room : goal.tell-requires-clause-room
 tell-requires-clause-room g c =
@@ -56,7 +56,7 @@ keep-requires-clause-room g c = let room = c.tell.ensures.room in let place = c.
 pub returns-clause-is_kept : goal.returns-clause-is_kept
 returns-clause-is_kept g c =
     kept_by g.E.Engine c.tell.new.self _ c.tell.ensures.is_kept refl c.tell.ensures.is_kept.whole
-    c.tell.ensures.is_kept.agree (λ part. refl) refl
+    c.tell.ensures.is_kept.agree (λ part. refl)
 
 pub returns-clause-same : goal.returns-clause-same
 returns-clause-same g c =

@@ -16,12 +16,6 @@ use Rattle.sed_node.specs.Standing.{StandsFor}
 use Rattle.sed_node.proofs.node.Node.open.Goals.{After-begin}
 use Rattle.sed_node.proofs.node.Node.open.Goals as goal
 
-pub begin-requires-clause-some_turns : goal.begin-requires-clause-some_turns
-begin-requires-clause-some_turns g c = c.requires.turns.some
-
-pub begin-requires-clause-most_turns : goal.begin-requires-clause-most_turns
-begin-requires-clause-most_turns g c = c.requires.turns.most
-
 -- the node that has begun stands for the one that is opened
 begun : (g : _) (c : After-begin g) → StandsFor g.E.Engine (record {
   app = c.begin.new.app;
@@ -41,7 +35,7 @@ begun g c =
     let same : c.schema-schema.result.now ≡ m.schema = subst (λ (h : Held _). c.schema-schema.result.now ≡ (g.E.Engine.meaning h.engine).schema)
     c.tree.ensures c.schema-schema.ensures.same in
     let begun = subst (λ (x : Cycled). Whole m x.application) (sym c.begin.ensures.begun)
-    (c.a_cycle_keeps_whole.ensures.begin m a c.args.turns _ whole c.requires.whole) in
+    (c.a_cycle_keeps_whole.ensures.begin m a c.args.turns _ whole c.requires) in
     record {
       holds = record {
         application = ap (λ (x : Cycled). x.application) c.begin.ensures.begun
@@ -60,7 +54,6 @@ begun g c =
             (sym c.begin.ensures.same.meaning)
             (subst (λ (n : ℕ). longest m.schema part ≤ n)
             (sym (c.in_ok-subs.ensures.room part ∙ ap (λ (s : Schema). longest s part) same)) (omega arith));
-        turns = c.requires.turns;
       };
       only_open = c.only_open_sessions_have_subscribed.ensures.opened m s a c.args.users c.args.secret c.args.moment;
       windows = c.few_messages_are_sent.ensures.opened m s a c.args.users c.args.secret c.args.moment;

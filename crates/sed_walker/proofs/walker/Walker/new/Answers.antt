@@ -16,7 +16,7 @@ pub invariant_of-result : goal.invariant_of-result
 invariant_of-result c =
     let plan = c.in_ok-slots.slots in
     held-first plan c.args.program c.in_ok-slots.ensures c.new-2.result c.new-2.ensures.empty c.in_ok-statics.statics c.args.limit
-    (c.typed_programs_are_whole.ensures c.args.program c.requires)
+    (c.typed_programs_are_whole.ensures c.args.program c.requires) c.schema_is_spelled_out.ensures.told
     (begins c.plan.result.now c.plan-2.result.now plan c.statics.result c.in_ok-statics.statics c.plan.ensures c.plan-2.ensures c.statics.ensures c.in_ok-statics.ensures)
 
 pub returns-clause-statics : goal.returns-clause-statics
