@@ -1,5 +1,5 @@
 -- A command that is not refused, and tables of which no row holds.
-use Rattle.std.proofs.Common.{ℕ, ◌≡◌, Bool, true, false, refl}
+use Rattle.std.proofs.Common.{◌≡◌, Bool, true, false, refl}
 use Rattle.std.specs.Prelude.{Option, Some, None, Result, Ok, Err, IsTrue, not, List, [], ◌∷◌, if◌then◌else◌}
 use Rattle.sed_value.specs.declared.refusal.Refusal.{Refusal}
 use Rattle.comp_tree.specs.Edit.{Edited, unless_refused}

@@ -40,10 +40,12 @@ module _ (m : Meaning) (code : IsWhole m) (stored : (o : Object) (slot : ℕ) (v
       whole_copies some (λ P all. All-tail P l some (among P all)) (copy_along m turns moment s l)
       (whole_along s l whole (All-head (IsLink m s.left.by_id) l some (among (IsLink m s.left.by_id) whole.formed.links)))
 
+  pub whole_into : (s : Counted) (id : ℕ) → Whole m (with s.left) → Whole m (with (copy_into m links turns moment s id).left)
+  whole_into s id = whole_copies (links_into id links) (λ P all. All-filter (λ (l : Link). l.to == id) P links all) s
+
   whole_visit : (s : Counted) (id : ℕ) → Whole m (with s.left) → Whole m (with (visit m links turns moment s id).left)
   whole_visit s id whole =
-      whole_run m code (with (copy_into m links turns moment s id).left)
-      (whole_copies (links_into id links) (λ P all. All-filter (λ (l : Link). l.to == id) P links all) s whole) id Execute Nothing turns moment
+      whole_run m code (with (copy_into m links turns moment s id).left) (whole_into s id whole) id Execute Nothing turns moment
 
   whole_visits : (ids : List ℕ) (s : Counted) → Whole m (with s.left) → Whole m (with (fold (visit m links turns moment) s ids).left)
   whole_visits [] s whole = whole

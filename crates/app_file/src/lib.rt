@@ -18,7 +18,9 @@ mod kept;
 mod laws;
 pub mod refusal;
 
-pub use cycles::a_cycle_keeps_whole;
+pub use cycles::{
+    a_callback_keeps_whole, a_cycle_keeps_whole, an_execute_keeps_whole, copies_keep_whole,
+};
 pub use edits::an_edit_keeps_whole;
 pub use first::the_app_alone_is_whole;
 pub use kept::texts_are_files_of_what_is_kept;

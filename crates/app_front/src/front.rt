@@ -24,13 +24,17 @@ pub(crate) struct Front {
     kits: Items<KitRef>,
 }
 
-/// Reads the front of a file, and gives its version where its kits are those of the schema; the reader then stands
-/// behind the kits.
-///
-/// `NotAnApp` comes exactly where the bytes begin with no front, and `WrongKits` exactly where they begin with one of
-/// other kits, with the first place at which the two lists differ; `Memory` may come in the place of any answer. It is
-/// wanted for the kits alone, of which there are at most 255. After an error it isn't said where the reader stands.
-pub fn read_front(alloc: Global, schema: &Schema, reader: &mut Reader) -> Result<u32, AppRefusal>
+// Reads the front of a file, and gives its version where its kits are those of the schema; the reader then stands
+// behind the kits.
+//
+// `NotAnApp` comes exactly where the bytes begin with no front, and `WrongKits` exactly where they begin with one of
+// other kits, with the first place at which the two lists differ; `Memory` may come in the place of any answer. It is
+// wanted for the kits alone, of which there are at most 255. After an error it isn't said where the reader stands.
+pub(crate) fn read_front(
+    alloc: Global,
+    schema: &Schema,
+    reader: &mut Reader,
+) -> Result<u32, AppRefusal>
     // A version is that of a front with the schema's kits, and a refusal has its reason.
     ensures outcome { IsFrontOutcome schema.now reader.old reader.new result }
     // A front with these kits is read, and a reason to refuse is told, unless memory runs out.

@@ -1,10 +1,9 @@
 //! Reading the application file, as far as it asks nothing of an application.
 //!
 //! `read_rows` gives the rows of a file as data, with its version and its links, where the bytes are such a text with
-//! the kits of a schema; else it says at which place the kits differ first, or that the bytes are no file. `read_front`
-//! does the same for what begins a file. The definitions give a file as forms of bytes, with a reading from left to
-//! right that the readers follow; the definitions of app_file say which text rows and links have, and the contracts
-//! speak of these.
+//! the kits of a schema; else it says at which place the kits differ first, or that the bytes are no file. The
+//! definitions give a file as forms of bytes, with a reading from left to right that the readers follow; those of
+//! app_file say which text rows and links have, and the contracts speak of these.
 //!
 //! `children` gives the children of each row, in their order, where the rows are one tree below the App: the first
 //! children and the siblings agree with the parents and reach every row, and none twice. Else it says that there is no
@@ -23,12 +22,11 @@ mod order;
 mod reach;
 mod reading;
 mod refusal;
-pub mod rows;
+mod rows;
 mod tree;
 mod tree_rows;
 mod values;
 
-pub use front::read_front;
 pub use order::{are_ascending, place_of};
 pub use reading::read_rows;
 pub use refusal::TreeRefusal;

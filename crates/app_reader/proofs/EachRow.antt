@@ -1,12 +1,12 @@
 -- Rows one after another.
 use Rattle.std.proofs.Common.{◌≡◌, ℕ, zero, suc, ◌<◌, ◌≤◌, ◌+◌, Bool, true, false, List, length, refl, sym, ◌∙◌, ap, arith, eqb-true}
-use Rattle.std.specs.Prelude.{Option, Some, None, IfSome, ◌==◌, slice_get}
+use Rattle.std.specs.Prelude.{Option, Some, None, IfSome, IsTrue, ◌↔◌, ◌==◌, slice_get}
 use Rattle.std.proofs.lemmas.Bool.Decides.{nat_tests}
 use Rattle.std.proofs.lemmas.Option.{slice_get_within}
 use Rattle.sed_engine.specs.Code.{Meaning}
 use Rattle.app_front.specs.declared.rows.FileRow.{FileRow}
 use Rattle.app_reader.specs.FormedFile.{IsAppRow, IsOtherRow}
-use Rattle.app_reader.specs.Checks.{AreKinds, IsKind}
+use Rattle.app_reader.specs.Checks.{AreKinds}
 
 if_some : {A : Type 0} (P : A → Type 0) (o : Option A) → ((x : A) → o ≡ Some x → P x) → IfSome o P
 if_some P None each = tt
@@ -33,6 +33,15 @@ below_next {A} P xs n x at here before k y lt at' = by_place (k == n) refl
     by_place false apart = before k y (grind (arith, nat_tests)) at'
 
 -- ---- kinds
+
+-- the class of the row at a place is one that it may have there
+abbrev pub IsKind : Meaning → ℕ → FileRow → Type 0
+IsKind m zero r = IsAppRow m r
+IsKind m (suc place) r = IsOtherRow m r
+
+pub kind_there : (m : Meaning) (place : ℕ) (r : FileRow) (b : Bool) → (place ≡ 0 → (IsTrue b ↔ IsAppRow m r)) → (0 < place → (IsTrue b ↔ IsOtherRow m r)) → (IsTrue b ↔ IsKind m place r)
+kind_there m zero r b app other = app refl
+kind_there m (suc place) r b app other = other (omega arith)
 
 kind_of : (m : Meaning) (rows : List FileRow) (k : ℕ) (r : FileRow) → AreKinds m rows → slice_get rows k ≡ Some r → IsKind m k r
 kind_of m rows zero r kinds at = of_some (IsAppRow m) (slice_get rows 0) r kinds.app at

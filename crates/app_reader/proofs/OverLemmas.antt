@@ -1,5 +1,5 @@
 -- Bytes that are a file whose application passes a limit are read as nothing else.
-use Rattle.std.proofs.Common.{◌≡◌, ℕ, List, inl, inr, refl, sym, ap}
+use Rattle.std.proofs.Common.{◌≡◌, ℕ, List, inl, inr, refl, ap}
 use Rattle.std.specs.Prelude.{◌⊎◌, Result, Err}
 use Rattle.sed_engine.specs.Code.{Meaning}
 use Rattle.comp_tree.specs.Application.{Application}

@@ -1,5 +1,5 @@
 -- Parts of what has to hold of the rows of a file.
-use Rattle.std.specs.Prelude.{ℕ, zero, suc, ◌≡◌, ◌<◌, IfSome, List, [], map as map_list, slice_get, Some}
+use Rattle.std.specs.Prelude.{ℕ, ◌≡◌, ◌<◌, IfSome, List, [], map as map_list, slice_get, Some}
 use Rattle.std.specs.List.{IsDistinct}
 use Rattle.std.specs.Option.{option_map_or}
 use Rattle.std.specs.Str.{bytes_eq}
@@ -20,8 +20,3 @@ name_at rows place = option_map_or (λ (r : FileRow). r.name) (slice_get rows pl
 abbrev pub SiblingsDiffer : List FileRow → List (List ℕ) → Type 0
 SiblingsDiffer rows lists = (k : ℕ) (list : List ℕ) → slice_get lists k ≡ Some list
     → IsDistinct bytes_eq (map_list (name_at rows) list)
-
--- the class of the row at a place is one that it may have there
-abbrev pub IsKind : Meaning → ℕ → FileRow → Type 0
-IsKind m zero r = IsAppRow m r
-IsKind m (suc place) r = IsOtherRow m r

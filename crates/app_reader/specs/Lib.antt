@@ -4,6 +4,5 @@ pub mod Tells
 pub mod FormedFile
 pub mod Checks
 pub mod Passed
-pub mod Checked
 pub mod Entries
 pub mod Ready

@@ -4,13 +4,12 @@ ghost use Rattle.std.specs.List.{All};
 ghost use Rattle.sed_engine.specs.Code.{Meaning};
 ghost use Rattle.app_front.specs.Reached.{StayWithin};
 ghost use Rattle.app_front.specs.TreeRows.{Ascend};
-ghost use Rattle.app_front.specs.Tree.{children_in};
+ghost use Rattle.app_front.specs.Tree.{IsTreeOf, children_in};
 ghost use Rattle.app_front.specs.declared.refusal.TreeRefusal.TheVariants.{NoTree};
 ghost use Rattle.app_file.specs.Text.{greatest_of};
 ghost use Rattle.app_front.specs.Rows.{IsToldRow, number_of_id};
 ghost use Rattle.app_front.specs.declared.rows.FileRow.{FileRow as AnyRow};
 ghost use Rattle.app_reader.specs.FormedFile.{GivesItsValues, IsFormedFile, tree_row as row_told, tree_rows};
-ghost use Rattle.app_reader.specs.Checked.{IsChecked};
 ghost use Rattle.app_reader.specs.Checks.{SiblingsDiffer};
 
 use crate::{
@@ -67,7 +66,8 @@ pub fn formed<E: Engine>(
     }
 }
 
-// Whether all that is checked of a tree of rows holds, where it is known whether siblings differ in name.
+// Whether all that has to hold of rows does, where they are a tree with these children and give their values, and where
+// it is known whether siblings differ in name.
 fn is_checked(
     schema: &Schema,
     file: &FileRows,
@@ -77,8 +77,12 @@ fn is_checked(
 ) -> bool
     requires rows { tree.now ≡ tree_rows file.now.rows }
     requires ascend { Ascend tree.now }
+    requires tree { IsTreeOf (tree_rows file.now.rows) (children_in (tree_rows file.now.rows) lists.now) }
+    requires size { length lists.now ≡ length file.now.rows }
+    requires within { StayWithin lists.now }
     requires differ { IsTrue differ ↔ SiblingsDiffer file.now.rows lists.now }
-    ensures { (m : Meaning) → m.schema ≡ schema.now → (IsTrue result ↔ IsChecked m file.now lists.now) }
+    ensures { (m : Meaning) → m.schema ≡ schema.now → All (GivesItsValues m) file.now.rows
+        → (IsTrue result ↔ IsFormedFile m file.now (children_in (tree_rows file.now.rows) lists.now)) }
 {
     let rows = file.rows.as_slice();
     let links = file.links.as_slice();

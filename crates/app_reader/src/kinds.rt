@@ -1,8 +1,8 @@
 //! The classes of rows.
-ghost use Rattle.std.specs.Prelude.{◌≡◌, ◌↔◌, not, IsTrue, codes, slice_get, Some};
+ghost use Rattle.std.specs.Prelude.{◌≡◌, ◌↔◌, ◌<◌, not, IsTrue, codes, slice_get, Some};
 ghost use Rattle.sed_typed.specs.Schemas.{type_at as class_numbered};
 ghost use Rattle.sed_engine.specs.Code.{Meaning};
-ghost use Rattle.app_reader.specs.Checks.{AreKinds, IsKind};
+ghost use Rattle.app_reader.specs.Checks.{AreKinds};
 ghost use Rattle.app_reader.specs.FormedFile.{IsAppRow, IsOtherRow};
 
 use app_front::FileRow;
@@ -21,9 +21,10 @@ pub fn are_kinds(schema: &Schema, rows: &[FileRow]) -> bool
     true
 }
 
-// Whether the row at a place is of a class that it may have there.
+// Whether a row may stand at a place: the App's at the first, and another component's at any other.
 fn is_kind(schema: &Schema, row: &FileRow, place: usize) -> bool
-    ensures { (m : Meaning) → m.schema ≡ schema.now → (IsTrue result ↔ IsKind m place row.now) }
+    ensures app { place ≡ 0 → (m : Meaning) → m.schema ≡ schema.now → (IsTrue result ↔ IsAppRow m row.now) }
+    ensures other { 0 < place → (m : Meaning) → m.schema ≡ schema.now → (IsTrue result ↔ IsOtherRow m row.now) }
 {
     if place == 0 {
         is_app(schema, row)

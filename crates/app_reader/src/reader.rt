@@ -23,8 +23,8 @@ use std::alloc::Global;
 /// `NotAnApp` comes where the bytes up to the end of the kits are no front of a file, or the kits are the code's and
 /// the rest is no file; `WrongKits` where they begin with a front of other kits, with the first place at which the two
 /// lists differ; `OverLimit` where they are a file whose application passes a limit, with the first. `Memory` may come
-/// in the place of any answer; in that of a refusal only while the rows are read and sorted, since no component is made
-/// before it is known that they pass no limit.
+/// in the place of any answer. No component is made before it is known that the rows pass no limit, which no clause
+/// says.
 pub fn read_app<E: Engine>(alloc: Global, bytes: &[u8], engine: E) -> Result<App<E>, AppRefusal>
     requires no_objects { E.live engine ≡ map.empty }
     requires statics { E.statics engine ≡ (E.meaning engine).initial_statics }

@@ -1,12 +1,9 @@
 -- Programs that are alike in all but their methods have one text of the App alone.
-use Rattle.std.proofs.Common.{◌≡◌, ℕ, zero, suc, List, [], length, map, refl, sym, ap, ◌∙◌}
+use Rattle.std.proofs.Common.{◌≡◌, ℕ, zero, suc, [], length, map, refl, sym, ◌∙◌}
 use Rattle.std.specs.Prelude.{position}
-use Rattle.sed_typed.specs.declared.program.Field.{Field}
 use Rattle.sed_typed.specs.declared.program.Program.{Program}
-use Rattle.sed_typed.specs.declared.schema.Schema.{Schema}
 use Rattle.sed_typed.specs.Classes.{fields}
-use Rattle.sed_typed.specs.Contents.{Contents, Path}
-use Rattle.sed_typed.specs.Initial.{object_begun, fields_begun, initial, initial_statics}
+use Rattle.sed_typed.specs.Initial.{object_begun, fields_begun}
 use Rattle.sed_typed.specs.TypedSchema.{in_slot}
 use Rattle.sed_engine.specs.Code.{Meaning, Question}
 use Rattle.sed_engine.specs.Program.{meaning_of, shape_of}

@@ -7,7 +7,7 @@ use Rattle.sed_value.specs.declared.id.Id.{Id}
 use Rattle.sed_value.specs.declared.value.Value.TheVariants.{Nothing}
 use Rattle.sed_engine.specs.Code.{Meaning, Places, slot_value}
 use Rattle.comp_tree.specs.Application.{ById, Component, children_of, object_of}
-use Rattle.comp_tree.specs.Parts.{class_bytes, config_slots, no_id, text, u1, u2, values_in}
+use Rattle.comp_tree.specs.Parts.{class_bytes, config_slots, text, u1, u2, values_in}
 use Rattle.comp_tree.specs.Told.{IsEntry}
 use Rattle.comp_tree.specs.Values.{spelling_of_all}
 use Rattle.comp_tree.specs.declared.entry.Entry.{Entry}

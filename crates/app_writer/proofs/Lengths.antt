@@ -1,7 +1,6 @@
 -- How many bytes a text has.
-use Rattle.std.proofs.Common.{◌≡◌, ℕ, ◌+◌, ◌*◌, ◌≤◌, List, [], ◌∷◌, ◌++◌, length, refl, sym, ◌∙◌, ap, arith, append_assoc, length-append}
+use Rattle.std.proofs.Common.{◌≡◌, ℕ, ◌+◌, ◌*◌, ◌≤◌, List, [], ◌∷◌, ◌++◌, length, refl, ap, arith, append_assoc, length-append}
 use Rattle.std.specs.FinMap as finite
-use Rattle.std.specs.List.{flat_map}
 use Rattle.sed_engine.specs.Code.{Meaning}
 use Rattle.sed_wire.specs.declared.writer.Writer.{Writer}
 use Rattle.sed_wire.specs.Writing.{Appends, room}

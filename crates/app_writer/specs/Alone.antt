@@ -1,5 +1,5 @@
 -- The application of a new store, its text, and what a crash leaves of the store.
-use Rattle.std.specs.Prelude.{ℕ, Bool, true, false, List, []}
+use Rattle.std.specs.Prelude.{ℕ, List, []}
 use Rattle.disk_model.specs.Disk.{Image, Meaning as DiskMeaning}
 use Rattle.app_save.specs.Store.{IsStore}
 use Rattle.sed_engine.specs.Code.{Meaning}
@@ -8,8 +8,6 @@ use Rattle.comp_tree.specs.Edits.{app_class, first_components}
 use Rattle.comp_tree.specs.Parts.{Kept}
 use Rattle.app_file.specs.Opens.{Opens}
 use Rattle.app_file.specs.Text.{app_text}
-use Rattle.app_writer.specs.declared.refusal.NewRefusal.{NewRefusal}
-use Rattle.app_writer.specs.declared.refusal.NewRefusal.TheVariants.{DataFull, Memory, SlotTooSmall, Exists, Device}
 
 -- the App alone, as it begins under a data limit: no other component, and no links
 abbrev pub app_alone : Meaning → ℕ → Application
@@ -30,11 +28,3 @@ pub record IsNewStore (S : ℕ) (m : Meaning) (limit : ℕ) (image : Image) : Ty
 -- so is every image that a crash now may leave
 abbrev pub AllNew : ℕ → Meaning → ℕ → DiskMeaning → Type 0
 AllNew S m limit d = (c : Image) → d.leaves d.now c → IsNewStore S m limit c
-
--- a refusal that is the disk's; the others come before anything is asked of it
-abbrev pub is_of_disk : NewRefusal → Bool
-is_of_disk DataFull = false
-is_of_disk Memory = false
-is_of_disk (SlotTooSmall needs) = false
-is_of_disk Exists = true
-is_of_disk Device = true

@@ -1,11 +1,11 @@
 //! The App alone, and its text.
-ghost use Rattle.std.specs.Prelude.{◌≡◌, ◌⊎◌, ◌<◌, ◌≤◌, ℕ, false, length, replicate, vec_len, IfOk, IfErr, IsErr};
+ghost use Rattle.std.specs.Prelude.{◌≡◌, ◌⊎◌, ◌<◌, ◌≤◌, ℕ, length, replicate, vec_len, IfOk, IsErr};
 ghost use Rattle.std.specs.Prelude.{IsErrOf, OnOk};
 ghost use Rattle.std.specs.FinMap as map;
 ghost use Rattle.sed_engine.specs.Whole.{IsWhole};
 ghost use Rattle.link_prop.specs.Linked.{application_of};
 ghost use Rattle.app_file.specs.Text.{app_text};
-ghost use Rattle.app_writer.specs.Alone.{data_alone, is_of_disk, text_alone};
+ghost use Rattle.app_writer.specs.Alone.{data_alone, text_alone};
 
 use crate::refusal::NewRefusal;
 use crate::write_app;
@@ -15,7 +15,10 @@ use sed_engine::{AddRefusal, Engine};
 use sed_value::zeros;
 use std::alloc::Global;
 
-/// The text of the App alone over an engine without live places, where it has at most so many bytes.
+/// The text of the App alone over an engine without live places, where it has at most `slot` bytes.
+///
+/// `DataFull` comes where the App's data passes the engine's limit, `SlotTooSmall` where the text is longer than a
+/// slot, with the bytes that it needs, and `Memory` may come in the place of any answer.
 pub fn text_of_alone<E: Engine>(alloc: Global, engine: E, slot: u32) -> Result<Vec<u8>, NewRefusal>
     requires { E.live engine ≡ map.empty }
     ensures text { IfOk result (λ text. text.items ≡ text_alone (E.meaning engine) (E.limit engine)) }
@@ -27,7 +30,6 @@ pub fn text_of_alone<E: Engine>(alloc: Global, engine: E, slot: u32) -> Result<V
         (needs ≡ length (text_alone (E.meaning engine) (E.limit engine))) × (slot < needs) }
     ensures limited { E.limit engine < data_alone (E.meaning engine)
         → IsErrOf result NewRefusal.DataFull ⊎ IsErrOf result NewRefusal.Memory }
-    ensures early { IfErr result (λ refusal. is_of_disk refusal ≡ false) }
 {
     let app = app_alone(alloc, engine)?;
     text_within(alloc, &app, slot as usize)
@@ -60,7 +62,6 @@ fn text_within<E: Engine>(alloc: Global, app: &App<E>, most: usize) -> Result<Ve
         (length (app_text (E.meaning app.now.tree.engine) (application_of E.Engine app.now)) ≤ most) }
     ensures needs { (needs : ℕ) → IsErrOf result (NewRefusal.SlotTooSmall needs) →
         (needs ≡ length (app_text (E.meaning app.now.tree.engine) (application_of E.Engine app.now))) × (most < needs) }
-    ensures early { IfErr result (λ refusal. is_of_disk refusal ≡ false) }
     ensures made { IsErrOf result NewRefusal.DataFull → ⊥ }
 {
     let mut text = zeros(alloc, most)?;

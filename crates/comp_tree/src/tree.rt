@@ -15,7 +15,7 @@ ghost use Rattle.comp_tree.specs.Held.{IsPropertyOf};
 ghost use Rattle.comp_tree.specs.Marks.{all_parts, marks_at, parts_at};
 ghost use Rattle.comp_tree.specs.Refusals.{first_refusal, refusals_of_read};
 ghost use Rattle.comp_tree.specs.SameCode.{SameCode};
-ghost use Rattle.comp_tree.specs.Told.{IsEntry, IsGreatest};
+ghost use Rattle.comp_tree.specs.Told.{IsEntry, IsGreatest, place_in};
 
 mod adding;
 mod building;
@@ -88,8 +88,8 @@ impl<E: Engine> Tree<E> {
         Ok(Tree { engine, nodes })
     }
 
-    /// The schema of the engine's code, which is whole, and can be told by an application file. Each live object is one of
-    /// which components are made, and its contents and the statics are of their types.
+    /// The schema of the engine's code, which is whole, and can be told by an application file. Each live object is one
+    /// of which components are made, and its contents and the statics are of their types.
     pub fn schema(&self) -> &Schema
         ensures same { result.now ≡ (E.meaning self.now.engine).schema }
         ensures whole { IsWhole (E.meaning self.now.engine) }
@@ -107,6 +107,7 @@ impl<E: Engine> Tree<E> {
         ensures told { MatchOption result (map.get (components_of E.Engine self.now).by_id id.0 ≡ None)
             (λ entry. IsSomeAnd (map.get (components_of E.Engine self.now).by_id id.0)
             (IsEntry (E.live self.now.engine) entry)) }
+        ensures place { IfSome result (λ entry. place_in self.now.nodes id.0 ≡ Some entry.place.0) }
         ensures few { IfSome result (λ entry. entry.children ≤ most_children) }
         ensures bound { IfSome result (λ _. id.0 < most_components) }
     {

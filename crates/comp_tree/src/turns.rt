@@ -41,7 +41,7 @@ impl Turns {
     pub fn number(self) -> u32
         ensures same { result ≡ self }
         ensures some { 1 ≤ result }
-        ensures most { result ≤ 1000000 }
+        ensures most { result ≤ MOST_TURNS }
     {
         self.0
     }

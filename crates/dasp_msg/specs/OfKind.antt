@@ -32,6 +32,10 @@ challenge to id nonce = record (bare to Challenge) {
 abbrev pub welcome : ℕ → Message
 welcome to = bare to Welcome
 
+-- why the session is closed; a client's close says no cause
+abbrev pub close : ℕ → ℕ → Message
+close to code = record (bare to Close) { error_code = Some code }
+
 -- ---- either's
 
 -- the number of the last message below the first gap, and bytes that say which came above it
@@ -47,7 +51,3 @@ keep_alive to ack more = with_acks ack more (bare to KeepAlive)
 -- the message of this number with a payload
 abbrev pub datagram : ℕ → ℕ → Option (List ℕ) → ℕ → List ℕ → Message
 datagram to ack more number payload = carrying number payload (with_acks ack more (bare to Datagram))
-
--- why the session is closed
-abbrev pub close : ℕ → ℕ → Message
-close to code = record (bare to Close) { error_code = Some code }

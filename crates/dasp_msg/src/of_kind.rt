@@ -102,7 +102,7 @@ impl<'a> Msg<'a> {
         }
     }
 
-    /// Ends the session, and says why.
+    /// Ends the session, as a node does, and says why. A client's close says no cause.
     pub fn close(to: u16, code: u16) -> Msg<'a>
         ensures says { message_of result ≡ of_kind.close to code }
         ensures can { CanGo (message_of result) }

@@ -8,8 +8,8 @@
 //!
 //! `Users::read` takes a users file exactly where it is one, and `Users::credential` gives the credential of a user. A
 //! text is the users file of one list of users at most, as a law says. A session's `nonce`, a user's `credential` and
-//! a client's `digest` are made of the node's secret, the user's password and the credential by SHA-1. Nothing but `Users::read`, `Outbox::new` and
-//! `Sessions::new` takes memory. The node stands on this crate.
+//! a client's `digest` are made of the node's secret, the user's password and the credential by SHA-1. Nothing but
+//! `Users::read`, `Outbox::new` and `Sessions::new` takes memory. The node stands on this crate.
 #![tactic(auto)]
 
 mod handed;

@@ -19,6 +19,9 @@ pub mod Subscribing
 pub mod InOrder
 pub mod Truths
 pub mod OneWay
+pub mod Decided
+pub mod SomeMessage
+pub mod SomeWish
 pub mod Bounded
 pub mod Answering
 pub mod KeepsWhole

@@ -1,17 +1,14 @@
--- What bytes say: in one way at most, and in some way.
-use Rattle.std.proofs.Common.{◌≡◌, ◌≤◌, ℕ, inl, inr, Bool, true, List, [], ◌∷◌, map, refl, sym, ◌∙◌, ap, subst, arith}
-use Rattle.std.specs.Prelude.{◌⊎◌, not, IfErr, IfOk, IsErrOf, Option, Some, None, Result, Ok, Err}
+-- What bytes say, in one way at most.
+use Rattle.std.proofs.Common.{◌≡◌, ℕ, inl, inr, Bool, true, List, [], ◌∷◌, map, refl, sym, ◌∙◌, ap, subst}
+use Rattle.std.specs.Prelude.{◌⊎◌, not, Option, Some, None}
 use Rattle.sed_outside.specs.declared.addr.Addr.{Addr}
-use Rattle.sed_value.specs.Refusal.{number_of_refusal}
 use Rattle.sed_value.specs.declared.refusal.Refusal.{Refusal}
-use Rattle.sed_value.specs.declared.refusal.Refusal.TheVariants.{Malformed, UnknownCommand, NoComponent, NoType, AbstractType, BadName, NameTaken, TooManyChildren, TooDeep, ComponentLimit, DataFull, NoSlot, WrongKindOfSlot, BadValue, BufferTooLong, LinkTypesDiffer, TargetLinked, LinksAtComponent, LinkLimit, NoLink, NotTheChildren, AppItself, Faulted, SaveDevice, StoreFull, OutOfMemory}
+use Rattle.sed_value.specs.declared.refusal.Refusal.TheVariants.{Malformed, UnknownCommand}
 use Rattle.dasp_msg.specs.Message.{IsMessage}
 use Rattle.dasp_msg.specs.Shown.{Message}
 use Rattle.replay_log.specs.Entry.{Entry, datagram, tick}
-use Rattle.sox_msg.specs.Command.{Asked, Asking, HasUnknownLetter, IsMalformed, IsRequest, body_of, is_letter, letter_of, number_in, add, read_part, delete, invoke, link, unlink, rename, reorder, read_slot, subscribe, unsubscribe, version, write, clear}
+use Rattle.sox_msg.specs.Command.{Asked, Asking, HasUnknownLetter, IsMalformed, IsRequest, body_of, is_letter, letter_of, add, read_part, delete, invoke, link, unlink, rename, reorder, read_slot, subscribe, unsubscribe, version, write, clear}
 use Rattle.sox_msg.specs.Refused.{IsRefusedFor}
-use Rattle.sox_msg.specs.View.{asked_of, asking_of}
-use Rattle.sox_msg.specs.declared.command.Request.{Request}
 use Rattle.node_events.specs.Handling.{AreHandledAs, Handled, wrong_in}
 use Rattle.node_events.specs.Heard.{Heard, IsHeard, IsWish, Wish, asks, is_refused}
 use Rattle.node_events.specs.Mishap.{Mishap}
@@ -20,41 +17,15 @@ use Rattle.node_events.proofs.Truths.{no_true}
 
 -- ---- refusals of payloads
 
--- a refusal of a command, which no payload is given before it is looked at
-record IsOfCommand (refusal : Refusal) : Type 0 where
-  many : 3 ≤ number_of_refusal refusal
-  never : (payload : List ℕ) → IsRefusedFor refusal payload → ⊥
-
+-- a refusal of a command is given to no payload before its command is looked at
 abbrev Kind : Refusal → Type 0
-Kind refusal = (refusal ≡ Malformed) ⊎ ((refusal ≡ UnknownCommand) ⊎ IsOfCommand refusal)
+Kind refusal =
+    (refusal ≡ Malformed) ⊎ ((refusal ≡ UnknownCommand) ⊎ ((payload : List ℕ) → IsRefusedFor refusal payload → ⊥))
 
 kind_of : (refusal : Refusal) → Kind refusal
 kind_of Malformed = inl refl
 kind_of UnknownCommand = inr (inl refl)
-kind_of NoComponent = inr (inr (record { many = omega arith; never = λ payload why. why }))
-kind_of NoType = inr (inr (record { many = omega arith; never = λ payload why. why }))
-kind_of AbstractType = inr (inr (record { many = omega arith; never = λ payload why. why }))
-kind_of BadName = inr (inr (record { many = omega arith; never = λ payload why. why }))
-kind_of NameTaken = inr (inr (record { many = omega arith; never = λ payload why. why }))
-kind_of TooManyChildren = inr (inr (record { many = omega arith; never = λ payload why. why }))
-kind_of TooDeep = inr (inr (record { many = omega arith; never = λ payload why. why }))
-kind_of ComponentLimit = inr (inr (record { many = omega arith; never = λ payload why. why }))
-kind_of DataFull = inr (inr (record { many = omega arith; never = λ payload why. why }))
-kind_of NoSlot = inr (inr (record { many = omega arith; never = λ payload why. why }))
-kind_of WrongKindOfSlot = inr (inr (record { many = omega arith; never = λ payload why. why }))
-kind_of BadValue = inr (inr (record { many = omega arith; never = λ payload why. why }))
-kind_of BufferTooLong = inr (inr (record { many = omega arith; never = λ payload why. why }))
-kind_of LinkTypesDiffer = inr (inr (record { many = omega arith; never = λ payload why. why }))
-kind_of TargetLinked = inr (inr (record { many = omega arith; never = λ payload why. why }))
-kind_of LinksAtComponent = inr (inr (record { many = omega arith; never = λ payload why. why }))
-kind_of LinkLimit = inr (inr (record { many = omega arith; never = λ payload why. why }))
-kind_of NoLink = inr (inr (record { many = omega arith; never = λ payload why. why }))
-kind_of NotTheChildren = inr (inr (record { many = omega arith; never = λ payload why. why }))
-kind_of AppItself = inr (inr (record { many = omega arith; never = λ payload why. why }))
-kind_of Faulted = inr (inr (record { many = omega arith; never = λ payload why. why }))
-kind_of SaveDevice = inr (inr (record { many = omega arith; never = λ payload why. why }))
-kind_of StoreFull = inr (inr (record { many = omega arith; never = λ payload why. why }))
-kind_of OutOfMemory = inr (inr (record { many = omega arith; never = λ payload why. why }))
+kind_of _ = inr (inr (λ payload why. why))
 
 known : (asked : Asked) → is_letter (letter_of asked) ≡ true
 known (add parent kit kind name config) = refl
@@ -86,7 +57,7 @@ module _ (payload : List ℕ) where
       by_kind : Kind refusal → ⊥
       by_kind (inl is) = (subst (λ (r : Refusal). IsRefusedFor r payload) is why).none asking request
       by_kind (inr (inl is)) = unknown_apart asking request (subst (λ (r : Refusal). IsRefusedFor r payload) is why)
-      by_kind (inr (inr is)) = is.never payload why
+      by_kind (inr (inr is)) = is payload why
 
   one_refusal : (x y : Refusal) → IsRefusedFor x payload → IsRefusedFor y payload → x ≡ y
   one_refusal x y for_x for_y = by_kinds (kind_of x) (kind_of y)
@@ -100,37 +71,11 @@ module _ (payload : List ℕ) where
       by_kinds : Kind x → Kind y → x ≡ y
       by_kinds (inl one) (inl other) = one ∙ sym other
       by_kinds (inl one) (inr (inl other)) = absurd ((bad x one for_x).known (unknown y other for_y))
-      by_kinds (inl one) (inr (inr other)) = absurd (other.never payload for_y)
+      by_kinds (inl one) (inr (inr other)) = absurd (other payload for_y)
       by_kinds (inr (inl one)) (inl other) = absurd ((bad y other for_y).known (unknown x one for_x))
       by_kinds (inr (inl one)) (inr (inl other)) = one ∙ sym other
-      by_kinds (inr (inl one)) (inr (inr other)) = absurd (other.never payload for_y)
-      by_kinds (inr (inr one)) other = absurd (one.never payload for_x)
-
-  pub wish_of : (r : Result Request Refusal) → IfOk r (λ request. IsRequest payload (asking_of request))
-      → (IsErrOf r Malformed → IsMalformed payload) → (IsErrOf r UnknownCommand → HasUnknownLetter payload)
-      → IfErr r (λ refusal. number_of_refusal refusal ≤ 2) → (wish : Wish) × IsWish payload wish
-  wish_of (Ok request) found malformed unknown few =
-      let is : IsRequest payload (asking_of request) = found in (
-        asks (asked_of request.command),
-        record {
-          can = is.can;
-          text = is.text
-              ∙ ap (λ (k : ℕ). letter_of (asked_of request.command) ∷ k ∷ body_of (asked_of request.command)) (sym (ap number_in is.text));
-        },
-      )
-  wish_of (Err refusal) found malformed unknown few = by_kind (kind_of refusal)
-    where
-      by_kind : Kind refusal → (wish : Wish) × IsWish payload wish
-      by_kind (inl is) = (is_refused Malformed, malformed (ap (λ (r : Refusal). Err r) is))
-      by_kind (inr (inl is)) = (is_refused UnknownCommand, unknown (ap (λ (r : Refusal). Err r) is))
-      by_kind (inr (inr is)) =
-          let many : 3 ≤ number_of_refusal refusal = is.many in
-          let low : number_of_refusal refusal ≤ 2 = few in
-          absurd (omega arith)
-
-pub some_heard : (bytes : List ℕ) (message : Message) → IsMessage bytes message → (wish : Wish) × IsWish message.payload wish
-    → (heard : Option Heard) × IsHeard bytes heard
-some_heard bytes message is asked = (Some (record { message = message; wish = asked.0 }), (is, asked.1))
+      by_kinds (inr (inl one)) (inr (inr other)) = absurd (other payload for_y)
+      by_kinds (inr (inr one)) other = absurd (one payload for_x)
 
 -- ---- one way
 

@@ -1,12 +1,13 @@
 //! The rows of applications and of what keeps them: requests, cycles, marks and events on real kits, over the walker
 //! and over the machine, and over an engine that wants memory; what is printed; the bytes of files; the store on a
-//! disk; and a node, over the walker and over the machine of an image.
+//! disk; the port of a link; and a node, over the walker and over the machine of an image.
 #![tactic(auto)]
 
 mod disks;
 mod files;
 mod kits;
 mod nodes;
+mod ports;
 mod programs;
 mod scripts;
 mod stores;
@@ -15,7 +16,7 @@ use rows::{Case, CaseFault, run};
 use std::io;
 
 // The tables, in the order in which they run.
-const TABLES: [&str; 20] = [
+const TABLES: [&str; 21] = [
     "scripts",
     "tiny",
     "requests",
@@ -35,6 +36,7 @@ const TABLES: [&str; 20] = [
     "saves",
     "news",
     "system",
+    "ports",
     "nodes",
 ];
 
@@ -74,6 +76,7 @@ fn of_stores(rt: &HostRuntime, name: &str, case: &mut Case) {
         "saves" => stores::saves(case),
         "news" => stores::news(case),
         "system" => stores::system(case, rt),
+        "ports" => ports::ports(case, rt),
         _ => case.fail(CaseFault::BadInput),
     }
 }

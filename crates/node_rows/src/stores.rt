@@ -6,7 +6,7 @@ ghost use Rattle.app_save.specs.Saving.{AllStores};
 use crate::files::{parts, tell_next};
 use crate::kits::{came, within};
 use app_save::{Store, make, open};
-use app_writer::new_store;
+use app_writer::text_of_alone;
 use disk_model::{Disk, DiskFault, FileDisk, Fill, MemDisk};
 use rows::{Case, CaseFault};
 use std::fs;
@@ -119,8 +119,8 @@ pub fn news(case: &mut Case) {
         return case.fail(CaseFault::Memory);
     };
     if let Some(mut disk) = disk_of(case, before.as_slice(), fails) {
-        match new_store(case.alloc(), engine, &mut disk, slot) {
-            Ok(store) => case.show(&store.slot()),
+        match text_of_alone(case.alloc(), engine, slot) {
+            Ok(text) => make_one(case, &mut disk, slot, text.as_slice()),
             Err(refusal) => case.show(&refusal),
         }
         tell_disk(case, &disk, &[]);
@@ -229,6 +229,17 @@ fn saved(
     let mut disk = disk_of(case, &[], fails)?;
     save_each(&mut within(case), &mut disk, slot, payloads);
     Some(disk)
+}
+
+// Makes a store with this payload, and puts the size of its slots.
+fn make_one<D: Disk>(case: &mut Case, disk: &mut D, slot: u32, payload: &[u8])
+    requires some { 1 ≤ slot }
+    requires small { slot ≤ 4194304 }
+{
+    match make(disk, slot, payload) {
+        Ok(store) => case.show(&store.slot()),
+        Err(refusal) => case.show(&refusal),
+    }
 }
 
 // Makes a store with the first payload, saves each of the others in turn, and puts the answers.

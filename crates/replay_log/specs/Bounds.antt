@@ -1,11 +1,12 @@
 -- The numbers of which a record can be generated.
 use Rattle.std.specs.Prelude.{ℕ, ◌≤◌}
-use Rattle.replay_log.specs.declared.bounds.TheConstants.{GREATEST_SEED, MOST_COMPONENTS, MOST_LINKS, MOST_TICKS}
+use Rattle.replay_log.specs.declared.bounds.TheConstants.{GREATEST_SEED, MOST_ADDED_COMPONENTS}
+use Rattle.replay_log.specs.declared.bounds.TheConstants.{MOST_ADDED_LINKS, MOST_TICKS}
 
 -- what the first number is drawn from, and how many components, links and ticks there are
 pub record AreWithin (seed components links ticks : ℕ) : Type 0 where
   pub low_seed : seed ≤ GREATEST_SEED
   pub some_components : 1 ≤ components
-  pub few_components : components ≤ MOST_COMPONENTS
-  pub few_links : links ≤ MOST_LINKS
+  pub few_components : components ≤ MOST_ADDED_COMPONENTS
+  pub few_links : links ≤ MOST_ADDED_LINKS
   pub few_ticks : ticks ≤ MOST_TICKS

@@ -8,10 +8,10 @@ use sed_value::limits;
 pub const GREATEST_SEED: u32 = 2_147_483_647;
 
 /// The most components that are added.
-pub const MOST_COMPONENTS: u32 = 4_000;
+pub const MOST_ADDED_COMPONENTS: u32 = 4_000;
 
 /// The most links that are added.
-pub const MOST_LINKS: u32 = limits::MOST_LINKS as u32;
+pub const MOST_ADDED_LINKS: u32 = limits::MOST_LINKS as u32;
 
 /// The most ticks that come.
 pub const MOST_TICKS: u32 = 100_000;
@@ -25,8 +25,11 @@ pub fn are_within(seed: u32, components: u32, links: u32, ticks: u32) -> bool
 }
 
 fn are_few(components: u32, links: u32, ticks: u32) -> bool
-    ensures { IsTrue result ↔ ((1 ≤ components) × (components ≤ MOST_COMPONENTS) × (links ≤ MOST_LINKS)
+    ensures { IsTrue result ↔ ((1 ≤ components) × (components ≤ MOST_ADDED_COMPONENTS) × (links ≤ MOST_ADDED_LINKS)
         × (ticks ≤ MOST_TICKS)) }
 {
-    1 <= components && components <= MOST_COMPONENTS && links <= MOST_LINKS && ticks <= MOST_TICKS
+    1 <= components
+        && components <= MOST_ADDED_COMPONENTS
+        && links <= MOST_ADDED_LINKS
+        && ticks <= MOST_TICKS
 }

@@ -13,9 +13,9 @@ use sed_value::Items;
 pub struct GenSpec {
     /// What the first number is drawn from, at most `GREATEST_SEED`.
     pub seed: u32,
-    /// How many components are added, 1 to `MOST_COMPONENTS`.
+    /// How many components are added, 1 to `MOST_ADDED_COMPONENTS`.
     pub components: u32,
-    /// How many links are added at most, itself at most `MOST_LINKS`.
+    /// How many links are added at most, itself at most `MOST_ADDED_LINKS`.
     pub links: u32,
     /// How many ticks come, at most `MOST_TICKS`.
     pub ticks: u32,

@@ -64,7 +64,7 @@ impl Compiled {
     }
 
     /// The engine that runs the image, and so the program: without objects, and with the statics as they begin. Its
-    /// objects may have so many bytes together. No other call takes memory.
+    /// objects may have `limit` bytes together. No call of the engine takes memory.
     pub fn machine(self, alloc: Global, limit: u32) -> Result<Machine, Memory>
         ensures meaning { IfOk result (λ m. ⟦<Machine as Engine>⟧.meaning m ≡ meaning_of self) }
         ensures empty { IfOk result (λ m. ⟦<Machine as Engine>⟧.live m ≡ map.empty) }

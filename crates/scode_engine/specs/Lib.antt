@@ -3,6 +3,7 @@ pub mod Slots
 pub mod AtWork
 pub mod Root
 pub mod RootCall
+pub mod Asking
 pub mod Rows
 pub mod Frequent
 pub mod Answered

@@ -11,11 +11,12 @@ ghost use Rattle.scode_engine.specs.AtWork.{running_on};
 ghost use Rattle.scode_engine.specs.Root.{rooted};
 ghost use Rattle.scode_engine.specs.Rows.{AreRows};
 ghost use Rattle.scode_engine.specs.Answered.{IsAnswered, IsReady};
+ghost use Rattle.scode_engine.specs.Asking.{asked_object, root_end};
 ghost use Rattle.scode_engine.specs.Kept.{HaveRoom};
 
 use crate::arguments::{argument_cell, call_end};
 use crate::methods::root_method;
-use crate::{RootCall, root_calls_leave_objects, run_root};
+use crate::{Asked, Code, RootCall, root_calls_leave_objects, run_root};
 use scode_cells::{Cell, Cells};
 use scode_image::Image;
 use scode_mem::Pool;
@@ -29,44 +30,36 @@ use sed_value::{Items, Value};
 /// this leaves; the other objects stay. No frame runs before or behind it. The frames are taken out and put back, so
 /// that they stand in the call's own memory while it runs.
 pub fn call(
-    image: &Image,
-    schema: &Schema,
-    zeros: &[Items<Cell>],
-    rows: &[Items<Op>],
+    code: &Code<'_>,
+    asked: &Asked<'_>,
+    moment: i64,
     pool: &mut Pool,
     kept: &mut Option<Cells>,
-    p: Place,
-    which: Root,
-    argument: &Value,
-    turns: u32,
-    moment: i64,
 ) -> CallEnd
-    requires loaded { IsLoaded image.now pool.old }
-    requires schema { schema.now ≡ schema_of image.now }
-    requires zeros { AreZeros image.now zeros.now }
-    requires rows { AreRows image.now.methods rows.now }
-    requires cells { IsSomeAnd kept.old (HaveRoom image.now) }
-    requires may { IsSomeAnd (finite.get (live_of image.now pool.old) p.0)
-        (λ o. IsTrue (may_call (meaning_of image.now) o.class which argument.now)) }
-    requires some_turns { 1 ≤ turns }
-    requires most_turns { turns ≤ 1000000 }
-    ensures loaded { IsLoaded image.now pool.new }
-    ensures end { IfSome (finite.get (live_of image.now pool.old) p.0) (λ o. result
-        ≡ (root_of (meaning_of image.now) o (statics_of image.now pool.old) which argument.now turns moment).end) }
-    ensures left { IfSome (finite.get (live_of image.now pool.old) p.0) (λ o. live_of image.now pool.new
-        ≡ finite.insert (live_of image.now pool.old) p.0 (called o
-        (root_of (meaning_of image.now) o (statics_of image.now pool.old) which argument.now turns moment))) }
-    ensures statics { IfSome (finite.get (live_of image.now pool.old) p.0) (λ o. statics_of image.now pool.new
-        ≡ (root_of (meaning_of image.now) o (statics_of image.now pool.old) which argument.now turns moment).statics) }
+    requires loaded { IsLoaded code.now.image.now pool.old }
+    requires schema { code.now.schema.now ≡ schema_of code.now.image.now }
+    requires zeros { AreZeros code.now.image.now code.now.zeros.now }
+    requires rows { AreRows code.now.image.now.methods code.now.rows.now }
+    requires cells { IsSomeAnd kept.old (HaveRoom code.now.image.now) }
+    requires may { IsSomeAnd (asked_object code.now asked.now pool.old)
+        (λ o. IsTrue (may_call (meaning_of code.now.image.now) o.class asked.now.which asked.now.argument.now)) }
+    requires some_turns { 1 ≤ asked.now.turns }
+    requires most_turns { asked.now.turns ≤ 1000000 }
+    ensures loaded { IsLoaded code.now.image.now pool.new }
+    ensures end { IfSome (asked_object code.now asked.now pool.old)
+        (λ o. result ≡ (root_end code.now asked.now moment pool.old o).end) }
+    ensures left { IfSome (asked_object code.now asked.now pool.old) (λ o. live_of code.now.image.now pool.new
+        ≡ finite.insert (live_of code.now.image.now pool.old) asked.now.place.0
+        (called o (root_end code.now asked.now moment pool.old o))) }
+    ensures statics { IfSome (asked_object code.now asked.now pool.old)
+        (λ o. statics_of code.now.image.now pool.new ≡ (root_end code.now asked.now moment pool.old o).statics) }
     ensures limit { pool.new.limit ≡ pool.old.limit }
     ensures cells { kept.new ≡ kept.old }
 {
     match kept.take() {
         Some(own) => {
             let mut cells = own;
-            let end = call_on(
-                image, schema, zeros, rows, pool, &mut cells, p, which, argument, turns, moment,
-            );
+            let end = call_on(code, asked, moment, pool, &mut cells);
             let _ = kept.replace(cells);
             end
         }
@@ -77,49 +70,50 @@ pub fn call(
 // Runs a root call on a live object on frames of which none runs.
 #[inline(always)]
 fn call_on(
-    image: &Image,
-    schema: &Schema,
-    zeros: &[Items<Cell>],
-    rows: &[Items<Op>],
+    code: &Code<'_>,
+    asked: &Asked<'_>,
+    moment: i64,
     pool: &mut Pool,
     cells: &mut Cells,
-    p: Place,
-    which: Root,
-    argument: &Value,
-    turns: u32,
-    moment: i64,
 ) -> CallEnd
-    requires loaded { IsLoaded image.now pool.old }
-    requires schema { schema.now ≡ schema_of image.now }
-    requires zeros { AreZeros image.now zeros.now }
-    requires rows { AreRows image.now.methods rows.now }
-    requires cells { HaveRoom image.now cells.old }
-    requires may { IsSomeAnd (finite.get (live_of image.now pool.old) p.0)
-        (λ o. IsTrue (may_call (meaning_of image.now) o.class which argument.now)) }
-    requires some_turns { 1 ≤ turns }
-    requires most_turns { turns ≤ 1000000 }
-    ensures loaded { IsLoaded image.now pool.new }
-    ensures end { IfSome (finite.get (live_of image.now pool.old) p.0) (λ o. result
-        ≡ (root_of (meaning_of image.now) o (statics_of image.now pool.old) which argument.now turns moment).end) }
-    ensures left { IfSome (finite.get (live_of image.now pool.old) p.0) (λ o. live_of image.now pool.new
-        ≡ finite.insert (live_of image.now pool.old) p.0 (called o
-        (root_of (meaning_of image.now) o (statics_of image.now pool.old) which argument.now turns moment))) }
-    ensures statics { IfSome (finite.get (live_of image.now pool.old) p.0) (λ o. statics_of image.now pool.new
-        ≡ (root_of (meaning_of image.now) o (statics_of image.now pool.old) which argument.now turns moment).statics) }
+    requires loaded { IsLoaded code.now.image.now pool.old }
+    requires schema { code.now.schema.now ≡ schema_of code.now.image.now }
+    requires zeros { AreZeros code.now.image.now code.now.zeros.now }
+    requires rows { AreRows code.now.image.now.methods code.now.rows.now }
+    requires cells { HaveRoom code.now.image.now cells.old }
+    requires may { IsSomeAnd (asked_object code.now asked.now pool.old)
+        (λ o. IsTrue (may_call (meaning_of code.now.image.now) o.class asked.now.which asked.now.argument.now)) }
+    requires some_turns { 1 ≤ asked.now.turns }
+    requires most_turns { asked.now.turns ≤ 1000000 }
+    ensures loaded { IsLoaded code.now.image.now pool.new }
+    ensures end { IfSome (asked_object code.now asked.now pool.old)
+        (λ o. result ≡ (root_end code.now asked.now moment pool.old o).end) }
+    ensures left { IfSome (asked_object code.now asked.now pool.old) (λ o. live_of code.now.image.now pool.new
+        ≡ finite.insert (live_of code.now.image.now pool.old) asked.now.place.0
+        (called o (root_end code.now asked.now moment pool.old o))) }
+    ensures statics { IfSome (asked_object code.now asked.now pool.old)
+        (λ o. statics_of code.now.image.now pool.new ≡ (root_end code.now asked.now moment pool.old o).statics) }
     ensures limit { pool.new.limit ≡ pool.old.limit }
     ensures cells { cells.new ≡ cells.old }
 {
     root_calls_leave_objects();
-    let class = pool.kind(p).0;
-    let asked = RootCall {
-        image,
-        zeros,
-        rows,
-        class,
-        place: p,
+    let call = RootCall {
+        image: code.image,
+        zeros: code.zeros,
+        rows: code.rows,
+        class: pool.kind(asked.place).0,
+        place: asked.place,
         moment,
     };
-    answer(&asked, schema, which, argument, turns, pool, cells)
+    answer(
+        &call,
+        code.schema,
+        asked.which,
+        asked.argument,
+        asked.turns,
+        pool,
+        cells,
+    )
 }
 
 // Runs a root call that may be asked.

@@ -31,7 +31,7 @@ pub use laws::root_calls_leave_objects;
 pub use looping::run;
 pub use machine::Machine;
 pub use objects::{add_object, new_objects, remove_object};
-pub use root_call::RootCall;
+pub use root_call::{Asked, Code, RootCall};
 pub use roots::run_root;
 pub use rows::rows_of;
 pub use schema::schema_of;

@@ -7,7 +7,8 @@ ghost use Rattle.scode_engine.specs.Loaded.{live_of, statics_of};
 use crate::calls::call;
 use crate::rooms::{most_cells, zeros_of};
 use crate::{
-    add_object, get_slot, is_same_field, new_objects, remove_object, rows_of, schema_of, set_slot,
+    Asked, Code, add_object, get_slot, is_same_field, new_objects, remove_object, rows_of,
+    schema_of, set_slot,
 };
 use scode_cells::{Cell, Cells};
 use scode_mem::Pool;
@@ -114,18 +115,18 @@ impl Engine for Machine {
     }
 
     fn call(&mut self, p: Place, r: Root, arg: &SlotBuf, turns: u32, ticks: i64) -> CallEnd {
-        call(
-            self.code.image(),
-            &self.schema,
-            &self.zeros,
-            &self.rows,
-            &mut self.pool,
-            &mut self.cells,
-            p,
-            r,
-            arg.value(),
+        let code = Code {
+            image: self.code.image(),
+            schema: &self.schema,
+            zeros: &self.zeros,
+            rows: &self.rows,
+        };
+        let asked = Asked {
+            place: p,
+            which: r,
+            argument: arg.value(),
             turns,
-            ticks,
-        )
+        };
+        call(&code, &asked, ticks, &mut self.pool, &mut self.cells)
     }
 }

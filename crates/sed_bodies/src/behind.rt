@@ -8,8 +8,9 @@ ghost use Rattle.sed_bodies.specs.Members as members;
 ghost use Rattle.sed_bodies.specs.Expressions as meaning;
 
 use crate::calls::{arguments, count_of};
-use crate::{Body, class_call, class_member, no_method, spelled, system_call};
-use sed_body_rules::{Checked, Locals};
+use crate::environment::Environment;
+use crate::{class_call, class_member, no_method, spelled, system_call};
+use sed_body_rules::Checked;
 use sed_names::Lookup;
 use sed_terms::{Judged, broken};
 use sed_typed::TypeNo;
@@ -43,19 +44,17 @@ fn no_member(id: &Ident) -> Checked
 #[cycle(expressions)]
 pub(crate) fn behind_class<N: Lookup>(
     alloc: Global,
-    names: &N,
-    body: &Body,
-    scope: &Locals,
+    within: &Environment<'_, N>,
     at: usize,
     class: TypeNo,
     link: &Link,
 ) -> Result<Checked, Memory>
-    ensures { IfOk result (λ r. r ≡ meaning.judge_class least_fault (N.names names.now)
-        body.now scope.now at class link.now) }
+    ensures { IfOk result (λ r. r ≡ meaning.judge_class least_fault (N.names within.now.names.now)
+        within.now.body within.now.scope.now at class link.now) }
 {
     match &link.step {
-        Step::Member(id) => member_of_class(alloc, names, class, id),
-        Step::Method(id, args) => class_method(alloc, names, body, scope, at, class, id, args),
+        Step::Member(id) => member_of_class(alloc, within.names, class, id),
+        Step::Method(id, args) => class_method(alloc, within, at, class, id, args),
         Step::Index(_) | Step::Operand(_, _) => Ok(broken(12, at)),
     }
 }
@@ -64,26 +63,24 @@ pub(crate) fn behind_class<N: Lookup>(
 #[cycle(expressions)]
 fn class_method<N: Lookup>(
     alloc: Global,
-    names: &N,
-    body: &Body,
-    scope: &Locals,
+    within: &Environment<'_, N>,
     at: usize,
     class: TypeNo,
     id: &Ident,
     args: &[Expr],
 ) -> Result<Checked, Memory>
-    ensures { IfOk result (λ r. r ≡ meaning.judge_class least_fault (N.names names.now)
-        body.now scope.now at class (Part (label.Method at id.now) (row args.now) NoTree)) }
+    ensures { IfOk result (λ r. r ≡ meaning.judge_class least_fault (N.names within.now.names.now)
+        within.now.body within.now.scope.now at class (Part (label.Method at id.now) (row args.now) NoTree)) }
 {
-    match names.method(class, id.bytes.as_slice()) {
+    match within.names.method(class, id.bytes.as_slice()) {
         Some(s) => {
             let params = s.params.as_slice();
-            let xs = arguments(alloc, names, body, scope, at, params, args)?;
+            let xs = arguments(alloc, within, at, params, args)?;
             let x = class_call(alloc, id.at, at, count_of(args), s, xs)?;
             Ok(spelled(id, x))
         }
         None => {
-            let xs = arguments(alloc, names, body, scope, at, &[], args)?;
+            let xs = arguments(alloc, within, at, &[], args)?;
             Ok(spelled(id, no_method(at, xs)))
         }
     }
@@ -93,18 +90,16 @@ fn class_method<N: Lookup>(
 #[cycle(expressions)]
 pub(crate) fn behind_system<N: Lookup>(
     alloc: Global,
-    names: &N,
-    body: &Body,
-    scope: &Locals,
+    within: &Environment<'_, N>,
     at: usize,
     link: &Link,
 ) -> Result<Checked, Memory>
     ensures { IfOk result (λ r. r ≡ meaning.judge_system least_fault
-        (N.names names.now) body.now scope.now at link.now) }
+        (N.names within.now.names.now) within.now.body within.now.scope.now at link.now) }
 {
     match &link.step {
         Step::Member(id) => Ok(no_member(id)),
-        Step::Method(id, args) => system_method(alloc, names, body, scope, at, id, args),
+        Step::Method(id, args) => system_method(alloc, within, at, id, args),
         Step::Index(_) | Step::Operand(_, _) => Ok(broken(12, at)),
     }
 }
@@ -113,17 +108,16 @@ pub(crate) fn behind_system<N: Lookup>(
 #[cycle(expressions)]
 fn system_method<N: Lookup>(
     alloc: Global,
-    names: &N,
-    body: &Body,
-    scope: &Locals,
+    within: &Environment<'_, N>,
     at: usize,
     id: &Ident,
     args: &[Expr],
 ) -> Result<Checked, Memory>
     ensures { IfOk result (λ r. r ≡ meaning.judge_system least_fault
-        (N.names names.now) body.now scope.now at (Part (label.Method at id.now) (row args.now) NoTree)) }
+        (N.names within.now.names.now) within.now.body within.now.scope.now at
+        (Part (label.Method at id.now) (row args.now) NoTree)) }
 {
-    let xs = arguments(alloc, names, body, scope, at, &[], args)?;
+    let xs = arguments(alloc, within, at, &[], args)?;
     let x = system_call(alloc, id.bytes.as_slice(), at, count_of(args), xs)?;
     Ok(spelled(id, x))
 }

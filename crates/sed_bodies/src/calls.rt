@@ -7,12 +7,13 @@ ghost use Rattle.sed_terms.specs.Term as terms;
 ghost use Rattle.sed_bodies.specs.Calls as meanings;
 ghost use Rattle.sed_bodies.specs.Expressions as meaning;
 
-use crate::expressions::expression;
+use crate::environment::Environment;
+use crate::expressions::judge;
 use crate::{
     Body, CheckedArguments, argument, kind_at, no_method, own_call, spelled, super_called,
     super_missing, with_argument,
 };
-use sed_body_rules::{Checked, Locals};
+use sed_body_rules::Checked;
 use sed_names::{Lookup, Signature};
 use sed_terms::{Arguments, Judged};
 use sed_typed::Kind;
@@ -41,24 +42,22 @@ pub(crate) fn count_of(args: &[Expr]) -> usize
 #[cycle(expressions)]
 pub(crate) fn call<N: Lookup>(
     alloc: Global,
-    names: &N,
-    body: &Body,
-    scope: &Locals,
+    within: &Environment<'_, N>,
     id: &Ident,
     args: &[Expr],
 ) -> Result<Checked, Memory>
-    ensures { IfOk result (λ r. r ≡ meaning.judge least_fault (N.names names.now)
-        body.now scope.now (Part (label.Call id.now) (row args.now) NoTree)) }
+    ensures { IfOk result (λ r. r ≡ meaning.judge least_fault (N.names within.now.names.now)
+        within.now.body within.now.scope.now (Part (label.Call id.now) (row args.now) NoTree)) }
 {
-    match names.method(body.class, id.bytes.as_slice()) {
+    match within.names.method(within.body.class, id.bytes.as_slice()) {
         Some(s) => {
             let params = s.params.as_slice();
-            let xs = arguments(alloc, names, body, scope, id.at, params, args)?;
-            let x = own_call(alloc, body, id.at, count_of(args), s, xs)?;
+            let xs = arguments(alloc, within, id.at, params, args)?;
+            let x = own_call(alloc, &within.body, id.at, count_of(args), s, xs)?;
             Ok(spelled(id, x))
         }
         None => {
-            let xs = arguments(alloc, names, body, scope, id.at, &[], args)?;
+            let xs = arguments(alloc, within, id.at, &[], args)?;
             Ok(spelled(id, no_method(id.at, xs)))
         }
     }
@@ -68,26 +67,24 @@ pub(crate) fn call<N: Lookup>(
 #[cycle(expressions)]
 pub(crate) fn super_call<N: Lookup>(
     alloc: Global,
-    names: &N,
-    body: &Body,
-    scope: &Locals,
+    within: &Environment<'_, N>,
     at: usize,
     id: &Ident,
     args: &[Expr],
 ) -> Result<Checked, Memory>
-    ensures { IfOk result (λ r. r ≡ meaning.judge least_fault (N.names names.now)
-        body.now scope.now (Part (label.Super at id.now) (row args.now) NoTree)) }
+    ensures { IfOk result (λ r. r ≡ meaning.judge least_fault (N.names within.now.names.now)
+        within.now.body within.now.scope.now (Part (label.Super at id.now) (row args.now) NoTree)) }
 {
-    match super_method(names, body, id.bytes.as_slice()) {
+    match super_method(within.names, &within.body, id.bytes.as_slice()) {
         Some(s) => {
             let params = s.params.as_slice();
-            let xs = arguments(alloc, names, body, scope, at, params, args)?;
-            let x = super_called(alloc, body, at, count_of(args), s, xs)?;
+            let xs = arguments(alloc, within, at, params, args)?;
+            let x = super_called(alloc, &within.body, at, count_of(args), s, xs)?;
             Ok(spelled(id, x))
         }
         None => {
-            let xs = arguments(alloc, names, body, scope, at, &[], args)?;
-            let x = super_missing(alloc, body, at, xs)?;
+            let xs = arguments(alloc, within, at, &[], args)?;
+            let x = super_missing(alloc, &within.body, at, xs)?;
             Ok(spelled(id, x))
         }
     }
@@ -97,20 +94,18 @@ pub(crate) fn super_call<N: Lookup>(
 #[cycle(expressions)]
 pub(crate) fn arguments<N: Lookup>(
     alloc: Global,
-    names: &N,
-    body: &Body,
-    scope: &Locals,
+    within: &Environment<'_, N>,
     at: usize,
     params: &[Option<Kind>],
     args: &[Expr],
 ) -> Result<CheckedArguments, Memory>
-    ensures { IfOk result (λ r. r ≡ meaning.judge_args least_fault (N.names names.now)
-        body.now scope.now at params.now 0 (Judged.Sound terms.Absent) (row args.now)) }
+    ensures { IfOk result (λ r. r ≡ meaning.judge_args least_fault (N.names within.now.names.now)
+        within.now.body within.now.scope.now at params.now 0 (Judged.Sound terms.Absent) (row args.now)) }
 {
     let mut xs = Judged::Sound(Arguments::new(alloc));
     for (i, e) in args.iter().enumerate() {
-        let x = expression(alloc, names, body, scope, e)?;
-        let x = argument(alloc, names, at, kind_at(params, i), x)?;
+        let x = judge(alloc, within, e)?;
+        let x = argument(alloc, within.names, at, kind_at(params, i), x)?;
         xs = with_argument(alloc, xs, x)?;
     }
     Ok(xs)

@@ -6,10 +6,11 @@ ghost use Rattle.sed_terms.specs.Faults.{least_fault};
 ghost use Rattle.sed_bodies.specs.Expressions as meaning;
 
 use crate::behind::{behind_class, behind_system};
-use crate::expressions::expression;
+use crate::environment::Environment;
+use crate::expressions::judge;
 use crate::steps::step;
-use crate::{Before, Body, before_link, spelled_head};
-use sed_body_rules::{Checked, Locals};
+use crate::{Before, before_link, spelled_head};
+use sed_body_rules::Checked;
 use sed_names::Lookup;
 use sed_units::{Expr, Link};
 use sed_value::Memory;
@@ -19,21 +20,19 @@ use std::alloc::Global;
 #[cycle(expressions)]
 pub(crate) fn chain<N: Lookup>(
     alloc: Global,
-    names: &N,
-    body: &Body,
-    scope: &Locals,
+    within: &Environment<'_, N>,
     at: usize,
     x: &Expr,
     steps: &[Link],
 ) -> Result<Checked, Memory>
-    ensures { IfOk result (λ r. r ≡ meaning.judge least_fault (N.names names.now)
-        body.now scope.now (Part (label.Chain at) x.now (row steps.now))) }
+    ensures { IfOk result (λ r. r ≡ meaning.judge least_fault (N.names within.now.names.now)
+        within.now.body within.now.scope.now (Part (label.Chain at) x.now (row steps.now))) }
 {
     match steps.split_first() {
-        None => expression(alloc, names, body, scope, x),
+        None => judge(alloc, within, x),
         Some((link, rest)) => {
-            let x = first(alloc, names, body, scope, at, x, link)?;
-            links(alloc, names, body, scope, at, x, rest)
+            let x = first(alloc, within, at, x, link)?;
+            links(alloc, within, at, x, rest)
         }
     }
 }
@@ -42,26 +41,24 @@ pub(crate) fn chain<N: Lookup>(
 #[cycle(expressions)]
 fn first<N: Lookup>(
     alloc: Global,
-    names: &N,
-    body: &Body,
-    scope: &Locals,
+    within: &Environment<'_, N>,
     at: usize,
     x: &Expr,
     link: &Link,
 ) -> Result<Checked, Memory>
-    ensures { IfOk result (λ r. r ≡ meaning.judge_first least_fault (N.names names.now)
-        body.now scope.now at x.now link.now) }
+    ensures { IfOk result (λ r. r ≡ meaning.judge_first least_fault (N.names within.now.names.now)
+        within.now.body within.now.scope.now at x.now link.now) }
 {
-    match before_link(names, body, scope, x, link) {
+    match before_link(within.names, &within.body, within.scope, x, link) {
         Before::Value => {
-            let x = expression(alloc, names, body, scope, x)?;
-            step(alloc, names, body, scope, at, x, link)
+            let x = judge(alloc, within, x)?;
+            step(alloc, within, at, x, link)
         }
         Before::Class(class) => {
-            let y = behind_class(alloc, names, body, scope, at, class, link)?;
+            let y = behind_class(alloc, within, at, class, link)?;
             Ok(spelled_head(x, y))
         }
-        Before::System => behind_system(alloc, names, body, scope, at, link),
+        Before::System => behind_system(alloc, within, at, link),
     }
 }
 
@@ -69,19 +66,17 @@ fn first<N: Lookup>(
 #[cycle(expressions)]
 fn links<N: Lookup>(
     alloc: Global,
-    names: &N,
-    body: &Body,
-    scope: &Locals,
+    within: &Environment<'_, N>,
     at: usize,
     x: Checked,
     links: &[Link],
 ) -> Result<Checked, Memory>
-    ensures { IfOk result (λ r. r ≡ meaning.judge_links least_fault (N.names names.now)
-        body.now scope.now at x (row links.now)) }
+    ensures { IfOk result (λ r. r ≡ meaning.judge_links least_fault (N.names within.now.names.now)
+        within.now.body within.now.scope.now at x (row links.now)) }
 {
     let mut x = x;
     for link in links {
-        x = step(alloc, names, body, scope, at, x, link)?;
+        x = step(alloc, within, at, x, link)?;
     }
     Ok(x)
 }

@@ -12,6 +12,7 @@ ghost use Rattle.sed_bodies.specs.Places as places;
 
 use crate::calls::{call, super_call};
 use crate::chains::chain;
+use crate::environment::Environment;
 use crate::places::{may_name, place_of};
 use crate::{Body, literal, named, receiver, spelled};
 use sed_body_rules::{
@@ -53,37 +54,16 @@ fn counting(op: UpdateOp) -> Arithmetic
     }
 }
 
-fn stored<N: Lookup>(
-    alloc: Global,
-    names: &N,
-    op: AssignOp,
-    at: usize,
-    may: bool,
-    right: usize,
-    x: Checked,
-    y: Checked,
-) -> Result<Checked, Memory>
-    ensures { IfOk result (λ r. r ≡ meaning.stored_by least_fault (N.names names.now)
-        (stores.arithmetic_of op) at may right x y) }
-{
-    match arithmetic_of(op) {
-        None => assigned(alloc, names, at, may, right, x, y),
-        Some(arithmetic) => compound(alloc, arithmetic, at, may, right, x, y),
-    }
-}
-
 // A name alone.
 fn name<N: Lookup>(
     alloc: Global,
-    names: &N,
-    body: &Body,
-    scope: &Locals,
+    within: &Environment<'_, N>,
     id: &Ident,
 ) -> Result<Checked, Memory>
     ensures { IfOk result (λ r. r ≡ members.spelled least_fault id.now
-        (members.named least_fault (N.names names.now) body.now scope.now id.now)) }
+        (members.named least_fault (N.names within.now.names.now) within.now.body within.now.scope.now id.now)) }
 {
-    let x = named(alloc, names, body, scope, id)?;
+    let x = named(alloc, within.names, &within.body, within.scope, id)?;
     Ok(spelled(id, x))
 }
 
@@ -96,7 +76,6 @@ fn no_value(kit: &Ident, id: &Ident) -> Checked
 }
 
 /// What an expression comes to, with the least fault inside where it is unknown.
-#[cycle(expressions)]
 pub fn expression<N: Lookup>(
     alloc: Global,
     names: &N,
@@ -106,20 +85,34 @@ pub fn expression<N: Lookup>(
 ) -> Result<Checked, Memory>
     ensures { IfOk result (λ r. r ≡ meaning.judge least_fault (N.names names.now) body.now scope.now e.now) }
 {
+    let body = *body;
+    judge(alloc, &Environment { names, body, scope }, e)
+}
+
+// The same, in an environment.
+#[cycle(expressions)]
+pub(crate) fn judge<N: Lookup>(
+    alloc: Global,
+    within: &Environment<'_, N>,
+    e: &Expr,
+) -> Result<Checked, Memory>
+    ensures { IfOk result (λ r. r ≡ meaning.judge least_fault (N.names within.now.names.now)
+        within.now.body within.now.scope.now e.now) }
+{
     match &e.node {
-        Node::Literal(l) => literal(alloc, names, l),
-        Node::This => receiver(alloc, body, e.at),
-        Node::Name(id) => name(alloc, names, body, scope, id),
+        Node::Literal(l) => literal(alloc, within.names, l),
+        Node::This => receiver(alloc, &within.body, e.at),
+        Node::Name(id) => name(alloc, within, id),
         Node::Of(kit, id) => Ok(no_value(kit, id)),
-        Node::Paren(x) => expression(alloc, names, body, scope, x),
-        Node::Prefix(op, x) => prefix(alloc, names, body, scope, e.at, *op, x),
-        Node::Cast(prim, x) => cast_operand(alloc, names, body, scope, e.at, *prim, x),
-        Node::Update(op, x) => update(alloc, names, body, scope, e.at, *op, x),
-        Node::Conditional(t, x, y) => conditional(alloc, names, body, scope, t, x, y),
-        Node::Assign(op, x, y) => assignment(alloc, names, body, scope, e.at, *op, x, y),
-        Node::Call(id, args) => call(alloc, names, body, scope, id, args),
-        Node::Super(id, args) => super_call(alloc, names, body, scope, e.at, id, args),
-        Node::Chain(x, steps) => chain(alloc, names, body, scope, e.at, x, steps),
+        Node::Paren(x) => judge(alloc, within, x),
+        Node::Prefix(op, x) => prefix(alloc, within, e.at, *op, x),
+        Node::Cast(prim, x) => cast_operand(alloc, within, e.at, *prim, x),
+        Node::Update(op, x) => update(alloc, within, e.at, *op, x),
+        Node::Conditional(t, x, y) => conditional(alloc, within, t, x, y),
+        Node::Assign(op, x, y) => assignment(alloc, within, e.at, *op, x, y),
+        Node::Call(id, args) => call(alloc, within, id, args),
+        Node::Super(id, args) => super_call(alloc, within, e.at, id, args),
+        Node::Chain(x, steps) => chain(alloc, within, e.at, x, steps),
     }
 }
 
@@ -127,19 +120,18 @@ pub fn expression<N: Lookup>(
 #[cycle(expressions)]
 fn prefix<N: Lookup>(
     alloc: Global,
-    names: &N,
-    body: &Body,
-    scope: &Locals,
+    within: &Environment<'_, N>,
     at: usize,
     op: PrefixOp,
     x: &Expr,
 ) -> Result<Checked, Memory>
     ensures { IfOk result (λ r. r ≡ meaning.prefixed least_fault at op (places.may_name x.now)
-        (places.place_of x.now) (meaning.judge least_fault (N.names names.now) body.now scope.now x.now)) }
+        (places.place_of x.now) (meaning.judge least_fault
+        (N.names within.now.names.now) within.now.body within.now.scope.now x.now)) }
 {
     let right = place_of(x);
     let may = may_name(x);
-    let x = expression(alloc, names, body, scope, x)?;
+    let x = judge(alloc, within, x)?;
     prefixed(alloc, at, op, may, right, x)
 }
 
@@ -147,18 +139,17 @@ fn prefix<N: Lookup>(
 #[cycle(expressions)]
 fn cast_operand<N: Lookup>(
     alloc: Global,
-    names: &N,
-    body: &Body,
-    scope: &Locals,
+    within: &Environment<'_, N>,
     at: usize,
     prim: Prim,
     x: &Expr,
 ) -> Result<Checked, Memory>
     ensures { IfOk result (λ r. r ≡ operands.cast least_fault at prim
-        (places.place_of x.now) (meaning.judge least_fault (N.names names.now) body.now scope.now x.now)) }
+        (places.place_of x.now) (meaning.judge least_fault
+        (N.names within.now.names.now) within.now.body within.now.scope.now x.now)) }
 {
     let right = place_of(x);
-    let x = expression(alloc, names, body, scope, x)?;
+    let x = judge(alloc, within, x)?;
     cast(alloc, at, prim, right, x)
 }
 
@@ -166,20 +157,18 @@ fn cast_operand<N: Lookup>(
 #[cycle(expressions)]
 fn update<N: Lookup>(
     alloc: Global,
-    names: &N,
-    body: &Body,
-    scope: &Locals,
+    within: &Environment<'_, N>,
     at: usize,
     op: UpdateOp,
     x: &Expr,
 ) -> Result<Checked, Memory>
     ensures { IfOk result (λ r. r ≡ stores.counted least_fault (meaning.counting op) gives.Old at
-        (places.may_name x.now) (places.place_of x.now)
-        (meaning.judge least_fault (N.names names.now) body.now scope.now x.now)) }
+        (places.may_name x.now) (places.place_of x.now) (meaning.judge least_fault
+        (N.names within.now.names.now) within.now.body within.now.scope.now x.now)) }
 {
     let left = place_of(x);
     let may = may_name(x);
-    let x = expression(alloc, names, body, scope, x)?;
+    let x = judge(alloc, within, x)?;
     counted(alloc, counting(op), at, may, left, x)
 }
 
@@ -187,17 +176,17 @@ fn update<N: Lookup>(
 #[cycle(expressions)]
 fn branches<N: Lookup>(
     alloc: Global,
-    names: &N,
-    body: &Body,
-    scope: &Locals,
+    within: &Environment<'_, N>,
     x: &Expr,
     y: &Expr,
 ) -> Result<(Checked, Checked), Memory>
-    ensures left { IfOk result (λ r. r.0 ≡ meaning.judge least_fault (N.names names.now) body.now scope.now x.now) }
-    ensures right { IfOk result (λ r. r.1 ≡ meaning.judge least_fault (N.names names.now) body.now scope.now y.now) }
+    ensures left { IfOk result (λ r. r.0 ≡ meaning.judge least_fault (N.names within.now.names.now)
+        within.now.body within.now.scope.now x.now) }
+    ensures right { IfOk result (λ r. r.1 ≡ meaning.judge least_fault (N.names within.now.names.now)
+        within.now.body within.now.scope.now y.now) }
 {
-    let x = expression(alloc, names, body, scope, x)?;
-    let y = expression(alloc, names, body, scope, y)?;
+    let x = judge(alloc, within, x)?;
+    let y = judge(alloc, within, y)?;
     Ok((x, y))
 }
 
@@ -205,23 +194,21 @@ fn branches<N: Lookup>(
 #[cycle(expressions)]
 fn conditional<N: Lookup>(
     alloc: Global,
-    names: &N,
-    body: &Body,
-    scope: &Locals,
+    within: &Environment<'_, N>,
     t: &Expr,
     x: &Expr,
     y: &Expr,
 ) -> Result<Checked, Memory>
-    ensures { IfOk result (λ r. r ≡ choices.chosen least_fault (places.place_of t.now) (places.place_of x.now)
-        (places.place_of y.now) (meaning.judge least_fault (N.names names.now) body.now scope.now t.now)
-        (meaning.judge least_fault (N.names names.now) body.now scope.now x.now)
-        (meaning.judge least_fault (N.names names.now) body.now scope.now y.now)) }
+    ensures { IfOk result (λ r. let judged = meaning.judge least_fault
+        (N.names within.now.names.now) within.now.body within.now.scope.now in
+        r ≡ choices.chosen least_fault (places.place_of t.now) (places.place_of x.now) (places.place_of y.now)
+        (judged t.now) (judged x.now) (judged y.now)) }
 {
     let at = place_of(t);
     let left = place_of(x);
     let right = place_of(y);
-    let t = expression(alloc, names, body, scope, t)?;
-    let (x, y) = branches(alloc, names, body, scope, x, y)?;
+    let t = judge(alloc, within, t)?;
+    let (x, y) = branches(alloc, within, x, y)?;
     chosen(alloc, at, left, right, t, x, y)
 }
 
@@ -229,22 +216,23 @@ fn conditional<N: Lookup>(
 #[cycle(expressions)]
 fn assignment<N: Lookup>(
     alloc: Global,
-    names: &N,
-    body: &Body,
-    scope: &Locals,
+    within: &Environment<'_, N>,
     at: usize,
     op: AssignOp,
     x: &Expr,
     y: &Expr,
 ) -> Result<Checked, Memory>
-    ensures { IfOk result (λ r. r ≡ meaning.stored_by least_fault (N.names names.now) (stores.arithmetic_of op) at
-        (places.may_name x.now) (places.place_of y.now)
-        (meaning.judge least_fault (N.names names.now) body.now scope.now x.now)
-        (meaning.judge least_fault (N.names names.now) body.now scope.now y.now)) }
+    ensures { IfOk result (λ r. let judged = meaning.judge least_fault
+        (N.names within.now.names.now) within.now.body within.now.scope.now in
+        r ≡ meaning.stored_by least_fault (N.names within.now.names.now) (stores.arithmetic_of op) at
+        (places.may_name x.now) (places.place_of y.now) (judged x.now) (judged y.now)) }
 {
     let may = may_name(x);
     let right = place_of(y);
-    let x = expression(alloc, names, body, scope, x)?;
-    let y = expression(alloc, names, body, scope, y)?;
-    stored(alloc, names, op, at, may, right, x, y)
+    let x = judge(alloc, within, x)?;
+    let y = judge(alloc, within, y)?;
+    match arithmetic_of(op) {
+        None => assigned(alloc, within.names, at, may, right, x, y),
+        Some(arithmetic) => compound(alloc, arithmetic, at, may, right, x, y),
+    }
 }

@@ -13,6 +13,7 @@ mod behind;
 mod calls;
 mod chains;
 pub mod context;
+mod environment;
 pub mod expressions;
 pub mod laws;
 pub mod literals;

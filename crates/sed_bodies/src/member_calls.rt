@@ -1,5 +1,5 @@
 //! What calls come to.
-ghost use Rattle.std.specs.Prelude.{◌≡◌, IfOk, None, Some, not, true};
+ghost use Rattle.std.specs.Prelude.{◌≡◌, IfOk, None, Some, not, option_copied, true};
 ghost use Rattle.sed_terms.specs.Faults as faults;
 ghost use Rattle.sed_terms.specs.Faults.{IfSound, least_fault};
 ghost use Rattle.sed_terms.specs.Forms as forms;
@@ -314,12 +314,15 @@ fn object_call(
     at: usize,
     count: usize,
     x: Found,
-    s: &Signature,
+    s: Option<&Signature>,
     xs: CheckedArguments,
 ) -> Result<Checked, Memory>
     requires { is_value x ≡ true }
-    ensures { IfOk result (λ r. r ≡ meaning.object_call least_fault at count x (Some s.now) xs) }
+    ensures { IfOk result (λ r. r ≡ meaning.object_call least_fault at count x (option_copied s.entry) xs) }
 {
+    let Some(s) = s else {
+        return Ok(no_method(at, xs));
+    };
     match paired(callee(at, count, s), xs) {
         Judged::Sound(pair) => {
             let (c, args) = pair;
@@ -436,26 +439,6 @@ fn unknown_receiver(f: Option<Fault>, xs: CheckedArguments) -> Checked
     }
 }
 
-fn called_of<N: Lookup>(
-    alloc: Global,
-    names: &N,
-    name: &[u8],
-    at: usize,
-    count: usize,
-    class: TypeNo,
-    x: Found,
-    xs: CheckedArguments,
-) -> Result<Checked, Memory>
-    requires { is_value x ≡ true }
-    ensures { IfOk result (λ r. r ≡ meaning.object_call least_fault at
-        count x ((N.names names.now).method class.0 name.now) xs) }
-{
-    match names.method(class, name) {
-        Some(s) => object_call(alloc, at, count, x, s, xs),
-        None => Ok(no_method(at, xs)),
-    }
-}
-
 /// `.ID(..)` behind an expression; `at` is the place of the call, which is that of the expression.
 #[tactic(auto, using(crate::proofs::Owners::object_value, crate::proofs::Owners::text_value))]
 pub fn called<N: Lookup>(
@@ -471,7 +454,9 @@ pub fn called<N: Lookup>(
 {
     match x {
         Judged::Sound(x) => match owner_of(x.sort()) {
-            Owner::Object(class) => called_of(alloc, names, name, at, count, class, x, xs),
+            Owner::Object(class) => {
+                object_call(alloc, at, count, x, names.method(class, name), xs)
+            }
             Owner::Text => text_called(alloc, at, count, x, text_named(name), xs),
             Owner::Buf => Ok(no_method(at, xs)),
             Owner::Nothing => Ok(no_method(at, xs)),

@@ -9,10 +9,11 @@ ghost use Rattle.sed_bodies.specs.Expressions as meaning;
 ghost use Rattle.sed_bodies.specs.Places as places;
 
 use crate::calls::{arguments, count_of};
-use crate::expressions::expression;
+use crate::environment::Environment;
+use crate::expressions::judge;
 use crate::places::place_of;
-use crate::{Body, called, member_of, params_behind, spelled};
-use sed_body_rules::{Checked, Locals, element, operated};
+use crate::{called, member_of, params_behind, spelled};
+use sed_body_rules::{Checked, element, operated};
 use sed_names::Lookup;
 use sed_units::{BinaryOp, Expr, Ident, Link, Step};
 use sed_value::Memory;
@@ -30,21 +31,19 @@ fn member<N: Lookup>(alloc: Global, names: &N, id: &Ident, x: Checked) -> Result
 #[cycle(expressions)]
 pub(crate) fn step<N: Lookup>(
     alloc: Global,
-    names: &N,
-    body: &Body,
-    scope: &Locals,
+    within: &Environment<'_, N>,
     at: usize,
     x: Checked,
     link: &Link,
 ) -> Result<Checked, Memory>
-    ensures { IfOk result (λ r. r ≡ meaning.judge_step least_fault (N.names names.now)
-        body.now scope.now at x link.now) }
+    ensures { IfOk result (λ r. r ≡ meaning.judge_step least_fault (N.names within.now.names.now)
+        within.now.body within.now.scope.now at x link.now) }
 {
     match &link.step {
-        Step::Member(id) => member(alloc, names, id, x),
-        Step::Method(id, args) => method(alloc, names, body, scope, at, x, id, args),
-        Step::Index(y) => index(alloc, names, body, scope, at, x, y),
-        Step::Operand(op, y) => operand(alloc, names, body, scope, at, x, *op, y),
+        Step::Member(id) => member(alloc, within.names, id, x),
+        Step::Method(id, args) => method(alloc, within, at, x, id, args),
+        Step::Index(y) => index(alloc, within, at, x, y),
+        Step::Operand(op, y) => operand(alloc, within, at, x, *op, y),
     }
 }
 
@@ -52,21 +51,19 @@ pub(crate) fn step<N: Lookup>(
 #[cycle(expressions)]
 fn method<N: Lookup>(
     alloc: Global,
-    names: &N,
-    body: &Body,
-    scope: &Locals,
+    within: &Environment<'_, N>,
     at: usize,
     x: Checked,
     id: &Ident,
     args: &[Expr],
 ) -> Result<Checked, Memory>
-    ensures { IfOk result (λ r. r ≡ meaning.judge_step least_fault (N.names names.now)
-        body.now scope.now at x (Part (label.Method at id.now) (row args.now) NoTree)) }
+    ensures { IfOk result (λ r. r ≡ meaning.judge_step least_fault (N.names within.now.names.now)
+        within.now.body within.now.scope.now at x (Part (label.Method at id.now) (row args.now) NoTree)) }
 {
     let name = id.bytes.as_slice();
-    let params = params_behind(names, name, &x);
-    let xs = arguments(alloc, names, body, scope, at, params, args)?;
-    let x = called(alloc, names, name, at, count_of(args), x, xs)?;
+    let params = params_behind(within.names, name, &x);
+    let xs = arguments(alloc, within, at, params, args)?;
+    let x = called(alloc, within.names, name, at, count_of(args), x, xs)?;
     Ok(spelled(id, x))
 }
 
@@ -74,18 +71,16 @@ fn method<N: Lookup>(
 #[cycle(expressions)]
 fn index<N: Lookup>(
     alloc: Global,
-    names: &N,
-    body: &Body,
-    scope: &Locals,
+    within: &Environment<'_, N>,
     at: usize,
     x: Checked,
     y: &Expr,
 ) -> Result<Checked, Memory>
-    ensures { IfOk result (λ r. r ≡ operands.element least_fault at (places.place_of y.now)
-        x (meaning.judge least_fault (N.names names.now) body.now scope.now y.now)) }
+    ensures { IfOk result (λ r. r ≡ operands.element least_fault at (places.place_of y.now) x
+        (meaning.judge least_fault (N.names within.now.names.now) within.now.body within.now.scope.now y.now)) }
 {
     let right = place_of(y);
-    let y = expression(alloc, names, body, scope, y)?;
+    let y = judge(alloc, within, y)?;
     element(alloc, at, right, x, y)
 }
 
@@ -93,18 +88,16 @@ fn index<N: Lookup>(
 #[cycle(expressions)]
 fn operand<N: Lookup>(
     alloc: Global,
-    names: &N,
-    body: &Body,
-    scope: &Locals,
+    within: &Environment<'_, N>,
     at: usize,
     x: Checked,
     op: BinaryOp,
     y: &Expr,
 ) -> Result<Checked, Memory>
-    ensures { IfOk result (λ r. r ≡ operands.operated least_fault (operands.form_of op)
-        at (places.place_of y.now) x (meaning.judge least_fault (N.names names.now) body.now scope.now y.now)) }
+    ensures { IfOk result (λ r. r ≡ operands.operated least_fault (operands.form_of op) at (places.place_of y.now) x
+        (meaning.judge least_fault (N.names within.now.names.now) within.now.body within.now.scope.now y.now)) }
 {
     let right = place_of(y);
-    let y = expression(alloc, names, body, scope, y)?;
+    let y = judge(alloc, within, y)?;
     operated(alloc, op, at, right, x, y)
 }

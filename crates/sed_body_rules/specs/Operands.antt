@@ -4,7 +4,6 @@ use Rattle.sed_units.specs.declared.operators.BinaryOp.{BinaryOp}
 use Rattle.sed_units.specs.declared.operators.BinaryOp.TheVariants as op
 use Rattle.sed_value.specs.declared.slot_type.Primitive.{Primitive}
 use Rattle.sed_value.specs.declared.slot_type.Primitive.TheVariants as prim
-use Rattle.sed_typed.specs.declared.kind.Kind.TheVariants as kind
 use Rattle.sed_typed.specs.declared.operators.Arithmetic.{Arithmetic}
 use Rattle.sed_typed.specs.declared.operators.Arithmetic.TheVariants as arithmetic
 use Rattle.sed_typed.specs.declared.operators.Binary.{Binary}
@@ -17,8 +16,6 @@ use Rattle.sed_typed.specs.declared.operators.Width.TheVariants as width
 use Rattle.sed_terms.specs.declared.judged.Judged.{Judged}
 use Rattle.sed_terms.specs.declared.judged.Judged.TheVariants.{Sound}
 use Rattle.sed_terms.specs.declared.sign.Sign.TheVariants as sign
-use Rattle.sed_terms.specs.declared.sort.Sort.{Sort}
-use Rattle.sed_terms.specs.declared.sort.Sort.TheVariants.{Of}
 use Rattle.sed_terms.specs.Faults.{Marks, broken, after, joined, unless, some_or}
 use Rattle.sed_terms.specs.Forms.{indexed, has_elements}
 use Rattle.sed_terms.specs.Sorts.{sort_of}

@@ -217,30 +217,48 @@ fn are_references(x: Sort, y: Sort) -> bool
     is_reference(x) && is_reference(y)
 }
 
+// What `==` or `!=` is of numbers, of bools and of references.
+#[derive(Clone, Copy)]
+struct EqualityOps {
+    numbers: Comparison,
+    truths: Binary,
+    references: Binary,
+}
+
+const EQUAL: EqualityOps = EqualityOps {
+    numbers: Comparison::Equal,
+    truths: Binary::SameTruth,
+    references: Binary::SameReference,
+};
+
+const NOT_EQUAL: EqualityOps = EqualityOps {
+    numbers: Comparison::NotEqual,
+    truths: Binary::OtherTruth,
+    references: Binary::OtherReference,
+};
+
 // Two numbers, two bools or two references.
 #[tactic(auto, using(crate::proofs::Values::values))]
 fn equated_pair(
     alloc: Global,
-    op: Comparison,
-    truths: Binary,
-    references: Binary,
+    op: EqualityOps,
     at: usize,
     x: Found,
     y: Found,
 ) -> Result<Checked, Memory>
     ensures { IfOk result (λ r. r ≡ faults.some_or least_fault (faults.broken 13 at)
-        (operands.equated_pair op truths references x y)) }
+        (operands.equated_pair op.numbers op.truths op.references x y)) }
 {
     if are_numbers(x.sort(), y.sort()) {
-        let z = compared(alloc, op, x, y)?;
+        let z = compared(alloc, op.numbers, x, y)?;
         return Ok(Judged::Sound(z));
     }
     if are_bools(x.sort(), y.sort()) {
-        let z = Found::binary(alloc, truths, x, y)?;
+        let z = Found::binary(alloc, op.truths, x, y)?;
         return Ok(Judged::Sound(z));
     }
     if are_references(x.sort(), y.sort()) {
-        let z = Found::binary(alloc, references, x, y)?;
+        let z = Found::binary(alloc, op.references, x, y)?;
         return Ok(Judged::Sound(z));
     }
     Ok(broken(13, at))
@@ -248,23 +266,21 @@ fn equated_pair(
 
 fn equality(
     alloc: Global,
-    op: Comparison,
-    truths: Binary,
-    references: Binary,
+    op: EqualityOps,
     at: usize,
     right: usize,
     x: Checked,
     y: Checked,
 ) -> Result<Checked, Memory>
-    ensures { IfOk result (λ r. r ≡ operands.operated least_fault (operands.Equality op truths references)
-        at right x y) }
+    ensures { IfOk result (λ r. r ≡ operands.operated least_fault
+        (operands.Equality op.numbers op.truths op.references) at right x y) }
 {
     match paired(x, y) {
         Judged::Sound((x, y)) => {
             let left = x.sort();
             let x = beside(alloc, y.sort(), x)?;
             let y = beside(alloc, left, y)?;
-            equated_pair(alloc, op, truths, references, at, x, y)
+            equated_pair(alloc, op, at, x, y)
         }
         Judged::Unknown(f) => Ok(Judged::Unknown(f)),
     }
@@ -315,32 +331,8 @@ pub fn operated(
     match op {
         BinaryOp::Or => either(alloc, at, right, x, y),
         BinaryOp::And => both(alloc, at, right, x, y),
-        BinaryOp::Equal => {
-            let same = Binary::SameReference;
-            equality(
-                alloc,
-                Comparison::Equal,
-                Binary::SameTruth,
-                same,
-                at,
-                right,
-                x,
-                y,
-            )
-        }
-        BinaryOp::NotEqual => {
-            let other = Binary::OtherReference;
-            equality(
-                alloc,
-                Comparison::NotEqual,
-                Binary::OtherTruth,
-                other,
-                at,
-                right,
-                x,
-                y,
-            )
-        }
+        BinaryOp::Equal => equality(alloc, EQUAL, at, right, x, y),
+        BinaryOp::NotEqual => equality(alloc, NOT_EQUAL, at, right, x, y),
         BinaryOp::Less => order(alloc, Comparison::Less, at, right, x, y),
         BinaryOp::LessOrEqual => order(alloc, Comparison::LessOrEqual, at, right, x, y),
         BinaryOp::Greater => order(alloc, Comparison::Greater, at, right, x, y),

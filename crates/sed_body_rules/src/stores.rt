@@ -201,18 +201,14 @@ fn lengthened(
     }
 }
 
-fn shifted(
-    alloc: Global,
-    op: Arithmetic,
-    at: usize,
-    may: bool,
-    right: usize,
-    x: Checked,
-    y: Checked,
-) -> Result<Checked, Memory>
-    ensures { IfOk result (λ r. r ≡ stores.shifted least_fault op at may right x y) }
+// `op=` with a shift, of a place of a number and an int.
+fn shifted(alloc: Global, op: Arithmetic, x: Checked, y: Checked) -> Result<Checked, Memory>
+    requires place { IfSound x (λ t. sorts.is_place t ≡ true) }
+    requires value { IfSound y (λ t. is_value t ≡ true) }
+    ensures { IfOk result (λ r. r ≡ faults.joined least_fault x y
+        (λ s t. Judged.Sound (forms.updated (stores.storing op (conversions.width_of s)) s t))) }
 {
-    match target_and_operand(number_target(at, may, at, x), wants_int(right, y)) {
+    match target_and_operand(x, y) {
         Judged::Sound(pair) => {
             let (x, y) = pair;
             let z = updated(alloc, op, x, y)?;
@@ -222,18 +218,20 @@ fn shifted(
     }
 }
 
+// `op=` with another operator, of a place of a number and a number.
 fn computed(
     alloc: Global,
     op: Arithmetic,
-    at: usize,
-    may: bool,
     right: usize,
     x: Checked,
     y: Checked,
 ) -> Result<Checked, Memory>
-    ensures { IfOk result (λ r. r ≡ stores.computed least_fault op at may right x y) }
+    requires place { IfSound x (λ t. sorts.is_place t ≡ true) }
+    requires value { IfSound y (λ t. is_value t ≡ true) }
+    ensures { IfOk result (λ r. r ≡ faults.joined least_fault x y
+        (λ s t. stores.lengthened least_fault op right s t)) }
 {
-    match target_and_operand(number_target(at, may, at, x), wants_number(right, y)) {
+    match target_and_operand(x, y) {
         Judged::Sound(pair) => {
             let (x, y) = pair;
             lengthened(alloc, op, right, x, y)
@@ -254,10 +252,11 @@ pub fn compound(
 ) -> Result<Checked, Memory>
     ensures { IfOk result (λ r. r ≡ stores.compound least_fault op at may right x y) }
 {
+    let x = number_target(at, may, at, x);
     if is_shift(op) {
-        shifted(alloc, op, at, may, right, x, y)
+        shifted(alloc, op, x, wants_int(right, y))
     } else {
-        computed(alloc, op, at, may, right, x, y)
+        computed(alloc, op, right, x, wants_number(right, y))
     }
 }
 

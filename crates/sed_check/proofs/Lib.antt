@@ -32,6 +32,7 @@ pub mod Loads
 pub mod Ends
 pub mod KitsUnits
 pub mod Alike
+mod Accepting
 mod Outlines
 mod BodyTrees
 mod SpelledProgram

@@ -30,9 +30,20 @@ IsChecked cycles sources (Err (FileFault file)) = ⊥
 IsChecked cycles sources (Err (Refused file why)) = ⊥
 IsChecked cycles sources (Err Memory) = ⊥
 
+-- ---- the kits of manifests
+
+-- Manifests and the texts that they name are accepted: none is refused as it is read, the kits are in order, each text
+-- lexes and derives, and the units have no fault.
+pub record Accepted (names : List (List ℕ)) (reads : List Read) : Type 0 where
+  pub sources : Sources
+  pub read : KitsRead names reads (Ok sources)
+  pub faultless : faults sources.kits false ≡ []
+
 -- The kits of the manifests of these names are read, and their units checked.
 unfoldable pub KitsLoaded : List (List ℕ) → List Read → Result Program KitsRefusal → Type 0
 KitsLoaded names = AndThen (Told of_sources (KitsRead names)) (λ sources. Decides (IsChecked false sources))
+
+-- ---- one source
 
 -- The kit `local`, which depends on no other, of one source.
 abbrev pub local : List ℕ → TheUnit → Sources
@@ -40,6 +51,12 @@ local name unit = record {
   kits = (record { kit = codes "local"; depends = []; units = unit ∷ [] }) ∷ [];
   files = name ∷ [];
 }
+
+-- A text is accepted as the kit `local`, whose first class is what `cycles` asks for.
+pub record AcceptedText (name : List ℕ) (reads : List Read) : Type 0 where
+  pub unit : TheUnit
+  pub read : SourceRead name reads (Ok unit)
+  pub faultless : faults (local name unit).kits true ≡ []
 
 -- The source of this name is read, and checked as the kit `local`, for a component of its first class.
 unfoldable pub TextLoaded : List ℕ → List Read → Result Program KitsRefusal → Type 0

@@ -11,8 +11,8 @@ use sed_classes::KitUnits;
 use sed_typed::Program;
 use std::alloc::Global;
 
-/// The program that the units of kits spell, which is typed; with `cycles` the first class must be a component that may
-/// have objects.
+/// The program that the units of kits spell, which is typed; with `cycles` the first class must be a component type
+/// that is not abstract, rule 25.
 ///
 /// It asks for at most 15 kits whose names are names of kits, none twice and none `sys`, and units as the lexer and the
 /// grammar leave them. A fault is the first one of all: its rule, the number of its text among the texts of all kits,

@@ -36,7 +36,8 @@ fn refusal_of(units: &[KitUnits], fault: PlacedFault) -> CheckRefusal
     }
 }
 
-/// The program that the units of kits spell; with `cycles` the first class must be a component that may have objects.
+/// The program that the units of kits spell; with `cycles` the first class must be a component type that is not
+/// abstract.
 ///
 /// A fault is the first one of all. Want of memory comes too where the number of a text or a place is 2^32 or more, and
 /// where bodies have to be judged in units with more classes or members than 16 bits number.

@@ -1,13 +1,17 @@
 //! Laws of what is loaded. Each is the contract of a function that does nothing.
-ghost use Rattle.std.specs.Prelude.{◌≡◌, ℕ, List, Result, Ok};
+ghost use Rattle.std.specs.Prelude.{◌≡◌, ℕ, ◌≤◌, List, Result, Ok, length};
+ghost use Rattle.kit_sources.specs.Text.{AreOfBytes};
 ghost use Rattle.sed_outside.specs.Steps.{Read, Agree};
 ghost use Rattle.sed_outside.specs.Reads.{failed_names};
+ghost use Rattle.sed_typed.specs.Typed.{Typed};
 ghost use Rattle.sed_typed.specs.declared.program.Program.{Program};
 ghost use Rattle.sed_check.specs.declared.refusal.KitsRefusal.{KitsRefusal};
 ghost use Rattle.sed_check.specs.Refusals.{AreAlike, HasRefusalOf, failed_in};
-ghost use Rattle.sed_check.specs.Loading.{KitsLoaded, TextLoaded};
+ghost use Rattle.sed_check.specs.Loading.{Accepted, AcceptedText, KitsLoaded, TextLoaded, local};
+ghost use Rattle.sed_check.specs.Short.{AreShort};
 
-use kit_sources::{failed_reads_are_told, what_is_read_is_one};
+use crate::{accepted_units_have_a_program, units_are_read};
+use kit_sources::{failed_reads_are_told, kits_are_counted, kits_are_named, what_is_read_is_one};
 use sed_terms::terms_have_one_tree;
 
 /// Whether a program is loaded, and else the refusal, is one for the same reads: where two rows of reads give the same
@@ -37,4 +41,24 @@ pub fn failed_loads_are_told()
         → TextLoaded name reads end → failed_names reads ≡ failed_in end }
 {
     failed_reads_are_told();
+}
+
+/// A program is loaded from accepted kits alone, and accepted kits have one that they load, which is typed. It asks
+/// that their texts are bytes, and that a memory holds their bodies.
+pub fn accepted_kits_load()
+    ensures accepted { (names : List (List ℕ)) (reads : List Read) (program : Program)
+        → KitsLoaded names reads (Ok program) → Accepted names reads }
+    ensures load { (names : List (List ℕ)) (reads : List Read) (accepted : Accepted names reads) → length names ≤ 15
+        → AreOfBytes accepted.sources.kits → AreShort accepted.sources.kits
+        → (program : Program) × KitsLoaded names reads (Ok program) × Typed program }
+    ensures accepted_text { (name : List ℕ) (reads : List Read) (program : Program)
+        → TextLoaded name reads (Ok program) → AcceptedText name reads }
+    ensures load_text { (name : List ℕ) (reads : List Read) (accepted : AcceptedText name reads)
+        → AreOfBytes (local name accepted.unit).kits → AreShort (local name accepted.unit).kits
+        → (program : Program) × TextLoaded name reads (Ok program) × Typed program }
+{
+    kits_are_counted();
+    kits_are_named();
+    units_are_read();
+    accepted_units_have_a_program();
 }

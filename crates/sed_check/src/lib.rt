@@ -9,7 +9,8 @@
 //! in the order of the program's methods; `elaborate` puts what is declared and what stands in bodies together. That
 //! the program is typed is a law, and rests on others: what is read of sources has names, literals and texts as
 //! checking asks of units; what names mean in units is what the program has that they spell; and what units without a
-//! fault declare is typed. That units without a fault have such a program is a law of its own.
+//! fault declare is typed. That units without a fault have such a program is a law of its own. So kits are `Accepted`
+//! exactly where they load, but for memory.
 #![tactic(auto)]
 
 mod bodies;
@@ -36,7 +37,7 @@ mod typed_laws;
 pub use bodies::{Bodies, judged_bodies};
 pub use checking::check;
 pub use elaborated::{CheckRefusal, elaborate};
-pub use kit_laws::{failed_loads_are_told, loads_agree};
+pub use kit_laws::{accepted_kits_load, failed_loads_are_told, loads_agree};
 pub use laws::accepted_units_are_typed;
 pub use loading::{load_kits, load_text};
 pub use meant_laws::{

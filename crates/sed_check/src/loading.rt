@@ -49,7 +49,8 @@ fn read_and_checked<F: Files>(
 ///
 /// The manifests are read in the order of the names, then the kits are ordered, then their sources are read, lexed and
 /// parsed one after another, and then all are checked. The first refusal ends it, and nothing more is read.
-/// `KitsLoaded` says all this, and `Memory` may come in place of each end. No file changes.
+/// `KitsLoaded` says all this, and `Memory` may come in place of each end; a program comes from accepted kits alone
+/// (`accepted_kits_load`). No file changes.
 ///
 /// A `FileFault` comes only where the count of failed reads of its file rose, and wherever a count did.
 pub fn load_kits<F: Files>(
@@ -121,11 +122,12 @@ fn read_and_checked_alone<F: Files>(
     }
 }
 
-/// The program of the source of this name alone, which is the kit `local`; its first class must be a component that may
-/// have objects.
+/// The program of the source of this name alone, which is the kit `local`; its first class must be a component type
+/// that is not abstract.
 ///
 /// The source is read, lexed and parsed, and then checked. `TextLoaded` says all this, and `Memory` may come in place
-/// of each end. No file changes. For a `FileFault` see `load_kits`.
+/// of each end; a program comes from an accepted text alone (`accepted_kits_load`). No file changes. For a `FileFault`
+/// see `load_kits`.
 pub fn load_text<F: Files>(alloc: Global, name: &str, files: &mut F) -> Result<Program, KitsRefusal>
     ensures loaded { HasReads F.Files files.old files.new
         (λ reads. UnlessFree is_want (TextLoaded name.now reads) result) }

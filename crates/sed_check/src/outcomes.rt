@@ -123,7 +123,7 @@ fn found(
     }
 }
 
-/// What units come to; with `cycles` the first class must be a component that may have objects.
+/// What units come to; with `cycles` the first class must be a component type that is not abstract.
 ///
 /// Want of memory is the only refusal.
 pub fn outcome_of(alloc: Global, units: &[KitUnits], cycles: bool) -> Result<Outcome, Memory>

@@ -70,7 +70,7 @@ impl<E: Engine> Kept<E> {
         ensures stores { IsTrue (D.meaning disk.old).tells → AllStores (setup_of self.old).slot (D.meaning disk.new) }
         ensures time { Elapses (D.meaning disk.old) (D.meaning disk.new) }
     {
-        bytes_are_heard(bytes);
+        bytes_are_heard();
         only_open_sessions_have_subscribed();
         few_messages_are_sent();
         subscribing_keeps_agreement::<E>();

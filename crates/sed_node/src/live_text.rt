@@ -20,8 +20,8 @@ use sed_outside::{Clock, Link, Sink, SinkFault};
 /// the five lines of the run: its ticks, the datagrams that were handled, those that were offered, the root calls of
 /// its cycles that trapped, and the sessions that live at its end. What it makes of the node and the disk, what it
 /// offers and what it puts, are those of the run over the events of these polls and moments, and the polls and moments
-/// behind them are still to come. All cycles are done before anything is put; where the sink fails, which is told by
-/// its count of faults, a front of the text was put.
+/// behind them are still to come. Where the sink fails, which is told by its count of faults, a front of the text was
+/// put. The text is put last; no clause says so, since link, clock and sink have no history in common.
 ///
 /// Of the disk and the file that is attached the same is said as by `replay`. No memory is taken but by adds.
 pub fn live<E: Engine, D: Disk, L: Link, C: Clock, O: Sink>(

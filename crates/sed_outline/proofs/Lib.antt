@@ -1,6 +1,7 @@
 pub mod Upwards
 pub mod Rounds
 pub mod Inside
+pub mod Settling
 pub mod Measures
 pub mod Orders
 pub mod Infos

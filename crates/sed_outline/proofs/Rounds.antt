@@ -1,5 +1,5 @@
 -- Rows of all classes, and rounds over them.
-use Rattle.std.proofs.Common.{◌≡◌, ◌≤◌, ℕ, zero, suc, ◌+◌, ◌-◌, ◌<◌, map, length, List, [], ◌∷◌, Option, None, replicate, refl, sym, ap, ◌∙◌, arith}
+use Rattle.std.proofs.Common.{◌≡◌, ◌≢◌, ◌≤◌, ℕ, zero, suc, ◌+◌, ◌-◌, ◌<◌, map, length, List, [], ◌∷◌, Option, None, replicate, slice_set, refl, sym, ap, ◌∙◌, arith}
 use Rattle.std.specs.List.{range_with_len}
 use Rattle.std.specs.Option.{option_and_then, option_map_or}
 use Rattle.std.proofs.lemmas.Option.{slice_get_past}
@@ -32,6 +32,27 @@ constant_range d a (suc n) = ap (λ xs. d ∷ xs) (constant_range d (a + 1) n)
 pub constant_row : {X : Type 0} (units : List KitUnits) (d : X) →
     replicate (length (all_classes units)) d ≡ row_of units (λ (i : ℕ). d)
 constant_row units d = constant_range d 0 (length (all_classes units))
+
+-- ---- an item put into a row
+
+pub same_everywhere : {X : Type 0} (other : X) (n at : ℕ) → item other (replicate n other) at ≡ other
+same_everywhere other zero at = refl
+same_everywhere other (suc n) zero = refl
+same_everywhere other (suc n) (suc at) = same_everywhere other n at
+
+pub put_here : {X : Type 0} (other x : X) (row : List X) (at : ℕ) → at < length row →
+    item other (slice_set row at x) at ≡ x
+put_here other x [] at lt = absurd (omega (arith, lt))
+put_here other x (y ∷ row) zero lt = refl
+put_here other x (y ∷ row) (suc at) lt = put_here other x row at (omega (arith, lt))
+
+pub put_elsewhere : {X : Type 0} (other x : X) (row : List X) (at place : ℕ) → place ≢ at →
+    item other (slice_set row at x) place ≡ item other row place
+put_elsewhere other x [] at place ne = refl
+put_elsewhere other x (y ∷ row) zero zero ne = absurd (ne refl)
+put_elsewhere other x (y ∷ row) zero (suc place) ne = refl
+put_elsewhere other x (y ∷ row) (suc at) zero ne = refl
+put_elsewhere other x (y ∷ row) (suc at) (suc place) ne = put_elsewhere other x row at place (λ e. ne (ap suc e))
 
 -- ---- places behind all classes
 

@@ -1,2 +1,4 @@
 pub mod Rounds
 pub mod Fits
+pub mod Settled
+pub mod Groups

@@ -3,9 +3,11 @@ ghost use Rattle.std.specs.Prelude.{◌≡◌, IfOk, length, replicate, false};
 ghost use Rattle.std.specs.List.{list_any};
 ghost use Rattle.sed_classes.specs.Objects as objects;
 ghost use Rattle.sed_outline.specs.Rounds.{inline_in, is_or_has, next_holding, row_of, rounds};
+ghost use Rattle.sed_outline.specs.Settled.{Settles};
 
 use crate::fields::push_inline;
 use crate::rows::{are_same_known, is_known, none_known};
+use crate::settled::settled;
 use sed_classes::Based;
 use sed_value::{Items, Memory};
 use std::alloc::Global;
@@ -87,6 +89,25 @@ fn holding(alloc: Global, inside: &[Items<usize>], inner: usize) -> Result<Vec<b
     Ok(known)
 }
 
+// Whether an object of a class would stand in itself.
+fn holds_itself(
+    alloc: Global,
+    based: &Based<'_>,
+    inside: &[Items<usize>],
+    settled: &[bool],
+    class: usize,
+) -> Result<bool, Memory>
+    requires inside { inside.now ≡ row_of based.now (inline_in based.now) }
+    requires settled { Settles based.now settled.now }
+    ensures { IfOk result (λ b. b ≡ objects.holds_itself based.now class) }
+{
+    if is_known(settled, class) {
+        return Ok(false);
+    }
+    let held = holding(alloc, inside, class)?;
+    Ok(is_known(held.as_slice(), class))
+}
+
 /// For each class whether one of its objects would stand in itself.
 ///
 /// Want of memory is the only refusal.
@@ -94,10 +115,11 @@ pub fn holding_classes(alloc: Global, based: &Based<'_>) -> Result<Vec<bool>, Me
     ensures { IfOk result (λ v. v.items ≡ row_of based.now (objects.holds_itself based.now)) }
 {
     let inside = inline_row(alloc, based)?;
+    let settled = settled(alloc, inside.as_slice())?;
     let mut all = Vec::new(alloc);
     for class in 0..based.classes().len() {
-        let held = holding(alloc, inside.as_slice(), class)?;
-        all.push(is_known(held.as_slice(), class))?;
+        let holds = holds_itself(alloc, based, inside.as_slice(), settled.as_slice(), class)?;
+        all.push(holds)?;
     }
     Ok(all)
 }

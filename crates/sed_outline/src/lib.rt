@@ -8,7 +8,8 @@
 //! Which inline objects would stand in themselves, of which classes there are none, and how many bytes an object of a
 //! class takes, is asked of all classes at once, in rounds: each goes one object deeper, until nothing changes or there
 //! are as many rounds as classes. So nothing goes deeper on the stack than a call, however objects stand in one
-//! another.
+//! another. Before, each class is gone into once, behind those whose objects stand in it: that settles each that holds,
+//! however deep, no object that would stand in itself, and only of the others it is asked in rounds.
 #![tactic(auto)]
 
 mod class_slots;
@@ -21,6 +22,7 @@ mod objects;
 mod order;
 mod rows;
 mod schema;
+mod settled;
 mod sizes;
 
 pub use class_slots::{shape_of, slots};

@@ -4,6 +4,7 @@ pub mod Found
 pub mod Sums
 pub mod Lists
 pub mod Places
+pub mod Noted
 pub mod Spellings
 pub mod FieldRows
 pub mod OrderLists

@@ -23,7 +23,7 @@ at_start name members = by_place (position (has_name name) members)
     by_place (Some k) = let e : 0 + k ≡ k = omega arith in e
 
 -- the place of the first that passes, where the first of all does or does not
-here : (p : Member → Bool) (m : Member) (ms : List Member) → p m ≡ true → position p (m ∷ ms) ≡ Some 0
+pub here : (p : Member → Bool) (m : Member) (ms : List Member) → p m ≡ true → position p (m ∷ ms) ≡ Some 0
 here p m ms e =
     ap
     (λ b. cond (nat_lt (cond (not b) (1 + position_or_len p ms) 0) (suc (length ms))) (Some (cond (not b)
@@ -31,7 +31,7 @@ here p m ms e =
     e
     ∙ ap (λ b. cond b (Some 0) None) (first_lt (length ms))
 
-later : (p : Member → Bool) (m : Member) (ms : List Member) → p m ≡ false →
+pub later : (p : Member → Bool) (m : Member) (ms : List Member) → p m ≡ false →
     position p (m ∷ ms) ≡ option_map suc (position p ms)
 later p m ms e =
     ap

@@ -5,6 +5,7 @@ pub mod Texts
 pub mod Meaning
 pub mod Outlined
 pub mod Parts
+pub mod Places
 pub mod Held
 pub mod Tables
 pub mod Ordered

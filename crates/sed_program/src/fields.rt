@@ -186,26 +186,32 @@ fn slot_of_field(slots: &[SlotInfo], member: &Member) -> Result<Option<SlotNo>, 
     slot_number(slots, member.name.bytes.as_slice())
 }
 
-// A member of the class with this number at this place as a field, which holds this.
+// The class that declares a field: its number, its place and its slots.
+#[derive(Drop)]
+struct Owner<'a> {
+    number: u16,
+    class: usize,
+    slots: &'a [SlotInfo],
+}
+
+// A member of a class as a field, which holds this.
 fn a_field(
     alloc: Global,
     based: &Based<'_>,
-    number: u16,
-    class: usize,
-    slots: &[SlotInfo],
+    owner: &Owner<'_>,
     member: &Member,
     form: FieldForm,
 ) -> Result<Field, Memory>
-    requires { slots.now ≡ slotted.slots based.now class }
-    ensures { IfOk result (λ f. f ≡ fields.a_field based.now number class member.now form) }
+    requires { owner.now.slots.now ≡ slotted.slots based.now owner.now.class }
+    ensures { IfOk result (λ f. f ≡ fields.a_field based.now owner.now.number owner.now.class member.now form) }
 {
-    let slot = slot_of_field(slots, member)?;
+    let slot = slot_of_field(owner.slots, member)?;
     let Some(name) = Word::read(member.name.bytes.as_slice()) else {
         return Err(Memory);
     };
-    match begun_in(alloc, based, class, form, &member.form) {
+    match begun_in(alloc, based, owner.class, form, &member.form) {
         Ok(initial) => Ok(Field {
-            class: TypeNo(number),
+            class: TypeNo(owner.number),
             name,
             form,
             slot,
@@ -220,24 +226,23 @@ fn push_field(
     alloc: Global,
     ordered: &Ordered<'_, '_>,
     part: Part,
-    number: u16,
-    class: usize,
-    slots: &[SlotInfo],
+    owner: &Owner<'_>,
     member: &Member,
     into: &mut Vec<Field>,
 ) -> Result<(), Memory>
-    requires { slots.now ≡ slotted.slots ordered.now class }
+    requires { owner.now.slots.now ≡ slotted.slots ordered.now owner.now.class }
     ensures { OnOk result (into.new.items ≡ into.old.items
-        ++ filter_map (fields.field_of ordered.now number class) (filter (parts.is_of part) (member.now ∷ []))) }
+        ++ filter_map (fields.field_of ordered.now owner.now.number owner.now.class) (filter (parts.is_of part)
+        (member.now ∷ []))) }
 {
     if !is_of(part, member) {
         return Ok(());
     }
     let based = ordered.based();
-    let Some(form) = ordered.form_of(based.classes().kit_of(class), member) else {
+    let Some(form) = ordered.form_of(based.classes().kit_of(owner.class), member) else {
         return Ok(());
     };
-    match a_field(alloc, based, number, class, slots, member, form) {
+    match a_field(alloc, based, owner, member, form) {
         Ok(field) => push(into, field),
         Err(refusal) => Err(refusal),
     }
@@ -265,17 +270,13 @@ fn push_fields(
 {
     let based = ordered.based();
     let slots = slots(alloc, based, class)?;
+    let owner = Owner {
+        number,
+        class,
+        slots: slots.as_slice(),
+    };
     for member in based.classes().members(class) {
-        push_field(
-            alloc,
-            ordered,
-            part,
-            number,
-            class,
-            slots.as_slice(),
-            member,
-            into,
-        )?;
+        push_field(alloc, ordered, part, &owner, member, into)?;
     }
     Ok(())
 }

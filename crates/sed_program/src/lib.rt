@@ -14,6 +14,7 @@
 mod declared_member;
 mod fields;
 mod laws;
+mod name_places;
 mod numbers;
 mod ordered;
 mod parts;

@@ -4,10 +4,9 @@ ghost use Rattle.sed_classes.specs.Bases as ancestry;
 ghost use Rattle.sed_classes.specs.Schema as schemas;
 ghost use Rattle.sed_program.specs.Fields as fields;
 ghost use Rattle.sed_program.specs.Methods as methods;
-ghost use Rattle.sed_program.specs.Parts as parts;
 
 use crate::ordered::Ordered;
-use crate::parts::{Part, number_behind, place_named};
+use crate::parts::{Part, number_behind};
 use sed_classes::behind_first;
 use sed_typed::TypeNo;
 use sed_value::{Memory, front_of};
@@ -22,12 +21,6 @@ fn number_or_zero(number: Option<TypeNo>) -> usize
 }
 
 impl<'a, 'b> Ordered<'a, 'b> {
-    fn place_among(&self, part: Part, class: usize, name: &[u8]) -> usize
-        ensures { result ≡ fields.place_named name.now (parts.own_of part self.now class) }
-    {
-        place_named(part, self.based().classes().members(class), name)
-    }
-
     // The bases of the class at a place.
     fn bases(&self, class: usize) -> &[usize]
         ensures { result.now ≡ ancestry.bases self.now class }

@@ -7,9 +7,12 @@ ghost use Rattle.sed_classes.specs.Declarations.{all_classes};
 ghost use Rattle.sed_classes.specs.Bases as ancestry;
 ghost use Rattle.sed_classes.specs.Schema.{class_order};
 ghost use Rattle.sed_outline.specs.Rounds.{item, row_of};
+ghost use Rattle.sed_program.specs.Fields.{place_named};
 ghost use Rattle.sed_program.specs.Parts as parts;
+ghost use Rattle.sed_program.specs.Places.{IsPlaced};
 ghost use Rattle.sed_program.specs.Types as types;
 
+use crate::name_places::{place_at, places_of};
 use crate::parts::{Part, count_of, sum_over};
 use sed_classes::Based;
 use sed_outline::{class_order, type_number};
@@ -18,8 +21,8 @@ use sed_value::{Items, Memory, is_among};
 use std::alloc::Global;
 use std::marker::Model;
 
-/// All classes with their numbers in the schema, with what stands above each, and how many fields, static fields and
-/// methods it declares. Contracts see the kits.
+/// All classes with their numbers in the schema, with what stands above each, how many fields, static fields and
+/// methods it declares, and where among these each name stands. Contracts see the kits.
 #[derive(Drop)]
 pub struct Ordered<'a, 'b> {
     based: &'a Based<'b>,
@@ -28,6 +31,9 @@ pub struct Ordered<'a, 'b> {
     fields: Vec<usize>,
     statics: Vec<usize>,
     methods: Vec<usize>,
+    field_places: Vec<Items<usize>>,
+    static_places: Vec<Items<usize>>,
+    method_places: Vec<Items<usize>>,
 }
 
 impl<'a, 'b> Model for Ordered<'a, 'b> {
@@ -44,7 +50,8 @@ impl<'a, 'b> Model for Ordered<'a, 'b> {
     ghost view = { λ t. t.based.now };
 
     ghost invariant = { λ t. IsOrdered t.based.now t.order.items t.lineages.items
-        t.fields.items t.statics.items t.methods.items };
+        t.fields.items t.statics.items t.methods.items
+        t.field_places.items t.static_places.items t.method_places.items };
 }
 
 // How many members of a part each class declares.
@@ -113,6 +120,9 @@ impl<'a, 'b> Ordered<'a, 'b> {
         let fields = counts_of(alloc, based, Part::Field)?;
         let statics = counts_of(alloc, based, Part::Static)?;
         let methods = counts_of(alloc, based, Part::Method)?;
+        let field_places = places_of(alloc, based.classes(), Part::Field)?;
+        let static_places = places_of(alloc, based.classes(), Part::Static)?;
+        let method_places = places_of(alloc, based.classes(), Part::Method)?;
         Ok(Ordered {
             based,
             order,
@@ -120,6 +130,9 @@ impl<'a, 'b> Ordered<'a, 'b> {
             fields,
             statics,
             methods,
+            field_places,
+            static_places,
+            method_places,
         })
     }
 
@@ -149,7 +162,7 @@ impl<'a, 'b> Ordered<'a, 'b> {
     pub fn place_of(&self, class: TypeNo) -> Option<usize>
         ensures { result ≡ types.place_of self.now class.0 }
     {
-        place_at(&self.order, class)
+        class_at(&self.order, class)
     }
 
     /// Whether the class at a place is the one at another or stands below it.
@@ -181,6 +194,26 @@ impl<'a, 'b> Ordered<'a, 'b> {
         }
     }
 
+    // Where the names of members of a part stand, class by class.
+    fn places(&self, part: Part) -> &[Items<usize>]
+        ensures { IsPlaced part self.now result.now }
+    {
+        match part {
+            Part::Field => self.field_places.as_slice(),
+            Part::Static => self.static_places.as_slice(),
+            Part::Method => self.method_places.as_slice(),
+        }
+    }
+
+    /// The place of the first one of a name among those members of a part that the class at a place itself declares; 0
+    /// if there is none.
+    pub fn place_among(&self, part: Part, class: usize, name: &[u8]) -> usize
+        ensures { result ≡ place_named name.now (parts.own_of part self.now class) }
+    {
+        let first = self.based().classes().place_of_member(name, class);
+        place_at(self.places(part), class, first)
+    }
+
     /// How many members of a part the classes at some places declare, where that is a number.
     pub fn sum_over(&self, part: Part, classes: &[usize]) -> Result<usize, Memory>
         ensures { IfOk result (λ n. n ≡ sum_by (parts.count_of part self.now) classes.now) }
@@ -190,7 +223,7 @@ impl<'a, 'b> Ordered<'a, 'b> {
 }
 
 // The place of the class with a number in an order.
-fn place_at(order: &[usize], class: TypeNo) -> Option<usize>
+fn class_at(order: &[usize], class: TypeNo) -> Option<usize>
     ensures { result ≡ slice_get order.now class.0 }
 {
     order.get(class.0 as usize).copied()

@@ -1,11 +1,9 @@
 //! Members that have numbers of their own.
 ghost use Rattle.std.specs.Prelude.{◌≡◌, ◌+◌, ◌≤◌, filter, length, sum_by, IfOk};
-ghost use Rattle.sed_classes.specs.Members.{members_of};
 ghost use Rattle.sed_outline.specs.Rounds.{item};
-ghost use Rattle.sed_program.specs.Fields.{place_named};
 ghost use Rattle.sed_program.specs.Parts as parts;
 
-use sed_classes::{has_name, is_instance_field, is_method, is_static_field};
+use sed_classes::{is_instance_field, is_method, is_static_field};
 use sed_units::Member;
 use sed_value::Memory;
 
@@ -46,22 +44,6 @@ pub fn count_of(part: Part, members: &[Member]) -> usize
         count += one_if(is_of(part, member));
     }
     count
-}
-
-/// The place of the first one of a name among those of these members that have numbers of this part; 0 if there is
-/// none.
-pub fn place_named(part: Part, members: &[Member], name: &[u8]) -> usize
-    ensures { result ≡ place_named name.now (filter (parts.is_of part) members.now) }
-{
-    let mut before = 0;
-    for member in members {
-        let counts = is_of(part, member);
-        if counts && has_name(member, name) {
-            return before;
-        }
-        before += one_if(counts);
-    }
-    0
 }
 
 // A sum that is a number.

@@ -8,10 +8,9 @@ ghost use Rattle.sed_program.specs.Texts as spelled;
 
 use crate::declared_member::DeclaredMember;
 use crate::ordered::Ordered;
-use sed_classes::{Based, has_name};
+use sed_classes::Based;
 use sed_first_fault::text_spelled;
 use sed_typed::Bytes255;
-use sed_units::Member;
 use sed_value::{Items, Memory};
 use std::alloc::Global;
 use std::marker::Model;
@@ -59,13 +58,6 @@ fn members_of(
     Ok(all)
 }
 
-// The place of the first member of a name.
-fn place_of(members: &[Member], name: &[u8]) -> Option<usize>
-    ensures { result ≡ position (declared.has_name name.now) members.now }
-{
-    members.iter().position(|member| has_name(member, name))
-}
-
 // What a row of rows has at two places.
 fn declared_at(rows: &[Items<DeclaredMember>], class: usize, at: usize) -> Option<&DeclaredMember>
     ensures { option_copied result ≡ tables.item_at rows.now class at }
@@ -76,17 +68,15 @@ fn declared_at(rows: &[Items<DeclaredMember>], class: usize, at: usize) -> Optio
     }
 }
 
-// What a row of rows has for a class at the place of the first of its members of a name.
-fn named_at<'a>(
-    rows: &'a [Items<DeclaredMember>],
-    members: &[Member],
+// What a row of rows has for a class at a place, if there is one.
+fn placed_at(
+    rows: &[Items<DeclaredMember>],
     class: usize,
-    name: &[u8],
-) -> Option<&'a DeclaredMember>
-    ensures { option_copied result ≡ option_and_then (tables.item_at rows.now class) (position
-        (declared.has_name name.now) members.now) }
+    at: Option<usize>,
+) -> Option<&DeclaredMember>
+    ensures { option_copied result ≡ option_and_then (tables.item_at rows.now class) at }
 {
-    match place_of(members, name) {
+    match at {
         Some(at) => declared_at(rows, class, at),
         None => None,
     }
@@ -157,8 +147,8 @@ impl<'a, 'b> Tables<'a, 'b> {
         ensures { option_copied result ≡ option_map (tables.declared_of self.now)
             (declared.own_named self.now name.now class) }
     {
-        let members = self.ordered.based().classes().members(class);
-        named_at(&self.members, members, class, name)
+        let first = self.ordered.based().classes().place_of_member(name, class);
+        placed_at(&self.members, class, first)
     }
 
     /// The member that a name stands for in the class at a place.

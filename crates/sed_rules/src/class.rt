@@ -53,7 +53,8 @@ fn member_name_fault(
 ) -> Option<Fault>
     requires lineage { lineage.now ≡ ancestry.lineage classes.now class }
     requires entry { class_at classes.now class ≡ Some (declaration_of entry.now) }
-    ensures { result ≡ least (faults.member_name_faults classes.now class (declaration_of entry.now) number member.now) }
+    ensures { result
+        ≡ least (faults.member_name_faults classes.now class (declaration_of entry.now) number member.now) }
 {
     let bases = behind_first(lineage);
     let names = joined(

@@ -22,6 +22,7 @@ pub mod returns;
 pub mod rows;
 pub mod simple;
 pub mod statements;
+mod surroundings;
 
 pub use choices::conditional;
 pub use declarations::{begun, begun_bare, declared, enter_params};

@@ -1,10 +1,7 @@
 -- How calls, loops, arguments, chains and blocks go on.
-use Rattle.std.specs.Prelude.{slice_get, nat_lt, nat_le, not, ◌&&◌, if◌then◌else◌}
-use Rattle.std.proofs.Common.{◌≡◌, ℕ, zero, suc, ◌+◌, ◌-◌, ◌<◌, ◌≤◌, List, [], ◌∷◌, drop, length, map, get_or, ℤ, Bool, true, false, Option, Some, None, Result, Ok, Err, refl, sym, ap, ◌∙◌, arith}
-use mathlib.Core.Bool.{beq}
+use Rattle.std.specs.Prelude.{slice_get}
+use Rattle.std.proofs.Common.{◌≡◌, ℕ, zero, suc, ◌+◌, ◌-◌, ◌<◌, List, ◌∷◌, drop, length, map, get_or, ℤ, Option, Some, None, Result, Ok, Err, refl, sym, ap, ◌∙◌, arith}
 use Rattle.std.proofs.lemmas.List.{drop_more}
-use Rattle.std.proofs.Math.Seq.{drop-length}
-use Rattle.std.proofs.lemmas.Bool.Decides.{nat_tests}
 use Rattle.sed_typed.specs.declared.kind.Kind.{Kind}
 use Rattle.sed_typed.specs.declared.operators.Width.TheVariants.{Int as IntWidth}
 use Rattle.sed_typed.specs.declared.operators.Update.{Update}
@@ -15,9 +12,8 @@ use Rattle.sed_typed.specs.declared.statement.Stmt.{Stmt}
 use Rattle.sed_typed.specs.declared.tree.Expr.{Expr}
 use Rattle.sed_typed.specs.declared.tree.Link.{Link}
 use Rattle.sed_engine.specs.declared.trap.Trap.TheVariants.{TooDeep}
-use Rattle.sed_engine.specs.Stops.{Stop, Traps, Untyped, map_ok, there}
+use Rattle.sed_engine.specs.Stops.{Stop, Traps, map_ok, there}
 use Rattle.sed_engine.specs.Values.{Val, begun, whole}
-use Rattle.walk_steps.specs.declared.word.Word.{Word}
 use Rattle.sed_engine.specs.State.{Shared, State, End, gives, answers, then_do}
 use Rattle.sed_engine.specs.Steps.{with_local, read_local, write_local}
 use Rattle.sed_engine.specs.Operators.{arithmetic_of, given}

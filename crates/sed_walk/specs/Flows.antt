@@ -12,6 +12,7 @@ use Rattle.sed_walk.specs.declared.ends.Flow.{Flow}
 use Rattle.sed_walk.specs.declared.ends.Flow.TheVariants.{Next, Break, Continue, Return}
 use Rattle.sed_walk.specs.declared.ends.Round.{Round}
 use Rattle.sed_walk.specs.declared.ends.Round.TheVariants.{Again, Over, Answer}
+use Rattle.sed_walk.specs.declared.site.Site.{Site}
 
 abbrev pub flow_seen : Plan → ℕ → Flow → flow.Flow
 flow_seen plan class Next = flow.Next
@@ -20,9 +21,9 @@ flow_seen plan class Continue = flow.Continue
 flow_seen plan class (Return v) = flow.Return (seen plan class v)
 
 -- how a statement ends
-abbrev pub flows : Plan → ℕ → Result Flow Stop → Result flow.Flow stops.Stop
-flows plan class (Ok f) = Ok (flow_seen plan class f)
-flows plan class (Err stop) = Err (stop_seen stop)
+abbrev pub flows_at : Site → Result Flow Stop → Result flow.Flow stops.Stop
+flows_at site (Ok f) = Ok (flow_seen site.plan.now site.class f)
+flows_at site (Err stop) = Err (stop_seen stop)
 
 abbrev pub round_seen : Plan → ℕ → Round → flow.Round
 round_seen plan class Again = flow.Again
@@ -30,9 +31,9 @@ round_seen plan class Over = flow.Over
 round_seen plan class (Answer v) = flow.Answer (seen plan class v)
 
 -- how a round ends
-abbrev pub rounds_seen : Plan → ℕ → Result Round Stop → Result flow.Round stops.Stop
-rounds_seen plan class (Ok r) = Ok (round_seen plan class r)
-rounds_seen plan class (Err stop) = Err (stop_seen stop)
+abbrev pub rounds_at : Site → Result Round Stop → Result flow.Round stops.Stop
+rounds_at site (Ok r) = Ok (round_seen site.plan.now site.class r)
+rounds_at site (Err stop) = Err (stop_seen stop)
 
 -- a round that goes on leaves fewer turns
 abbrev pub LeavesFewer : Result Round Stop → ℕ → ℕ → Type 0
@@ -42,3 +43,6 @@ LeavesFewer r left before = Unit {0}
 -- what a call came to
 abbrev pub came_to : Plan → ℕ → Result Word Stop → Stored → Called
 came_to plan class r s = record { result = ends plan class r; shared = shared_of plan class s }
+
+abbrev pub came_at : Site → Result Word Stop → Stored → Called
+came_at site = came_to site.plan.now site.class

@@ -6,6 +6,7 @@ use Rattle.sed_typed.specs.declared.statement.Stmt.{Stmt}
 use Rattle.sed_typed.specs.declared.tree.Expr.{Expr}
 use Rattle.sed_typed.specs.declared.tree.Link.{Link}
 use Rattle.sed_typed.specs.Height.{height_of, link_height, stmt_height}
+use Rattle.sed_walk.specs.declared.site.Site.{Site}
 
 abbrev pub heights : List Expr → ℕ
 heights [] = 0
@@ -29,3 +30,6 @@ body_heights (m ∷ ms) = max (body_height m) (body_heights ms)
 -- what is left to do with so many frames: no call is longer than the highest body
 abbrev pub left_with : List Method → ℕ → ℕ
 left_with methods frames = frames * (8 * body_heights methods + 8)
+
+abbrev pub left_at : Site → ℕ
+left_at site = left_with site.plan.now.program.methods site.frames

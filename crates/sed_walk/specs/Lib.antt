@@ -1,3 +1,4 @@
 pub mod Forms
+pub mod Site
 pub mod Flows
 pub mod Heights

@@ -7,6 +7,7 @@
 //! in each by the height of a body's tree.
 #![tactic(auto)]
 
+mod array;
 pub mod bodies;
 pub mod calls;
 pub mod ends;
@@ -14,6 +15,8 @@ pub mod expressions;
 pub mod links;
 pub mod loops;
 pub mod root;
+pub mod site;
 pub mod statements;
 
 pub use ends::{Flow, Round};
+pub use site::Site;

@@ -11,6 +11,7 @@ ghost use Rattle.walk_steps.specs.Stored.{shared_of};
 ghost use Rattle.sed_walk.specs.Flows.{came_to};
 
 use crate::calls::call;
+use crate::site::Site;
 use sed_cells::{Plan, find};
 use sed_engine::{CallEnd, Callback, Root};
 use sed_typed::{Program, SlotNo, TypeNo};
@@ -44,15 +45,13 @@ pub fn run(
     let argument = argument_word(argument)?;
     match method {
         Some(method) => {
-            let mut frame = root_frame(argument);
-            call(
+            let site = Site {
                 plan,
-                usize::from(class),
-                MOST_FRAMES,
-                method,
-                &mut frame,
-                store,
-            )
+                class: usize::from(class),
+                frames: MOST_FRAMES,
+            };
+            let mut frame = root_frame(argument);
+            call(&site, method, &mut frame, store)
         }
         None => Ok(Word::Nothing),
     }

@@ -1,71 +1,59 @@
 //! What statements do.
-ghost use Rattle.std.specs.Prelude.{◌≡◌, ◌≤◌, ◌<◌, map};
+ghost use Rattle.std.specs.Prelude.{◌≡◌, ◌≤◌, map};
 ghost use Rattle.sed_engine.specs.Expressions.{eval as eval_of};
 ghost use Rattle.sed_engine.specs.Statements.{exec as exec_of, in_order, switch};
-ghost use Rattle.sed_cells.specs.Places.{classes_in};
-ghost use Rattle.walk_steps.specs.Stored.{ended, state_of};
-ghost use Rattle.walk_steps.specs.Targets.{setting_of};
-ghost use Rattle.sed_walk.specs.Flows.{flows};
+ghost use Rattle.sed_walk.specs.Flows.{flows_at};
+ghost use Rattle.sed_walk.specs.Site.{setting_at, state_at, ended_at};
 
 use crate::bodies::{rest_of, start_of};
 use crate::ends::{Flow, leaves};
 use crate::expressions::{eval, eval_or};
 use crate::loops::run_rounds;
-use sed_cells::Plan;
+use crate::site::Site;
 use sed_typed::{Expr, Label, Stmt};
 use walk_steps::{Stop, Store, Word, locals};
 
 /// What a statement does.
 #[cycle(walk)]
 #[tactic(auto, using(crate::proofs::Rows::execs_hidden, crate::proofs::Rows::stmts_hidden))]
-pub fn exec(
-    plan: &Plan,
-    class: usize,
-    frames: u8,
-    s: &Stmt,
-    store: &mut Store,
-    locals: &mut [Word],
-) -> Result<Flow, Stop>
-    requires { class < classes_in plan.now }
-    ensures end { ended plan.now class (flows plan.now class result) store.new locals.new
-        ≡ exec_of (setting_of plan.now class frames) s.now (state_of plan.now class store.old locals.old) }
+pub fn exec(site: &Site<'_>, s: &Stmt, store: &mut Store, locals: &mut [Word]) -> Result<Flow, Stop>
+    ensures end { ended_at site.now (flows_at site.now result) store.new locals.new
+        ≡ exec_of (setting_at site.now) s.now (state_at site.now store.old locals.old) }
     ensures turns { store.new.turns ≤ store.old.turns }
 {
     match s {
         Stmt::Empty => Ok(Flow::Next),
         Stmt::Do(e) => {
-            eval(plan, class, frames, e, store, locals)?;
+            eval(site, e, store, locals)?;
             Ok(Flow::Next)
         }
         Stmt::Local(kind, number, value) => {
-            let value = eval_or(plan, class, frames, Word::zero(*kind), value, store, locals)?;
+            let value = eval_or(site, Word::zero(*kind), value, store, locals)?;
             locals::put(locals, usize::from(*number), value)?;
             Ok(Flow::Next)
         }
-        Stmt::Block(all) => exec_all(plan, class, frames, all, store, locals),
+        Stmt::Block(all) => exec_all(site, all, store, locals),
         Stmt::If(test, met, unmet) => {
-            let value = eval(plan, class, frames, test, store, locals)?;
+            let value = eval(site, test, store, locals)?;
             if value.is_met()? {
-                exec(plan, class, frames, met, store, locals)
+                exec(site, met, store, locals)
             } else {
-                exec(plan, class, frames, unmet, store, locals)
+                exec(site, unmet, store, locals)
             }
         }
-        Stmt::While(_, body) => run_rounds(plan, class, frames, s, body, store, locals),
-        Stmt::DoWhile(body, _) => run_rounds(plan, class, frames, s, body, store, locals),
-        Stmt::For(first, _, _, body) => match exec(plan, class, frames, first, store, locals)? {
-            Flow::Next => run_rounds(plan, class, frames, s, body, store, locals),
+        Stmt::While(_, body) => run_rounds(site, s, body, store, locals),
+        Stmt::DoWhile(body, _) => run_rounds(site, s, body, store, locals),
+        Stmt::For(first, _, _, body) => match exec(site, first, store, locals)? {
+            Flow::Next => run_rounds(site, s, body, store, locals),
             Flow::Break => Ok(Flow::Break),
             Flow::Continue => Ok(Flow::Continue),
             Flow::Return(value) => Ok(Flow::Return(value)),
         },
-        Stmt::Switch(e, labels, all) => {
-            run_switch(plan, class, frames, e, labels, all, store, locals)
-        }
+        Stmt::Switch(e, labels, all) => { run_switch(site, e, labels, all, store, locals) }
         Stmt::Break => Ok(Flow::Break),
         Stmt::Continue => Ok(Flow::Continue),
         Stmt::Return(value) => {
-            let value = eval_or(plan, class, frames, Word::Nothing, value, store, locals)?;
+            let value = eval_or(site, Word::Nothing, value, store, locals)?;
             Ok(Flow::Return(value))
         }
     }
@@ -75,21 +63,18 @@ pub fn exec(
 #[cycle(walk)]
 #[tactic(auto, using(crate::proofs::Rows::stmt_within))]
 fn exec_all(
-    plan: &Plan,
-    class: usize,
-    frames: u8,
+    site: &Site<'_>,
     all: &[Stmt],
     store: &mut Store,
     locals: &mut [Word],
 ) -> Result<Flow, Stop>
-    requires { class < classes_in plan.now }
-    ensures end { ended plan.now class (flows plan.now class result) store.new locals.new
-        ≡ in_order (map (exec_of (setting_of plan.now class frames)) all.now)
-        (state_of plan.now class store.old locals.old) }
+    ensures end { ended_at site.now (flows_at site.now result) store.new locals.new
+        ≡ in_order (map (exec_of (setting_at site.now)) all.now)
+        (state_at site.now store.old locals.old) }
     ensures turns { store.new.turns ≤ store.old.turns }
 {
     for s in all {
-        match exec(plan, class, frames, s, store, locals)? {
+        match exec(site, s, store, locals)? {
             Flow::Next => {}
             Flow::Break => return Ok(Flow::Break),
             Flow::Continue => return Ok(Flow::Continue),
@@ -103,23 +88,20 @@ fn exec_all(
 #[cycle(walk)]
 #[tactic(auto, using(crate::proofs::Rows::rest_lower))]
 fn run_switch(
-    plan: &Plan,
-    class: usize,
-    frames: u8,
+    site: &Site<'_>,
     e: &Expr,
     labels: &[Label],
     all: &[Stmt],
     store: &mut Store,
     locals: &mut [Word],
 ) -> Result<Flow, Stop>
-    requires { class < classes_in plan.now }
-    ensures end { let w = setting_of plan.now class frames in
-        ended plan.now class (flows plan.now class result) store.new locals.new
-        ≡ switch (eval_of w e.now) labels.now (map (exec_of w) all.now) (state_of plan.now class store.old locals.old) }
+    ensures end { let w = setting_at site.now in
+        ended_at site.now (flows_at site.now result) store.new locals.new
+        ≡ switch (eval_of w e.now) labels.now (map (exec_of w) all.now) (state_at site.now store.old locals.old) }
     ensures turns { store.new.turns ≤ store.old.turns }
 {
-    let value = eval(plan, class, frames, e, store, locals)?;
+    let value = eval(site, e, store, locals)?;
     let start = start_of(labels, value)?;
-    let flow = exec_all(plan, class, frames, rest_of(all, start), store, locals)?;
+    let flow = exec_all(site, rest_of(all, start), store, locals)?;
     Ok(leaves(flow))
 }

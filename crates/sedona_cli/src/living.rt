@@ -19,14 +19,12 @@ ghost use Rattle.sedona_cli.specs.Run.{AnswersLive, AsksLive, RanBy, RunInputsRe
 ghost use Rattle.sedona_cli.specs.Status.{number_of};
 
 use crate::inputs::{NodeInputs, node_inputs};
-use crate::nodes::{node_of, open_app};
+use crate::nodes::{NodeParts, node_of, open_app};
 use crate::putting::refuse;
 use crate::refusal::Refusal;
 use crate::status::Status;
-use app_save::{Store, stores_open_to_one};
-use dasp_session::Users;
+use app_save::stores_open_to_one;
 use disk_model::Disk;
-use link_prop::App;
 use scode_engine::Machine;
 use sed_engine::Engine;
 use sed_node::{Node, live};
@@ -68,43 +66,40 @@ fn run_ready<E: Engine, L: Link, C: Clock, D: Disk, O: Sink>(
     }
 }
 
-// Takes the port, and runs the node of an application in a store that is open, from the moment that it is then. All
-// memory is taken before the first event.
+// Takes the port, and runs the node of these parts, from the moment that it is then. All memory is taken before the
+// first event.
 fn run_app<L: Link, C: Clock, D: Disk, O: Sink>(
     alloc: Global,
     words: RunWords<'_>,
-    held: (Store, App<Machine>),
-    users: Users,
-    secret: [u8; 20],
+    parts: NodeParts,
     link: &mut L,
     clock: &mut C,
     disk: &mut D,
     out: &mut O,
 ) -> Status
     requires meant { IsMeantNode words.node }
-    requires whole { Whole (⟦<Machine as Engine>⟧.meaning held.1.tree.engine)
-        (application_of ⟦<Machine as Engine>⟧ held.1) }
-    requires stores { IsTrue (D.meaning disk.old).tells → AllStores held.0 (D.meaning disk.old) }
-    ensures answered { (given : Given) → ⟦<Machine as Engine>⟧.meaning held.1.tree.engine ≡ given.code
-        → users ≡ given.users → secret ≡ given.secret
+    requires whole { Whole (⟦<Machine as Engine>⟧.meaning parts.app.tree.engine)
+        (application_of ⟦<Machine as Engine>⟧ parts.app) }
+    requires stores { IsTrue (D.meaning disk.old).tells → AllStores parts.store (D.meaning disk.old) }
+    ensures answered { (given : Given) → ⟦<Machine as Engine>⟧.meaning parts.app.tree.engine ≡ given.code
+        → parts.users ≡ given.users → parts.secret ≡ given.secret
         → AsksDisk D.Disk disk.old disk.new (λ asks. AnswersLive (asked_run words.entry) given
-        (application_of ⟦<Machine as Engine>⟧ held.1) asks (O.text out.old) (O.text out.new) (O.faults out.old)
+        (application_of ⟦<Machine as Engine>⟧ parts.app) asks (O.text out.old) (O.text out.new) (O.faults out.old)
         (O.faults out.new) (number_of result)) }
     ensures live { AsksLive L.Link C.Clock words.entry.port (number_of result) link.old link.new clock.old clock.new
-        (RunsOn D.Disk L.Link C.Clock (asked_run words.entry) (⟦<Machine as Engine>⟧.meaning held.1.tree.engine)
-        users secret (application_of ⟦<Machine as Engine>⟧ held.1) (O.text out.old) (O.text out.new)
+        (RunsOn D.Disk L.Link C.Clock (asked_run words.entry) (⟦<Machine as Engine>⟧.meaning parts.app.tree.engine)
+        parts.users parts.secret (application_of ⟦<Machine as Engine>⟧ parts.app) (O.text out.old) (O.text out.new)
         (number_of result) link.old link.new clock.old clock.new disk.old disk.new) }
 {
-    let (store, app) = held;
     match link.bind(words.port) {
         Ok(()) => {}
         Err(_) => {
-            drop(app);
+            drop(parts);
             return refuse(alloc, &Refusal::LinkFault, out);
         }
     }
     let moment = clock.now();
-    match node_of(alloc, words.node, app, store, users, secret, moment) {
+    match node_of(alloc, words.node, parts, moment) {
         Ok(node) => run_ready(node, words.cycles, words.period, link, clock, disk, out),
         Err(refusal) => refuse(alloc, &refusal, out),
     }
@@ -137,7 +132,15 @@ fn run_from<L: Link, C: Clock, D: Disk, O: Sink>(
         secret,
     } = inputs;
     match open_app(alloc, words.node, code, disk) {
-        Ok(held) => run_app(alloc, words, held, users, secret, link, clock, disk, out),
+        Ok((store, app)) => {
+            let parts = NodeParts {
+                store,
+                app,
+                users,
+                secret,
+            };
+            run_app(alloc, words, parts, link, clock, disk, out)
+        }
         Err(refusal) => refuse(alloc, &refusal, out),
     }
 }

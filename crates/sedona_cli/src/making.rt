@@ -47,8 +47,6 @@ fn text_for(alloc: Global, program: Compiled, slot: u32) -> Result<Vec<u8>, Refu
         Err(NewRefusal::SlotTooSmall { needs }) => Err(Refusal::SlotTooSmall { needs, has: slot }),
         Err(NewRefusal::Memory) => Err(Refusal::Memory),
         Err(NewRefusal::DataFull) => unreachable!(),
-        Err(NewRefusal::Exists) => unreachable!(),
-        Err(NewRefusal::Device) => unreachable!(),
     }
 }
 

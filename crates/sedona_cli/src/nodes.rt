@@ -28,6 +28,16 @@ use sed_value::{Items, Memory};
 use sedona_words::NodeWords;
 use std::alloc::Global;
 
+/// What a node is made of: a store that is open, the application that it opened to, the users of the node, and its
+/// secret.
+#[derive(Drop)]
+pub struct NodeParts {
+    pub store: Store,
+    pub app: App<Machine>,
+    pub users: Users,
+    pub secret: [u8; 20],
+}
+
 // The application in a payload, over the image of a code.
 fn app_of(
     alloc: Global,
@@ -117,27 +127,31 @@ pub fn open_app<D: Disk>(
     }
 }
 
-/// The node of an application that begins at a moment, with all memory that its events need.
+/// The node of these parts that begins at a moment, with all memory that its events need.
 pub fn node_of(
     alloc: Global,
     words: NodeWords<'_>,
-    app: App<Machine>,
-    store: Store,
-    users: Users,
-    secret: [u8; 20],
+    parts: NodeParts,
     moment: i64,
 ) -> Result<Node<Machine>, Refusal>
     requires meant { IsMeantNode words }
-    requires whole { Whole (⟦<Machine as Engine>⟧.meaning app.tree.engine) (application_of ⟦<Machine as Engine>⟧ app) }
+    requires whole { Whole (⟦<Machine as Engine>⟧.meaning parts.app.tree.engine)
+        (application_of ⟦<Machine as Engine>⟧ parts.app) }
     ensures ready { IfOk result (λ node. IsReady ⟦<Machine as Engine>⟧ moment words.entry.turns
-        (⟦<Machine as Engine>⟧.meaning app.tree.engine) users secret
-        (application_of ⟦<Machine as Engine>⟧ app) node) }
-    ensures slot { IfOk result (λ node. (setup_of node).slot ≡ store) }
+        (⟦<Machine as Engine>⟧.meaning parts.app.tree.engine) parts.users parts.secret
+        (application_of ⟦<Machine as Engine>⟧ parts.app) node) }
+    ensures slot { IfOk result (λ node. (setup_of node).slot ≡ parts.store) }
     ensures refused { IfErr result (λ refusal. refusal ≡ Refusal.Memory) }
 {
     let Some(turns) = Turns::new(words.turns) else {
         unreachable!()
     };
+    let NodeParts {
+        store,
+        app,
+        users,
+        secret,
+    } = parts;
     match Node::open(alloc, app, store, users, secret, turns, moment) {
         Ok(node) => Ok(node),
         Err(Memory) => Err(Refusal::Memory),

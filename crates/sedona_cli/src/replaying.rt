@@ -16,7 +16,7 @@ ghost use Rattle.sedona_cli.specs.Replay.{InputsRead, Plays};
 ghost use Rattle.sedona_cli.specs.Status.{number_of};
 
 use crate::inputs::{Inputs, read_inputs};
-use crate::nodes::{node_of, open_app};
+use crate::nodes::{NodeParts, node_of, open_app};
 use crate::putting::refuse;
 use crate::refusal::Refusal;
 use crate::status::Status;
@@ -51,7 +51,15 @@ fn ready<D: Disk>(
         (Err refusal))) }
 {
     match open_app(alloc, words, code, disk) {
-        Ok((store, app)) => node_of(alloc, words, app, store, users, secret, 0),
+        Ok((store, app)) => {
+            let parts = NodeParts {
+                store,
+                app,
+                users,
+                secret,
+            };
+            node_of(alloc, words, parts, 0)
+        }
         Err(refusal) => Err(refusal),
     }
 }

@@ -32,7 +32,9 @@ use Rattle.sedona_cli.proofs.Ends.{err_ok, one_refusal}
 use Rattle.sedona_laws.proofs.InputsOnce.{HasOneEnd, InputsOne, InputsTell, LoadTells, LoadsOne, TellsFailed}
 use Rattle.sedona_cli.proofs.Loadings.{LoadsEarly}
 use Rattle.sedona_laws.proofs.LiveEnds.{run_one_end, run_tells}
-use Rattle.sedona_laws.proofs.ReplayEnds.{code_tells, reads_tell, replay_one_end, replay_tells, stops_start}
+use Rattle.sedona_laws.specs.Texts.{ComesSoFar, ReplaysFirst}
+use Rattle.sedona_laws.proofs.SoFar.{first_never_refused}
+use Rattle.sedona_laws.proofs.ReplayEnds.{code_tells, reads_tell, replay_one_end, replay_steps_end, replay_tells, stops_start}
 use Rattle.sedona_cli.proofs.StoreAsked.{of_payload}
 use Rattle.sedona_cli.proofs.Comings.{reads_alone}
 
@@ -184,6 +186,12 @@ one_comes one (Show names store limit) =
 one_comes one (Replay node file) = replay_one_end one.reads node file (code_one one.kits one.inputs.code node.code) (one.inputs.users node.users) (one.inputs.secret node.secret) (one.inputs.record_text file)
 one_comes one (Run r) = run_one_end one.reads r (code_one one.kits one.inputs.code r.node.code) (one.inputs.users r.node.users) (one.inputs.secret r.node.secret)
 one_comes one (Gen g) = gen_one_end g (one.kits g.kits) (one.inputs.users g.users) (one.inputs.secret g.secret)
+
+-- so it has as far as it is done
+pub one_so_far : OneEnds → (command : Command) → HasOneEnd (ComesSoFar command)
+one_so_far one (Replay node file) =
+    replay_steps_end one.reads node file (ReplaysFirst node) (first_never_refused node) (code_one one.kits one.inputs.code node.code) (one.inputs.users node.users) (one.inputs.secret node.secret) (one.inputs.record_text file)
+one_so_far one command = one_comes one command
 
 -- ---- the reads that failed
 

@@ -33,4 +33,6 @@ pub mod BootRun
 pub mod StepsAlike
 pub mod Compiled
 pub mod TextsPut
+pub mod SoFar
+pub mod FrontsPut
 pub mod Unwritten

@@ -58,14 +58,20 @@ opened_ends_alike one store limit m n alike =
 never_refused : (node : NodeAsked) (i : GivenRecord) (a : Application) → NeverRefused (Replays node i a)
 never_refused node i a asks r replays = err_ok r _ replays.end_is
 
-pub replay_one_end : ReadsOne → (node : NodeAsked) (file : List ℕ) → CodeOne node.code → InputOne {X = List User} (UsersRead node.users)
-    → InputOne {X = List ℕ} (SecretRead node.secret) → InputOne {X = List ℕ} (RecordRead file) → HasOneEnd (ReplayComes node file)
-replay_one_end one node file code users secret text asks others end other agree h k =
-    stops_once (ReplayComes node file) (ReplayComes node file)
+-- what is read and opened, and then steps that are never refused
+pub replay_steps_end : ReadsOne → (node : NodeAsked) (file : List ℕ) (R : GivenRecord → Application → List Ask → Result (List ℕ) Refusal → Type 0) → ((i : GivenRecord) (a : Application) → NeverRefused (R i a)) → CodeOne node.code
+    → InputOne {X = List User} (UsersRead node.users) → InputOne {X = List ℕ} (SecretRead node.secret) → InputOne {X = List ℕ} (RecordRead file)
+    → HasOneEnd (AndThen (InputsRead node file) (λ (i : GivenRecord). AndThen (Opened node.store node.limit i.code) (R i)))
+replay_steps_end one node file R never code users secret text asks others end other agree h k =
+    stops_once (AndThen (InputsRead node file) (λ (i : GivenRecord). AndThen (Opened node.store node.limit i.code) (R i))) (AndThen (InputsRead node file) (λ (i : GivenRecord). AndThen (Opened node.store node.limit i.code) (R i)))
     (then_stops _ _ InputsAlike _ _ (inputs_alike node file code users secret text)
     (λ (i j : GivenRecord) same. then_stops _ _ (λ (a b : Application). Unit {0}) _ _ (opened_ends_alike one node.store node.limit i.code j.code same)
-    (λ (a b : Application) any. never_stops (Replays node i a) (Replays node j b) (never_refused node i a) (never_refused node j b))))
+    (λ (a b : Application) any. never_stops (R i a) (R j b) (never i a) (never j b))))
     asks others end other agree h k
+
+pub replay_one_end : ReadsOne → (node : NodeAsked) (file : List ℕ) → CodeOne node.code → InputOne {X = List User} (UsersRead node.users)
+    → InputOne {X = List ℕ} (SecretRead node.secret) → InputOne {X = List ℕ} (RecordRead file) → HasOneEnd (ReplayComes node file)
+replay_one_end one node file = replay_steps_end one node file (Replays node) (never_refused node)
 
 -- ---- the reads that failed
 

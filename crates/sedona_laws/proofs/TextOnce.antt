@@ -42,6 +42,8 @@ use Rattle.sedona_laws.proofs.Alike.{FilesOne, ReadsAlike, ReadsOne, agree_front
 use Rattle.sedona_laws.proofs.AlikeFiles.{MeanAlike}
 use Rattle.sedona_laws.proofs.InputsOnce.{HasOneEnd, InputsOne, LoadsOne, input_one}
 use Rattle.sedona_laws.proofs.Meant.{programs_mean_one}
+use Rattle.sedona_laws.specs.Texts.{ComesSoFar, ReplaysFirst}
+use Rattle.sedona_laws.proofs.SoFar.{as_first}
 
 -- ---- what agrees
 
@@ -156,8 +158,8 @@ one_run : (asks others back rest front more : List Ask) (r s : Ran) → front �
 one_run asks others back rest front more r s is are parts ends alike agree =
     first_agree asks others back rest (Runs r) (Runs s) (parts ∙ one_before front back (Runs r) is) (ends ∙ one_before more rest (Runs s) are) agree alike
 
-replays_go : MessagesOnce → (node : NodeAsked) (given : GivenRecord) (a : Application) → GoesAlike (Replays node given a) (Replays node given a) (λ (s t : List ℕ). s ≡ t)
-replays_go one node given a front back others rest x y h k agree =
+first_go : MessagesOnce → (node : NodeAsked) (given : GivenRecord) (a : Application) → GoesAlike (ReplaysFirst node given a) (ReplaysFirst node given a) (λ (s t : List ℕ). s ≡ t)
+first_go one node given a front back others rest x y h k agree =
     let alike : BeginAlike h.ran k.ran = record {
       application = a;
       users = given.users;
@@ -176,6 +178,10 @@ replays_go one node given a front back others rest x y h k agree =
           ∙ (λ i. replay_text (same i).code (same i).setup (same i).start (same i).events (sent i))
           ∙ sym (same_value y (replay_text k.ran.code k.ran.setup k.ran.start k.ran.events k.sent) k.end_is),
     )
+
+replays_go : MessagesOnce → (node : NodeAsked) (given : GivenRecord) (a : Application) → GoesAlike (Replays node given a) (Replays node given a) (λ (s t : List ℕ). s ≡ t)
+replays_go one node given a front back others rest x y h k agree =
+    first_go one node given a front back others rest x y (as_first node given a front (Ok x) h) (as_first node given a others (Ok y) k) agree
 
 lives_go : (asked : RunAsked) (given : Given) (a : Application) → GoesAlike (Lives asked given a) (Lives asked given a) (λ (s t : List ℕ). s ≡ t)
 lives_go asked given a front back others rest x y h k agree =
@@ -279,6 +285,19 @@ pub record OneTexts : Type 0 where
   pub inputs : InputsOne
   pub messages : MessagesOnce
 
+-- what is read and opened, and then steps that come to one text
+replay_once : OneTexts → (node : NodeAsked) (file : List ℕ) (R : GivenRecord → Application → List Ask → Result (List ℕ) Refusal → Type 0)
+    → ((i : GivenRecord) (a : Application) → GoesAlike (R i a) (R i a) (λ (s t : List ℕ). s ≡ t))
+    → TextOnce (AndThen (InputsRead node file) (λ (i : GivenRecord). AndThen (Opened node.store node.limit i.code) (R i)))
+replay_once one node file R goes =
+    once (AndThen (InputsRead node file) (λ (i : GivenRecord). AndThen (Opened node.store node.limit i.code) (R i))) (then_goes (InputsRead node file) (InputsRead node file) (λ (i j : GivenRecord). i ≡ j)
+    (λ (i : GivenRecord). AndThen (Opened node.store node.limit i.code) (R i)) (λ (i : GivenRecord). AndThen (Opened node.store node.limit i.code) (R i)) (λ (s t : List ℕ). s ≡ t)
+    (replay_inputs_go one.kits one.inputs node file)
+    (λ (i j : GivenRecord) given. then_goes (Opened node.store node.limit i.code) (Opened node.store node.limit j.code) (λ (a b : Application). a ≡ b)
+    (R i) (R j) (λ (s t : List ℕ). s ≡ t) (app_go one.reads node.store node.limit i.code j.code (λ k. (given k).code))
+    (λ (a b : Application) same. subst (λ (l : GivenRecord). GoesAlike (R i a) (R l b) (λ (s t : List ℕ). s ≡ t)) given
+    (subst (λ (l : Application). GoesAlike (R i a) (R i l) (λ (s t : List ℕ). s ≡ t)) same (goes i a)))))
+
 text_once : OneTexts → (command : Command) → TextOnce (Comes command)
 text_once one (Cycles file count) =
     once (Comes (Cycles file count)) (then_goes (OfReads (TextGenerated file)) (OfReads (TextGenerated file)) AreAlike
@@ -297,14 +316,7 @@ text_once one (Show names store limit) =
     once (Comes (Show names store limit)) (then_goes (OfReads (KitsGenerated names)) (OfReads (KitsGenerated names)) AreAlike
     (ShowOf store limit) (ShowOf store limit) (λ (s t : List ℕ). s ≡ t) (reads_go (KitsGenerated names) AreAlike (one.kits names))
     (λ (p q : Program) alike. shown_go one.reads store limit p q (programs_mean_one p q alike)))
-text_once one (Replay node file) =
-    once (Comes (Replay node file)) (then_goes (InputsRead node file) (InputsRead node file) (λ (i j : GivenRecord). i ≡ j)
-    (λ (i : GivenRecord). AndThen (Opened node.store node.limit i.code) (Replays node i)) (λ (i : GivenRecord). AndThen (Opened node.store node.limit i.code) (Replays node i)) (λ (s t : List ℕ). s ≡ t)
-    (replay_inputs_go one.kits one.inputs node file)
-    (λ (i j : GivenRecord) given. then_goes (Opened node.store node.limit i.code) (Opened node.store node.limit j.code) (λ (a b : Application). a ≡ b)
-    (Replays node i) (Replays node j) (λ (s t : List ℕ). s ≡ t) (app_go one.reads node.store node.limit i.code j.code (λ k. (given k).code))
-    (λ (a b : Application) same. subst (λ (l : GivenRecord). GoesAlike (Replays node i a) (Replays node l b) (λ (s t : List ℕ). s ≡ t)) given
-    (subst (λ (l : Application). GoesAlike (Replays node i a) (Replays node i l) (λ (s t : List ℕ). s ≡ t)) same (replays_go one.messages node i a)))))
+text_once one (Replay node file) = replay_once one node file (Replays node) (replays_go one.messages node)
 text_once one (Run r) =
     once (Comes (Run r)) (then_goes (RunInputsRead r.node) (RunInputsRead r.node) (λ (i j : Given). i ≡ j)
     (λ (i : Given). AndThen (Opened r.node.store r.node.limit i.code) (BindsAndLives r i)) (λ (i : Given). AndThen (Opened r.node.store r.node.limit i.code) (BindsAndLives r i)) (λ (s t : List ℕ). s ≡ t)
@@ -317,10 +329,21 @@ text_once one (Run r) =
     (subst (λ (l : Application). GoesAlike (Lives r i a) (Lives r i l) (λ (s t : List ℕ). s ≡ t)) same (lives_go r i a))))))
 text_once one (Gen g) = always (Comes (Gen g)) done_text (written_done {X = RecordInputs} g.out (IsRecordFrom g) (RecordInputsRead g))
 
+so_far_once : OneTexts → (command : Command) → TextOnce (ComesSoFar command)
+so_far_once one (Replay node file) = replay_once one node file (ReplaysFirst node) (first_go one.messages node)
+so_far_once one command = text_once one command
+
 -- with its refusal: it has one end
+ends_of : (S : List Ask → Result (List ℕ) Refusal → Type 0) → TextOnce S → HasOneEnd S → (asks others : List Ask) (end other : Result (List ℕ) Refusal) → AgreeOnAll asks others → S asks end → S others other → end ≡ other
+ends_of S once ends asks others (Ok text) (Ok words) agree h k = ap (λ (l : List ℕ). Ok l) (once asks others text words h k agree)
+ends_of S once ends asks others (Ok text) (Err s) agree h k = absurd (no_refusal s (sym (ends asks others (Ok text) (Err s) (all_agree asks others agree) h k)))
+ends_of S once ends asks others (Err r) (Ok words) agree h k = absurd (no_refusal r (ends asks others (Err r) (Ok words) (all_agree asks others agree) h k))
+ends_of S once ends asks others (Err r) (Err s) agree h k = ap (λ (l : Refusal). Err l) (some_refusal r s (ends asks others (Err r) (Err s) (all_agree asks others agree) h k))
+
 pub ends_once : OneTexts → (command : Command) → HasOneEnd (Comes command) → (asks others : List Ask) (end other : Result (List ℕ) Refusal) → AgreeOnAll asks others
     → Comes command asks end → Comes command others other → end ≡ other
-ends_once one command ends asks others (Ok text) (Ok words) agree h k = ap (λ (l : List ℕ). Ok l) (text_once one command asks others text words h k agree)
-ends_once one command ends asks others (Ok text) (Err s) agree h k = absurd (no_refusal s (sym (ends asks others (Ok text) (Err s) (all_agree asks others agree) h k)))
-ends_once one command ends asks others (Err r) (Ok words) agree h k = absurd (no_refusal r (ends asks others (Err r) (Ok words) (all_agree asks others agree) h k))
-ends_once one command ends asks others (Err r) (Err s) agree h k = ap (λ (l : Refusal). Err l) (some_refusal r s (ends asks others (Err r) (Err s) (all_agree asks others agree) h k))
+ends_once one command ends = ends_of (Comes command) (text_once one command) ends
+
+pub so_far_ends_once : OneTexts → (command : Command) → HasOneEnd (ComesSoFar command) → (asks others : List Ask) (end other : Result (List ℕ) Refusal) → AgreeOnAll asks others
+    → ComesSoFar command asks end → ComesSoFar command others other → end ≡ other
+so_far_ends_once one command ends = ends_of (ComesSoFar command) (so_far_once one command) ends

@@ -13,8 +13,8 @@ use sed_outside::{Clock, Files, Link, Sink};
 
 /// What `run` puts is what stands at the end of a run from the application that its store opens to, from the clock's
 /// next moment on, over the polls of the link and the moments behind that one; with 8 a front of it. What an event sent
-/// was offered before the next poll, and behind each cycle it slept by its period, before the next moment was asked. Of
-/// the store the same holds as of `replay`.
+/// was offered before the next poll. As many sleeps were asked as cycles were done, each behind the moment of its tick
+/// and before the next one; how sleeps stand to polls isn't said. Of the store the same holds as of `replay`.
 pub fn runs_are_of_the_link_and_the_clock<F: Files, L: Link, C: Clock, D: Disk, O: Sink>()
     ensures ran { (asked : RunAsked) (old new : World F L C D O) (status : ℕ)
         → Does F.Files L.Link C.Clock D.Disk O.Sink (Run asked) old new status

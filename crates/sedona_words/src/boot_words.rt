@@ -7,32 +7,42 @@ ghost use Rattle.sedona_words.specs.Command as words_of;
 use crate::node_words::{RunWords, image_named, node_named, run_named};
 use crate::words::{option_first, option_or};
 
-// The node of an image that is run, by the names of its files, and with its numbers in digits.
-fn boot_named<'a>(
+// The words of `boot`: the names of its files, and its numbers in digits.
+#[derive(Clone, Copy)]
+struct BootTexts<'a> {
     image: &'a str,
     store: &'a str,
     users: &'a str,
     secret: &'a str,
-    port: &str,
-    cycles: &str,
-    period: &str,
-    turns: &str,
-    limit: &str,
-) -> Option<RunWords<'a>>
+    port: &'a str,
+    cycles: &'a str,
+    period: &'a str,
+    turns: &'a str,
+    limit: &'a str,
+}
+
+// The node of an image that is run, by these words.
+fn boot_named<'a>(texts: BootTexts<'a>) -> Option<RunWords<'a>>
     ensures meant { IfSome result IsMeantRun }
     ensures run { option_map asked_run result ≡ words_of.run_named
-        (words_of.node_named (words_of.image_named image.now) store.now users.now secret.now turns.now limit.now)
-        port.now cycles.now period.now }
+        (words_of.node_named (words_of.image_named texts.entry.image.now) texts.entry.store.now texts.entry.users.now
+        texts.entry.secret.now texts.entry.turns.now texts.entry.limit.now)
+        texts.entry.port.now texts.entry.cycles.now texts.entry.period.now }
 {
     let node = node_named(
-        image_named(image),
-        store,
-        users,
-        secret,
-        turns.as_bytes(),
-        limit.as_bytes(),
+        image_named(texts.image),
+        texts.store,
+        texts.users,
+        texts.secret,
+        texts.turns.as_bytes(),
+        texts.limit.as_bytes(),
     );
-    run_named(node, port.as_bytes(), cycles.as_bytes(), period.as_bytes())
+    run_named(
+        node,
+        texts.port.as_bytes(),
+        texts.cycles.as_bytes(),
+        texts.period.as_bytes(),
+    )
 }
 
 /// `--image I --store S --users U --secret F --port P --cycles N [--period MS] [--turns B] [--data BYTES]`, in this
@@ -53,7 +63,15 @@ pub fn boot_of(words: &[String]) -> Option<RunWords<'_>>
     if !words.is_empty() {
         return None;
     }
-    boot_named(
-        image, store, users, secret, port, cycles, period, turns, limit,
-    )
+    boot_named(BootTexts {
+        image,
+        store,
+        users,
+        secret,
+        port,
+        cycles,
+        period,
+        turns,
+        limit,
+    })
 }

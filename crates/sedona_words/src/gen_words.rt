@@ -7,19 +7,7 @@ ghost use Rattle.sedona_words.specs.Command as words_of;
 
 use crate::words::{is_file_name, is_manifests, number_within, option_first};
 use record_making::GenAsked;
-use sed_value::limits;
-
-// The greatest seed of a record.
-const GREATEST_SEED: u32 = 2_147_483_647;
-
-// The most components of a record.
-const MOST_COMPONENTS: u32 = 4_000;
-
-// The most links of a record.
-const MOST_LINKS: u32 = limits::MOST_LINKS as u32;
-
-// The most ticks of a record.
-const MOST_TICKS: u32 = 100_000;
+use replay_log::bounds::{GREATEST_SEED, MOST_ADDED_COMPONENTS, MOST_ADDED_LINKS, MOST_TICKS};
 
 /// The words of `gen`.
 #[derive(Clone, Copy)]
@@ -55,7 +43,7 @@ fn component_count(digits: &[u8]) -> Option<u32>
     ensures some { IfSome result (λ n. 1 ≤ n) }
     ensures most { IfSome result (λ n. n ≤ 4000) }
 {
-    match count_within(digits, MOST_COMPONENTS) {
+    match count_within(digits, MOST_ADDED_COMPONENTS) {
         Some(0) => None,
         Some(count) => Some(count),
         None => None,
@@ -69,7 +57,7 @@ fn gen_numbers(seed: &str, components: &str, links: &str, ticks: &str) -> Option
 {
     let seed = count_within(seed.as_bytes(), GREATEST_SEED)?;
     let components = component_count(components.as_bytes())?;
-    let links = count_within(links.as_bytes(), MOST_LINKS)?;
+    let links = count_within(links.as_bytes(), MOST_ADDED_LINKS)?;
     let ticks = count_within(ticks.as_bytes(), MOST_TICKS)?;
     Some(GenAsked {
         seed,

@@ -1,5 +1,5 @@
 -- One part is passed, or its event is given.
-use Rattle.std.proofs.Common.{ℕ, ◌≡◌, Bool, true, false, cond, List, ◌∷◌, ◌++◌, Option, Some, None, refl, sym, ◌∙◌, ap, subst, eq-eqb, ◌<◌, inl, inr}
+use Rattle.std.proofs.Common.{ℕ, ◌≡◌, Bool, true, false, cond, List, Option, Some, None, refl, sym, ◌∙◌, ap, subst, eq-eqb, ◌<◌, inl, inr}
 use Rattle.std.proofs.lemmas.Bool.{and_parts, eqb-true, cases_Bool}
 use Rattle.std.specs.Prelude.{◌==◌, ◌&&◌, not, nat_eq, if◌then◌else◌, is_some}
 use Rattle.std.specs.Option.{option_map_or}

@@ -27,8 +27,8 @@ impl Subs {
     /// where none is due.
     ///
     /// The part that is given is settled for that place, and each subscribed part of a live component before it; where
-    /// there is none, each of all. Those of them that are marked and have a last event are compared with it, and no
-    /// others. No other mark, nothing else of the application and no other subscription changes.
+    /// there is none, each of all. Those of them that are marked and have a last event are compared with it and
+    /// counted, and no others are. No other mark, nothing else of the application and no other subscription changes.
     pub fn next_event<E: Engine>(
         &mut self,
         place: u8,
@@ -105,31 +105,6 @@ fn event_of<E: Engine>(
     if is_dead(app, id) {
         return None;
     }
-    event_of_parts(table, place, id, app, into, compared)
-}
-
-// The first event that is due of one component that is live.
-fn event_of_parts<E: Engine>(
-    table: &mut SubTable,
-    place: u8,
-    id: Id,
-    app: &mut App<E>,
-    into: &mut [u8; 498],
-    compared: &mut u64,
-) -> Option<usize>
-    requires place { place < 16 }
-    requires bound { id.0 < 4096 }
-    requires live { IsSome (map.get (components_of E.Engine app.old.tree).by_id id.0) }
-    requires room { (part : PartOf) → longest (E.meaning app.old.tree.engine).schema part ≤ most_bytes table.old part }
-    ensures event { MatchOption result
-        (Passes E.Engine app.old app.new (at table.old) place (λ i q. i == id.0)
-        × (table.new ≡ table.old) × (into.new ≡ into.old))
-        (λ count. (part : PartOf) × Gives E.Engine app.old app.new (at table.old)
-        (at table.new) place (λ i q. i == id.0 && nat_lt (rank q) (rank part)) id.0 part count into.old into.new) }
-    ensures compared { Counts app.old app.new (at table.old) place compared.old compared.new }
-    ensures room { (part : PartOf) → most_bytes table.new part ≡ most_bytes table.old part }
-    ensures meaning { E.meaning app.new.tree.engine ≡ E.meaning app.old.tree.engine }
-{
     let tree = event_of_part(table, place, id, Part::Tree, app, into, compared);
     if tree.is_some() {
         return tree;

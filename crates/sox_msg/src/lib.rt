@@ -2,8 +2,9 @@
 //!
 //! A datagram message of a session carries one of them. `read_request` gives the request that a payload is, and
 //! refuses exactly where it is none, with why; `write_reply` and `write_event` give the one text of a reply and of an
-//! event, and `write_refusal` that of a refusal whose cause stands above. The laws say that a payload is one request and a text one reply or event at most, that a request has one
-//! payload, and that each text whose parts keep the platform's limits fits a message. Nothing here takes memory.
+//! event, and `write_refusal` that of a refusal whose cause stands above. The laws say that a payload is one request
+//! and a text one reply or event at most, that a request has one payload, and that each text whose parts keep the
+//! platform's limits fits a message. Nothing here takes memory.
 #![tactic(auto)]
 
 mod command;

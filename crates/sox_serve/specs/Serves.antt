@@ -4,10 +4,11 @@ use Rattle.sed_engine.specs.declared.engine.Engine.{Ghosts}
 use Rattle.comp_tree.specs.declared.new_component.NewComponent.{NewComponent}
 use Rattle.link_prop.specs.Linked.{Linked, application_of}
 use Rattle.link_prop.specs.Marks.{Tells}
-use Rattle.sox_msg.specs.Command.{Asked, add}
+use Rattle.sox_msg.specs.Command.{Asked, add, invoke, write}
 use Rattle.sox_serve.specs.Answer.{Answer, WantsMemory, answer}
 use Rattle.sox_serve.specs.Replies.{reply_bytes}
 use Rattle.sox_serve.specs.declared.served.Served.{Served}
+use Rattle.sox_serve.specs.declared.values.SlotInput.{SlotInput}
 
 -- what a command to an application over an engine comes to, with so many turns for each root call, at a moment
 abbrev pub answer_over : {E : Type 0} → Ghosts E → Linked E → Asked → ℕ → ℤ → Answer
@@ -28,6 +29,13 @@ pub record Gives {E : Type 0} (g : Ghosts E) (old new : Linked E) (asks : Served
 -- a new component that is asked for, without where its bytes lie in memory
 abbrev pub added_as : NewComponent → Asked
 added_as new = add new.parent.0 new.kit new.number new.name.now new.config.now
+
+-- a value that is given for a property, and an argument that is given for an action, likewise
+abbrev pub written_as : SlotInput → Asked
+written_as input = write input.id.0 input.slot input.bytes.now
+
+abbrev pub invoked_as : SlotInput → Asked
+invoked_as input = invoke input.id.0 input.slot input.bytes.now
 
 -- a new component
 abbrev pub is_add : Asked → Bool

@@ -4,6 +4,7 @@ ghost use Rattle.sed_value.specs.declared.refusal.Refusal.{Refusal};
 ghost use Rattle.link_prop.specs.Linked.{application_of};
 ghost use Rattle.link_prop.specs.Marks.{Tells};
 ghost use Rattle.comp_tree.specs.Refusals.{first_refusal};
+ghost use Rattle.sub_table.specs.Link.{Link};
 ghost use Rattle.sox_serve.specs.Answer.{asks_for_save};
 ghost use Rattle.sox_serve.specs.Table.{refusals_of};
 ghost use Rattle.sox_serve.specs.Replies.{reply_bytes};
@@ -17,12 +18,13 @@ use crate::links::{link, unlink};
 use crate::reading::{read_part, read_slot, read_version};
 use crate::reply_buf::ReplyBuf;
 use crate::shape::{add, delete, rename, reorder};
-use crate::values::{clear, invoke, write};
+use crate::values::{SlotInput, clear, invoke, write};
 use crate::watching::{subscribe, unsubscribe};
 use crate::{Served, refused_commands_change_nothing};
 use comp_tree::{NewComponent, Turns};
 use link_prop::App;
 use sed_engine::Engine;
+use sed_value::Id;
 use sox_msg::{Command, Request};
 use sub_table::LinkRec;
 
@@ -102,36 +104,25 @@ fn serve_command<E: Engine>(
         Command::ReadPart { id, part } => read_part(app, id, part, number, into),
         Command::Delete { id } => delete(app, id, number, turns, ticks, into),
         Command::Invoke { id, slot, arg } => {
-            invoke(app, id, slot, arg, number, turns, ticks, into)
+            let input = SlotInput {
+                id,
+                slot,
+                bytes: arg,
+            };
+            invoke(app, input, number, turns, ticks, into)
         }
         Command::Link {
             from,
             from_slot,
             to,
             to_slot,
-        } => {
-            let l = LinkRec {
-                from,
-                from_slot,
-                to,
-                to_slot,
-            };
-            link(app, l, number, into)
-        }
+        } => link(app, between(from, from_slot, to, to_slot), number, into),
         Command::Unlink {
             from,
             from_slot,
             to,
             to_slot,
-        } => {
-            let l = LinkRec {
-                from,
-                from_slot,
-                to,
-                to_slot,
-            };
-            unlink(app, l, number, into)
-        }
+        } => unlink(app, between(from, from_slot, to, to_slot), number, into),
         Command::Rename { id, name } => rename(app, id, name, number, into),
         Command::Reorder { id, children } => reorder(app, id, children, number, into),
         Command::ReadSlot { id, slot } => read_slot(app, id, slot, number, into),
@@ -139,8 +130,26 @@ fn serve_command<E: Engine>(
         Command::Unsubscribe { id, mask } => unsubscribe(app, id, mask, number, into),
         Command::Version => read_version(app, number, into),
         Command::Write { id, slot, value } => {
-            write(app, id, slot, value, number, turns, ticks, into)
+            let input = SlotInput {
+                id,
+                slot,
+                bytes: value,
+            };
+            write(app, input, number, turns, ticks, into)
         }
         Command::Clear { id } => clear(app, id, number, into),
+    }
+}
+
+// The link from one slot to another.
+fn between(from: Id, from_slot: u8, to: Id, to_slot: u8) -> LinkRec
+    ensures { result ≡ (let l : Link =
+        record { from = from.0; from_slot = from_slot; to = to.0; to_slot = to_slot } in l) }
+{
+    LinkRec {
+        from,
+        from_slot,
+        to,
+        to_slot,
     }
 }

@@ -1,9 +1,9 @@
 //! Commands that change what a component holds.
 ghost use Rattle.std.specs.Prelude.{◌≡◌, ℕ, ℤ, not, IsTrue};
 ghost use Rattle.comp_tree.specs.Edit.{is_save as is_save_of};
-ghost use Rattle.sox_msg.specs.Command.{write as written, invoke as invoked, clear as cleared};
+ghost use Rattle.sox_msg.specs.Command.{clear as cleared};
 ghost use Rattle.sox_serve.specs.Marks.{MarksByRow};
-ghost use Rattle.sox_serve.specs.Serves.{Gives, answer_over};
+ghost use Rattle.sox_serve.specs.Serves.{Gives, answer_over, invoked_as, written_as};
 
 use crate::Served;
 use crate::answering::reply_to;
@@ -14,22 +14,31 @@ use link_prop::App;
 use sed_engine::Engine;
 use sed_value::Id;
 
+/// What a command gives for a slot of a component.
+#[derive(Clone, Copy)]
+pub struct SlotInput<'a> {
+    /// The component.
+    pub id: Id,
+    /// The number of the slot.
+    pub slot: u8,
+    /// The bytes of the value that is written, or of the argument of the action that is invoked.
+    pub bytes: &'a [u8],
+}
+
 /// Writes a property.
 pub fn write<E: Engine>(
     app: &mut App<E>,
-    id: Id,
-    slot: u8,
-    value: &[u8],
+    input: SlotInput<'_>,
     number: u8,
     turns: Turns,
     ticks: i64,
     into: &mut ReplyBuf,
 ) -> Served
     ensures served { Gives E.Engine app.old app.new result into.new number
-        (answer_over E.Engine app.old (written id.0 slot value.now) turns ticks) }
-    ensures marks { MarksByRow E.Engine app.old app.new (written id.0 slot value.now) number into.new }
+        (answer_over E.Engine app.old (written_as input.entry) turns ticks) }
+    ensures marks { MarksByRow E.Engine app.old app.new (written_as input.entry) number into.new }
 {
-    let end = app.write(id, slot, value, turns, ticks);
+    let end = app.write(input.id, input.slot, input.bytes, turns, ticks);
     reply_to(into, number, b'W', end);
     Served::Replied
 }
@@ -49,22 +58,20 @@ pub fn clear<E: Engine>(app: &mut App<E>, id: Id, number: u8, into: &mut ReplyBu
 /// Runs an action, or asks for a save where it is the App's `save`.
 pub fn invoke<E: Engine>(
     app: &mut App<E>,
-    id: Id,
-    slot: u8,
-    arg: &[u8],
+    input: SlotInput<'_>,
     number: u8,
     turns: Turns,
     ticks: i64,
     into: &mut ReplyBuf,
 ) -> Served
     ensures served { Gives E.Engine app.old app.new result into.new number
-        (answer_over E.Engine app.old (invoked id.0 slot arg.now) turns ticks) }
-    ensures marks { MarksByRow E.Engine app.old app.new (invoked id.0 slot arg.now) number into.new }
+        (answer_over E.Engine app.old (invoked_as input.entry) turns ticks) }
+    ensures marks { MarksByRow E.Engine app.old app.new (invoked_as input.entry) number into.new }
 {
-    if is_save(id, slot) {
-        return ask_for_save(app, id, slot, arg, number, into);
+    if is_save(input.id, input.slot) {
+        return ask_for_save(app, input, number, into);
     }
-    run(app, id, slot, arg, number, turns, ticks, into)
+    run(app, input, number, turns, ticks, into)
 }
 
 // Whether a slot of a component is the App's `save`.
@@ -77,20 +84,18 @@ fn is_save(id: Id, slot: u8) -> bool
 // Runs an action.
 fn run<E: Engine>(
     app: &mut App<E>,
-    id: Id,
-    slot: u8,
-    arg: &[u8],
+    input: SlotInput<'_>,
     number: u8,
     turns: Turns,
     ticks: i64,
     into: &mut ReplyBuf,
 ) -> Served
-    requires { IsTrue (not (is_save_of id.0 slot)) }
+    requires { IsTrue (not (is_save_of input.id.0 input.slot)) }
     ensures served { Gives E.Engine app.old app.new result into.new number
-        (answer_over E.Engine app.old (invoked id.0 slot arg.now) turns ticks) }
-    ensures marks { MarksByRow E.Engine app.old app.new (invoked id.0 slot arg.now) number into.new }
+        (answer_over E.Engine app.old (invoked_as input.entry) turns ticks) }
+    ensures marks { MarksByRow E.Engine app.old app.new (invoked_as input.entry) number into.new }
 {
-    match app.invoke(id, slot, arg, turns, ticks) {
+    match app.invoke(input.id, input.slot, input.bytes, turns, ticks) {
         Ok(_end) => reply_to(into, number, b'I', Ok(())),
         Err(refusal) => reply_to(into, number, b'I', Err(refusal)),
     }
@@ -100,18 +105,16 @@ fn run<E: Engine>(
 // Asks for a save, where the App's `save` may be invoked. It changes nothing, and only a refusal has a reply now.
 fn ask_for_save<E: Engine>(
     app: &App<E>,
-    id: Id,
-    slot: u8,
-    arg: &[u8],
+    input: SlotInput<'_>,
     number: u8,
     into: &mut ReplyBuf,
 ) -> Served
-    requires { IsTrue (is_save_of id.0 slot) }
+    requires { IsTrue (is_save_of input.id.0 input.slot) }
     ensures { (turns : ℕ) (moment : ℤ)
         → Gives E.Engine app.now app.now result into.new number
-        (answer_over E.Engine app.now (invoked id.0 slot arg.now) turns moment) }
+        (answer_over E.Engine app.now (invoked_as input.entry) turns moment) }
 {
-    match app.tree().check_invoke(id, slot, arg) {
+    match app.tree().check_invoke(input.id, input.slot, input.bytes) {
         Ok(()) => {
             into.clear();
             Served::SaveAsked

@@ -48,7 +48,8 @@ impl<E: Engine> Tree<E> {
         ensures allowed { OnOk result (first_refusal
             (refusals_of_new (E.meaning self.old.engine) (components_of E.Engine self.old) asked.entry) ≡ None) }
         ensures refused { IfErr result (λ refusal. refusal ≢ OutOfMemory → first_refusal
-            (refusals_of_new (E.meaning self.old.engine) (components_of E.Engine self.old) asked.entry) ≡ Some refusal) }
+            (refusals_of_new (E.meaning self.old.engine) (components_of E.Engine self.old) asked.entry)
+            ≡ Some refusal) }
         ensures memory { result ≡ Err OutOfMemory → (E.fixed self.old.engine ≡ false) × (first_refusal
             (refusals_of_new (E.meaning self.old.engine) (components_of E.Engine self.old) asked.entry) ≡ None) }
         ensures marks { MatchResult result

@@ -6,8 +6,8 @@ use Rattle.sed_terms.specs.Term.{Absent}
 use Rattle.sed_bodies.specs.Expressions.{judge_args, judge_links}
 use Rattle.sed_bodies.proofs.+expressions.Given as goal
 
-abbrev pub decreases-expressions::expression : goal.decreases-expressions::expression
-decreases-expressions::expression g l = 3 * tree_size l.e.now
+abbrev pub decreases-expressions::judge : goal.decreases-expressions::judge
+decreases-expressions::judge g l = 3 * tree_size l.e.now
 
 abbrev pub decreases-expressions::prefix : goal.decreases-expressions::prefix
 decreases-expressions::prefix g l = 3 * tree_size l.x.now + 2
@@ -71,10 +71,10 @@ decreases-steps::operand g l = 3 * tree_size l.y.now + 2
 
 abbrev pub invariant-calls::arguments-loop-i : goal.invariant-calls::arguments-loop-i
 invariant-calls::arguments-loop-i g l =
-    judge_args least_fault (g.N.Lookup.names l.names) l.body l.scope l.at l.params l.i l.xs (row (drop l.i l.args))
-    ≡ judge_args least_fault (g.N.Lookup.names l.names) l.body l.scope l.at l.params 0 (Sound Absent) (row l.args)
+    judge_args least_fault (g.N.Lookup.names l.within.names.now) l.within.body l.within.scope.now l.at l.params l.i l.xs (row (drop l.i l.args))
+    ≡ judge_args least_fault (g.N.Lookup.names l.within.names.now) l.within.body l.within.scope.now l.at l.params 0 (Sound Absent) (row l.args)
 
 abbrev pub invariant-chains::links-loop-link : goal.invariant-chains::links-loop-link
 invariant-chains::links-loop-link g l =
-    judge_links least_fault (g.N.Lookup.names l.names) l.body l.scope l.at l.x (row (drop l.link-index l.links))
-    ≡ judge_links least_fault (g.N.Lookup.names l.names) l.body l.scope l.at l.fn.x (row l.links)
+    judge_links least_fault (g.N.Lookup.names l.within.names.now) l.within.body l.within.scope.now l.at l.x (row (drop l.link-index l.links))
+    ≡ judge_links least_fault (g.N.Lookup.names l.within.names.now) l.within.body l.within.scope.now l.at l.fn.x (row l.links)

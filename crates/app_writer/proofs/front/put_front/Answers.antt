@@ -1,4 +1,4 @@
-use Rattle.std.proofs.Common.{arith, sym}
+use Rattle.std.proofs.Common.{arith}
 use Rattle.sed_wire.proofs.WritingLemmas.{appends-then}
 use Rattle.sed_wire.specs.Number.{u4}
 use Rattle.app_file.specs.Text.{file_mark, version}

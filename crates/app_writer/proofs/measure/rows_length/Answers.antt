@@ -1,4 +1,4 @@
-use Rattle.std.proofs.Common.{◌≡◌, ℕ, ◌+◌, length, ap, arith, length-append}
+use Rattle.std.proofs.Common.{◌+◌, length, ap, arith, length-append}
 use Rattle.comp_tree.specs.Held.{components_of}
 use Rattle.app_writer.specs.Written.{row_at}
 use Rattle.app_writer.proofs.RowsLeft.{rows-end, rows-first, rows-next, rows_from}

@@ -1,4 +1,4 @@
-use Rattle.std.proofs.Common.{◌≡◌, ℕ, ◌≤◌, List, [], ◌∷◌, length, refl, sym, subst, ap, arith, length-append}
+use Rattle.std.proofs.Common.{ℕ, List, sym, subst, arith}
 use Rattle.std.specs.Prelude.{IsTrue}
 use Rattle.sed_value.specs.Names.{is_name}
 use Rattle.sed_wire.specs.Writing.{Appends}

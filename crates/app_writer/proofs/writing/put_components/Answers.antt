@@ -1,5 +1,4 @@
 use Rattle.std.proofs.Common.{◌≡◌, ℕ, length, refl, sym, subst, arith}
-use Rattle.std.specs.FinMap as map
 use Rattle.sed_wire.specs.Writing.{Appends}
 use Rattle.sed_wire.proofs.WritingLemmas.{appends-then}
 use Rattle.comp_tree.specs.Held.{components_of}

@@ -1,4 +1,4 @@
-use Rattle.std.proofs.Common.{◌≡◌, ◌+◌, ◌*◌, ◌≤◌, length, subst, sym, refl, arith}
+use Rattle.std.proofs.Common.{◌≡◌, ◌≤◌, length, subst, sym, refl, arith}
 use Rattle.sed_wire.specs.Writing.{Appends, room}
 use Rattle.sed_wire.proofs.WritingLemmas.{appends-then}
 use Rattle.comp_tree.specs.Held.{Held, components_of}

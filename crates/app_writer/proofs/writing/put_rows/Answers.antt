@@ -1,6 +1,6 @@
-use Rattle.std.proofs.Common.{◌≡◌, ℕ, ◌+◌, ◌≤◌, length, ap, arith, length-append}
+use Rattle.std.proofs.Common.{◌+◌, length, ap, arith, length-append}
 use Rattle.comp_tree.specs.Held.{components_of}
-use Rattle.app_parts.proofs.SoFar.{all_put, none_yet, one_more}
+use Rattle.app_parts.proofs.SoFar.{all_put, one_more}
 use Rattle.app_writer.specs.Written.{row_at, rows_text}
 use Rattle.app_writer.proofs.Lengths.{room-left}
 use Rattle.app_writer.proofs.RowsLeft.{rows-begin, rows-end, rows-first, rows-next, rows_from}

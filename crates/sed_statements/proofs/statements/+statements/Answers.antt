@@ -7,8 +7,8 @@ use Rattle.sed_statements.proofs.StatementRows.{row_falls}
 use Rattle.sed_statements.proofs.statements.+statements.Goals as goal
 
 -- an item of a row is smaller than the row
-pub statements-statement-requires : goal.statements-statement-requires
-statements-statement-requires g t c =
+pub judge_row-judge-requires : goal.judge_row-judge-requires
+judge_row-judge-requires g t c =
     λ κs h. (omega (arith, row_falls c.args.all.now c.loop-s.s-index c.s-item.result c.loop-s-test.true c.s-item.is), h)
 
 pub cases-case-requires : goal.cases-case-requires
@@ -25,7 +25,7 @@ choice_else-returns-clause-past g t c =
 pub for_loop-returns-clause-past : goal.for_loop-returns-clause-past
 for_loop-returns-clause-past g t c =
     whatever_comes c.repeated_for.result _
-    (c.leave.ensures.row (g.N.Lookup.names c.args.names.now) c.args.scope.now
+    (c.leave.ensures.row (g.N.Lookup.names c.args.within.now.names.now) c.args.scope.now
     (row (first_tree c.args.head.now.first ∷ c.args.x.now ∷ [])) c.len-mark.ensures
     (c.in_ok-x.ensures.behind
-    ∙ ap (λ (s : Scope). behind (g.N.Lookup.names c.args.names.now) s c.args.x.now) c.in_ok-first.ensures.behind))
+    ∙ ap (λ (s : Scope). behind (g.N.Lookup.names c.args.within.now.names.now) s c.args.x.now) c.in_ok-first.ensures.behind))

@@ -25,7 +25,7 @@ returns-in-Err-clause-live g c =
 
 pub returns-in-Ok-node_of-clause-answered : goal.returns-in-Ok-node_of-clause-answered
 returns-in-Ok-node_of-clause-answered g c = λ inputs is_code are_users is_secret.
-    answers_run g.D.Disk g.L.Link g.C.Clock (asked_run c.args.words) _ _ c.args.users c.args.secret _ _ _ _ _ _ c.args.link.now c.bind.new.self c.run_ready.new.link c.args.clock.now c.now-moment.new.self c.run_ready.new.clock c.args.disk.now c.run_ready.new.disk
+    answers_run g.D.Disk g.L.Link g.C.Clock (asked_run c.args.words) _ _ c.args.parts.users c.args.parts.secret _ _ _ _ _ _ c.args.link.now c.bind.new.self c.run_ready.new.link c.args.clock.now c.now-moment.new.self c.run_ready.new.clock c.args.disk.now c.run_ready.new.disk
     (c.run_ready.ensures.ran _ _ _ _ _ _ c.in-Ok-node_of.ensures.ready) inputs is_code are_users is_secret
 
 pub returns-in-Ok-node_of-clause-live : goal.returns-in-Ok-node_of-clause-live
@@ -33,7 +33,7 @@ returns-in-Ok-node_of-clause-live g c =
     let fits : FitsSigned w64 c.now-moment.result = search rules in
     let moment = to_z w64 (of_z w64 c.now-moment.result) in
     let moment_is : moment ≡ c.now-moment.result = to_z-of_z w64 c.now-moment.result fits in
-    asks_run g.D.Disk g.L.Link g.C.Clock (asked_run c.args.words) moment _ c.args.users c.args.secret _ _ _ _ _ _ c.args.link.now c.bind.new.self c.run_ready.new.link c.args.clock.now c.now-moment.new.self c.run_ready.new.clock c.args.disk.now
+    asks_run g.D.Disk g.L.Link g.C.Clock (asked_run c.args.words) moment _ c.args.parts.users c.args.parts.secret _ _ _ _ _ _ c.args.link.now c.bind.new.self c.run_ready.new.link c.args.clock.now c.now-moment.new.self c.run_ready.new.clock c.args.disk.now
     c.run_ready.new.disk (c.run_ready.ensures.ran _ _ _ _ _ _ c.in-Ok-node_of.ensures.ready) c.bind.ensures.bound
     (so_taken (g.L.Link.bound c.bind.new.self) c.bind.result true (ap is_ok c.in-Ok.is) c.bind.ensures.taken) c.bind.ensures.polls c.bind.ensures.polled c.bind.ensures.offered
     (subst (λ (t : ℤ). IfSome (g.C.Clock.moments c.args.clock.now) (λ to_come. t ≡ next_moment to_come)) (sym moment_is) c.now-moment.ensures.told) c.now-moment.ensures.later c.now-moment.ensures.given c.now-moment.ensures.asked c.run_ready.ensures.bound c.run_ready.ensures.sleeps c.run_ready.ensures.left

@@ -6,7 +6,7 @@ use Rattle.sedona_cli.proofs.nodes.node_of.Goals as goal
 
 pub returns-in-Ok-clause-ready : goal.returns-in-Ok-clause-ready
 returns-in-Ok-clause-ready c =
-    is_ready _ _ c.args.moment c.in-Some.turns c.args.words.turns c.args.store _ c.args.users c.args.secret _ c.in-Ok.node (to_z-of_z w64 c.args.moment c.ranges.moment) c.in-Some.ensures.made c.in-Ok.ensures.code c.in-Ok.ensures.setup c.in-Ok.ensures.fixed c.in-Ok.ensures.opened
+    is_ready _ _ c.args.moment c.in-Some.turns c.args.words.turns c.args.parts.store _ c.args.parts.users c.args.parts.secret _ c.in-Ok.node (to_z-of_z w64 c.args.moment c.ranges.moment) c.in-Some.ensures.made c.in-Ok.ensures.code c.in-Ok.ensures.setup c.in-Ok.ensures.fixed c.in-Ok.ensures.opened
 
 pub returns-in-Ok-clause-slot : goal.returns-in-Ok-clause-slot
 returns-in-Ok-clause-slot c = ap (λ (s : Setup). s.slot) c.in-Ok.ensures.setup

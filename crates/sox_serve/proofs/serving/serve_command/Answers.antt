@@ -1,6 +1,8 @@
 use Rattle.std.proofs.Common.{ℤ, refl, subst, w64}
 use Rattle.std.proofs.lemmas.Int.{to_z-of_z}
-use Rattle.sox_msg.specs.Command.{add, delete, invoke, write}
+use Rattle.sub_table.specs.Link.{Link}
+use Rattle.sox_msg.specs.Command.{add, delete, invoke, link, unlink, write}
+use Rattle.sox_serve.specs.Marks.{MarksByRow}
 use Rattle.sox_serve.specs.Serves.{Serves}
 use Rattle.sox_serve.proofs.AnswerLemmas.{serves_exactly}
 use Rattle.sox_serve.proofs.MarkLemmas.{marks_stay}
@@ -39,16 +41,24 @@ pub returns-in-Write-clause-marks : goal.returns-in-Write-clause-marks
 returns-in-Write-clause-marks g c = rw c.in-Write.is c.write.ensures.marks
 
 pub returns-in-Link-clause-served : goal.returns-in-Link-clause-served
-returns-in-Link-clause-served g c = rw c.in-Link.is (serves_exactly _ _ _ _ _ _ _ _ _ (c.link.ensures.served c.args.turns c.args.ticks))
+returns-in-Link-clause-served g c =
+    rw c.in-Link.is (subst (λ (l : Link). Serves g.E.Engine c.args.app.now c.link.new.app (link l.from l.from_slot l.to l.to_slot) c.args.number c.args.turns c.args.ticks c.link.result c.link.new.into)
+    c.between.ensures (serves_exactly _ _ _ _ _ _ _ _ _ (c.link.ensures.served c.args.turns c.args.ticks)))
 
 pub returns-in-Link-clause-marks : goal.returns-in-Link-clause-marks
-returns-in-Link-clause-marks g c = rw c.in-Link.is c.link.ensures.marks
+returns-in-Link-clause-marks g c =
+    rw c.in-Link.is (subst (λ (l : Link). MarksByRow g.E.Engine c.args.app.now c.link.new.app (link l.from l.from_slot l.to l.to_slot) c.args.number c.link.new.into)
+    c.between.ensures c.link.ensures.marks)
 
 pub returns-in-Unlink-clause-served : goal.returns-in-Unlink-clause-served
-returns-in-Unlink-clause-served g c = rw c.in-Unlink.is (serves_exactly _ _ _ _ _ _ _ _ _ (c.unlink.ensures.served c.args.turns c.args.ticks))
+returns-in-Unlink-clause-served g c =
+    rw c.in-Unlink.is (subst (λ (l : Link). Serves g.E.Engine c.args.app.now c.unlink.new.app (unlink l.from l.from_slot l.to l.to_slot) c.args.number c.args.turns c.args.ticks c.unlink.result c.unlink.new.into)
+    c.between-in-Unlink.ensures (serves_exactly _ _ _ _ _ _ _ _ _ (c.unlink.ensures.served c.args.turns c.args.ticks)))
 
 pub returns-in-Unlink-clause-marks : goal.returns-in-Unlink-clause-marks
-returns-in-Unlink-clause-marks g c = rw c.in-Unlink.is c.unlink.ensures.marks
+returns-in-Unlink-clause-marks g c =
+    rw c.in-Unlink.is (subst (λ (l : Link). MarksByRow g.E.Engine c.args.app.now c.unlink.new.app (unlink l.from l.from_slot l.to l.to_slot) c.args.number c.unlink.new.into)
+    c.between-in-Unlink.ensures c.unlink.ensures.marks)
 
 pub returns-in-Rename-clause-served : goal.returns-in-Rename-clause-served
 returns-in-Rename-clause-served g c = rw c.in-Rename.is (serves_exactly _ _ _ _ _ _ _ _ _ (c.rename.ensures.served c.args.turns c.args.ticks))

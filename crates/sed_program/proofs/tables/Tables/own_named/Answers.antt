@@ -10,15 +10,14 @@ pub returns : goal.returns
 returns c =
     let units = c.self.inside.ordered in
     let name = c.args.name.now in
-    let members : c.members-members.result.now ≡ members_of units c.args.class =
-    c.members-members.ensures ∙ ap (λ u. members_of u c.args.class) (c.classes.ensures ∙ c.based.ensures) in
-    let found : option_copied c.named_at.result ≡ option_map (declared_of units) (own_named units name c.args.class) =
-    c.named_at.ensures
+    let first : c.place_of_member-first.result ≡ position (has_name name) (members_of units c.args.class) =
+    c.place_of_member-first.ensures
+    ∙ ap (λ u. position (has_name name) (members_of u c.args.class)) (c.classes.ensures ∙ c.based.ensures) in
+    let found : option_copied c.placed_at.result ≡ option_map (declared_of units) (own_named units name c.args.class) =
+    c.placed_at.ensures
     ∙ ap
-    (λ rows. option_and_then (item_at rows c.args.class) (position (has_name name) c.members-members.result.now))
+    (λ rows. option_and_then (item_at rows c.args.class) c.place_of_member-first.result)
     (c.deref.ensures.value ∙ c.self.invariant.0)
-    ∙ ap
-    (λ ms. option_and_then (item_at (row_of units (declared_in units)) c.args.class) (position (has_name name) ms))
-    members
+    ∙ ap (option_and_then (item_at (row_of units (declared_in units)) c.args.class)) first
     ∙ own_found units c.args.class name in
     cc
