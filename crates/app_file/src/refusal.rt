@@ -5,8 +5,8 @@ use sed_value::KitRef;
 /// Why no application is read from bytes.
 #[derive(Clone, Copy, Debug, PartialEq, Eq)]
 pub enum AppRefusal {
-    /// The bytes up to the end of the kits are no front of a file, or the kits agree and what follows is no file:
-    /// `at` is the first byte that is not as in one.
+    /// The bytes up to the end of the kits are no front of a file, or the kits agree and what follows is no file.
+    /// `at` is a place in the bytes, of which no clause says which.
     NotAnApp {
         at: usize,
     },

@@ -12,7 +12,3 @@ pub mod RowTexts
 pub mod RowsAnswered
 pub mod ValueRows
 pub mod ValueTexts
-pub mod TreePlaces
-pub mod Chaining
-pub mod Meeting
-pub mod Trees

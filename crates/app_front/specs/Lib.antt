@@ -8,9 +8,3 @@ pub mod LinkForm
 pub mod RowForm
 pub mod Rows
 pub mod ValueForm
-pub mod TreeRows
-pub mod Tree
-pub mod Chains
-pub mod Reached
-pub mod Visits
-pub mod Root

@@ -5,31 +5,18 @@
 //! definitions give a file as forms of bytes, with a reading from left to right that the readers follow; those of
 //! app_file say which text rows and links have, and the contracts speak of these.
 //!
-//! `children` gives the children of each row, in their order, where the rows are one tree below the App: the first
-//! children and the siblings agree with the parents and reach every row, and none twice. Else it says that there is no
-//! such tree. What makes an application of the rows stands on this crate.
+//! What makes an application of the rows stands on this crate.
 #![tactic(auto)]
 
-mod chain;
 mod components;
 mod differing;
 mod fields;
 mod front;
 mod kits;
 mod links;
-mod lists;
-mod order;
-mod reach;
 mod reading;
-mod refusal;
 mod rows;
-mod tree;
-mod tree_rows;
 mod values;
 
-pub use order::{are_ascending, place_of};
 pub use reading::read_rows;
-pub use refusal::TreeRefusal;
 pub use rows::{FileRow, FileRows};
-pub use tree::children;
-pub use tree_rows::TreeRow;

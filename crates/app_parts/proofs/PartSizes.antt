@@ -1,5 +1,5 @@
 -- What is as long as a part may be fits a message.
-use Rattle.std.proofs.Common.{◌≡◌, ℕ, ◌≤◌, Bool, true, false, eqb, cond, List, length, refl, arith}
+use Rattle.std.proofs.Common.{ℕ, ◌≤◌, Bool, true, false, eqb, cond, List, length, arith}
 use Rattle.sed_typed.specs.declared.schema.Schema.{Schema}
 use Rattle.sed_value.specs.declared.limits.TheConstants.{LONGEST_MESSAGE, LONGEST_PART}
 use Rattle.sox_msg.specs.Answered.{answered_text, part}

@@ -14,10 +14,10 @@ use Rattle.sed_engine.specs.Code.{Meaning}
 use Rattle.comp_tree.specs.Application.{Component}
 use Rattle.comp_tree.specs.declared.loaded.Loaded.{Loaded}
 use Rattle.comp_tree.specs.Loads.{loaded, loaded_component}
-use Rattle.app_front.specs.TreeRows.{Ascend, id_at}
-use Rattle.app_front.specs.Tree.{children_in, list_at}
-use Rattle.app_front.specs.declared.tree_rows.TreeRow.{TreeRow}
-use Rattle.app_front.proofs.TreePlaces.{found_place}
+use Rattle.row_tree.specs.TreeRows.{Ascend, id_at}
+use Rattle.row_tree.specs.Tree.{children_in, list_at}
+use Rattle.row_tree.specs.declared.tree_rows.TreeRow.{TreeRow}
+use Rattle.row_tree.proofs.TreePlaces.{found_place}
 use Rattle.app_file.specs.Telling.{told_by, told_component, told_entries}
 use Rattle.app_front.specs.Rows.{told_row}
 use Rattle.app_front.specs.declared.rows.FileRow.{FileRow}

@@ -16,8 +16,8 @@ use Rattle.comp_tree.specs.Links.{go_together_if_there}
 use Rattle.comp_tree.specs.Parts.{no_id}
 use Rattle.comp_tree.specs.Whole.{Each, IsApp, IsFormed, IsLink, IsOther}
 use Rattle.comp_tree.specs.Shape.{IsRooted}
-use Rattle.app_front.specs.TreeRows.{is_row, parent_in}
-use Rattle.app_front.specs.declared.tree_rows.TreeRow.{TreeRow}
+use Rattle.row_tree.specs.TreeRows.{is_row, parent_in}
+use Rattle.row_tree.specs.declared.tree_rows.TreeRow.{TreeRow}
 use Rattle.app_file.specs.Reading.{StandsFor}
 use Rattle.app_file.specs.Rows.{Row, rows_of, sibling_behind}
 use Rattle.app_file.specs.Telling.{RowAgrees, RowsAgree, told_application, told_by, told_component, told_entries, told_text}

@@ -1,13 +1,18 @@
 -- The limits that rows pass, and those of the application that they tell.
-use Rattle.std.proofs.Common.{◌≡◌, ℕ, zero, suc, ◌≤◌, Bool, true, false, List, [], ◌∷◌, refl, sym, ◌∙◌, ap, arith}
+use Rattle.std.proofs.Common.{◌≡◌, ℕ, zero, suc, ◌≤◌, Bool, true, false, List, [], ◌∷◌, length, refl, sym, ◌∙◌, ap, arith}
 use Rattle.std.specs.Prelude.{Option, Some, None, nat_lt, slice_get}
 use Rattle.std.specs.List.{list_any}
 use Rattle.std.proofs.lemmas.Bool.Decides.{nat_tests}
 use Rattle.sed_engine.specs.Code.{Meaning}
-use Rattle.comp_tree.specs.Application.{data_size_of}
-use Rattle.comp_tree.specs.Limits.{first_passed, limit_passed, limits_passed}
-use Rattle.app_reader.specs.Ready.{application_told, components_told, passed_in}
+use Rattle.comp_tree.specs.Application.{Link, data_size_of}
+use Rattle.comp_tree.specs.Limits.{first_passed, limit_passed}
+use Rattle.row_tree.specs.declared.tree_rows.TreeRow.{TreeRow}
+use Rattle.app_front.specs.declared.rows.FileRow.{FileRow}
+use Rattle.app_reader.specs.FormedFile.{tree_rows}
+use Rattle.app_reader.specs.Ready.{HoldTogether, components_told, limit_told}
+use Rattle.app_reader.specs.Tells.{application_of_rows}
 use Rattle.app_reader.specs.declared.ready.FormedRows.{FormedRows}
+use Rattle.app_reader.proofs.LimitsTold.{limits_are, passed_by}
 use Rattle.sed_value.proofs.Truths.{or_left as first_false, or_right as rest_false}
 
 -- ---- tests on lists
@@ -34,20 +39,23 @@ none_of_six false false false false false true none = absurd (let no : ◌≡◌
 
 -- ---- the application's
 
--- the limits that the application passes are those that the rows pass
-abbrev pub AreLimitsTold : Meaning → ℕ → FormedRows → Type 0
-AreLimitsTold m limit rows = limits_passed m (application_told m limit rows) ≡ passed_in m limit rows
-
 at_most : (limit n : ℕ) → nat_lt limit n ≡ false → n ≤ limit
 at_most limit n none = grind (arith, nat_tests)
 
-module _ (m : Meaning) (limit : ℕ) (rows : FormedRows) (told : AreLimitsTold m limit rows) where
-  pub passed_first : (which : ℕ) → first_passed (passed_in m limit rows) ≡ Some which → limit_passed m (application_told m limit rows) ≡ Some which
-  passed_first which is = ap first_passed told ∙ is
+module _ (m : Meaning) (limit : ℕ) (rows : FormedRows) (few : limit_told m limit rows ≡ None) where
+  pub data_fits : data_size_of m (components_told m rows) ≤ limit
+  data_fits = at_most limit (data_size_of m (components_told m rows)) (none_of_six _ _ _ _ _ _ few).5
 
-  module _ (few : first_passed (passed_in m limit rows) ≡ None) where
-    pub passes_none : limit_passed m (application_told m limit rows) ≡ None
-    passes_none = ap first_passed told ∙ few
+  -- so by rows none is passed
+  pub none_by_rows : HoldTogether m limit rows → first_passed (passed_by m limit rows.file.rows (tree_rows rows.file.rows) rows.lists rows.file.links) ≡ None
+  none_by_rows held = sym (ap first_passed (limits_are m rows.file.rows rows.lists rows.file.links limit held.formed.ascend held.size)) ∙ few
 
-    pub data_fits : data_size_of m (components_told m rows) ≤ limit
-    data_fits = at_most limit (data_size_of m (components_told m rows)) (none_of_six _ _ _ _ _ _ passes_none).5
+-- what is told by the parts of rows that hold together is told by them
+pub limit_same : (m : Meaning) (limit : ℕ) (rows : FormedRows) → HoldTogether m limit rows
+    → (each : List FileRow) (tree : List TreeRow) (lists : List (List ℕ)) (links : List Link) (o : Option ℕ)
+    → each ≡ rows.file.rows → tree ≡ rows.tree → lists ≡ rows.lists → links ≡ rows.file.links
+    → (tree ≡ tree_rows each → length lists ≡ length each → o ≡ limit_passed m (application_of_rows m each lists links limit))
+    → o ≡ limit_told m limit rows
+limit_same m limit rows held each tree lists links o same same-tree same-lists same-links told =
+    told (same-tree ∙ held.tree ∙ ap tree_rows (sym same)) (ap length same-lists ∙ held.size ∙ ap length (sym same))
+    ∙ (λ i. limit_passed m (application_of_rows m (same i) (same-lists i) (same-links i) limit))

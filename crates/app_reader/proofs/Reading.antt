@@ -12,9 +12,9 @@ use Rattle.comp_tree.specs.Application.{Application, ById, Component, Link, chil
 use Rattle.comp_tree.specs.Links.{go_together_if_there}
 use Rattle.comp_tree.specs.Whole.{Each, IsApp, IsFormed, IsLink, IsOther}
 use Rattle.comp_tree.specs.Shape.{IsRooted}
-use Rattle.app_front.specs.TreeRows.{Ascend, is_row, parent_in}
-use Rattle.app_front.specs.Tree.{IsTreeOf}
-use Rattle.app_front.specs.declared.tree_rows.TreeRow.{TreeRow}
+use Rattle.row_tree.specs.TreeRows.{Ascend, is_row, parent_in}
+use Rattle.row_tree.specs.Tree.{IsTreeOf}
+use Rattle.row_tree.specs.declared.tree_rows.TreeRow.{TreeRow}
 use Rattle.app_file.specs.Reading.{StandsFor}
 use Rattle.app_file.specs.Rows.{rows_of, sibling_behind}
 use Rattle.app_file.specs.Telling.{RowAgrees, RowsAgree, told_application, told_by, told_component, told_entries}

@@ -12,12 +12,12 @@ use Rattle.std.proofs.lemmas.List.Elements.{All-from_recursion}
 use Rattle.std.proofs.lemmas.Option.{slice_get-map}
 use Rattle.sed_engine.specs.Code.{Meaning, property_type, slot_form}
 use Rattle.comp_tree.specs.Application.{ById, Component, children_of, is_live, name_of, parent_of, type_at}
-use Rattle.app_front.specs.TreeRows.{Ascend, is_row, parent_in, place_of}
-use Rattle.app_front.specs.declared.tree_rows.TreeRow.{TreeRow}
+use Rattle.row_tree.specs.TreeRows.{Ascend, is_row, parent_in, place_of}
+use Rattle.row_tree.specs.declared.tree_rows.TreeRow.{TreeRow}
 use Rattle.app_file.specs.Telling.{told_by, told_component, told_entries}
 use Rattle.app_front.specs.Rows.{number_of_id, told_row}
 use Rattle.app_front.specs.declared.rows.FileRow.{FileRow}
-use Rattle.app_front.proofs.TreePlaces.{at_place, found_place}
+use Rattle.row_tree.proofs.TreePlaces.{at_place, found_place}
 use Rattle.app_reader.specs.FormedFile.{name_in, row_with, tree_row, tree_rows, type_in}
 pub use Rattle.sed_value.proofs.Lists.{at_place as at_each}
 pub use Rattle.std.proofs.lemmas.Option.{same_Some as some_is}

@@ -8,11 +8,11 @@ use Rattle.std.proofs.lemmas.Option.{get_or_from_slice_get, slice_get_within, sl
 use Rattle.sed_engine.specs.Code.{Meaning}
 use Rattle.sub_table.specs.Links.{AreInOrder}
 use Rattle.app_file.specs.Text.{greatest_of, longest_old_name, old_version}
-use Rattle.app_front.specs.Reached.{StayWithin}
-use Rattle.app_front.specs.TreeRows.{Ascend, id_at, place_of}
-use Rattle.app_front.specs.Tree.{IsTreeOf, children_in, list_at}
-use Rattle.app_front.specs.declared.tree_rows.TreeRow.{TreeRow}
-use Rattle.app_front.proofs.TreePlaces.{found_place}
+use Rattle.row_tree.specs.Reached.{StayWithin}
+use Rattle.row_tree.specs.TreeRows.{Ascend, id_at, place_of}
+use Rattle.row_tree.specs.Tree.{IsTreeOf, children_in, list_at}
+use Rattle.row_tree.specs.declared.tree_rows.TreeRow.{TreeRow}
+use Rattle.row_tree.proofs.TreePlaces.{found_place}
 use Rattle.app_front.specs.declared.rows.FileRow.{FileRow}
 use Rattle.app_front.specs.declared.rows.FileRows.{FileRows}
 use Rattle.app_reader.specs.FormedFile.{GivesItsValues, IsFormedFile, IsLinkIn, name_in, tree_row, tree_rows}

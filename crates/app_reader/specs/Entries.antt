@@ -4,8 +4,8 @@ use Rattle.std.specs.List.{Contains}
 use Rattle.std.specs.Option.{option_map_or}
 use Rattle.sed_value.specs.declared.id.Id.{Id}
 use Rattle.comp_tree.specs.declared.loaded.Loaded.{Loaded}
-use Rattle.app_front.specs.TreeRows.{place_of}
-use Rattle.app_front.specs.Tree.{list_at}
+use Rattle.row_tree.specs.TreeRows.{place_of}
+use Rattle.row_tree.specs.Tree.{list_at}
 use Rattle.app_front.specs.declared.rows.FileRow.{FileRow}
 use Rattle.app_reader.specs.FormedFile.{tree_rows}
 

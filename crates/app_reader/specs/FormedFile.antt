@@ -12,9 +12,9 @@ use Rattle.comp_tree.specs.Application.{Link}
 use Rattle.comp_tree.specs.Links.{go_together_if_there, is_before}
 use Rattle.comp_tree.specs.Parts.{config_slots, values_in}
 use Rattle.comp_tree.specs.Refusals.{is_abstract_class, is_for_components}
-use Rattle.app_front.specs.TreeRows.{Ascend, place_of}
-use Rattle.app_front.specs.Tree.{IsTreeOf}
-use Rattle.app_front.specs.declared.tree_rows.TreeRow.{TreeRow}
+use Rattle.row_tree.specs.TreeRows.{Ascend, place_of}
+use Rattle.row_tree.specs.Tree.{IsTreeOf}
+use Rattle.row_tree.specs.declared.tree_rows.TreeRow.{TreeRow}
 use Rattle.app_file.specs.Telling.{told_component}
 use Rattle.app_file.specs.Text.{greatest_of, longest_old_name, old_version}
 use Rattle.app_front.specs.Rows.{number_of_id, told_row}

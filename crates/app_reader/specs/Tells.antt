@@ -2,17 +2,26 @@
 use Rattle.std.specs.Prelude.{ℕ, ◌≡◌, List, map as map_list}
 use Rattle.std.specs.FinMap as map
 use Rattle.sed_engine.specs.Code.{Meaning}
-use Rattle.comp_tree.specs.Application.{Application}
+use Rattle.comp_tree.specs.Application.{Application, Link}
 use Rattle.comp_tree.specs.Parts.{Kept}
 use Rattle.comp_tree.specs.Whole.{IsFormed}
 use Rattle.app_file.specs.Rows.{Row, rows_of}
+use Rattle.app_file.specs.Telling.{told_application}
 use Rattle.app_file.specs.Text.{HasShortNames, greatest_of, old_version}
 use Rattle.app_front.specs.Rows.{AreRows, told_row}
+use Rattle.app_front.specs.declared.rows.FileRow.{FileRow}
 use Rattle.app_front.specs.declared.rows.FileRows.{FileRows}
+use Rattle.row_tree.specs.Tree.{children_in}
+use Rattle.app_reader.specs.FormedFile.{tree_rows}
 
 -- what the rows of a file tell, each of its component
 abbrev pub rows_told : FileRows → List Row
 rows_told f = map_list told_row f.rows
+
+-- the application that rows and links tell, with lists of the places of the rows' children, under a data limit
+abbrev pub application_of_rows : Meaning → List FileRow → List (List ℕ) → List Link → ℕ → Application
+application_of_rows m rows lists links limit =
+    told_application m (children_in (tree_rows rows) lists) (map_list told_row rows) links limit
 
 -- the application is formed and as a file keeps it, under the data limit, and these are its rows, its links and its
 -- greatest id; of a file of the old version the names are short

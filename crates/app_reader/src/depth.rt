@@ -2,9 +2,9 @@
 ghost use Rattle.std.specs.Prelude.{◌≡◌, length};
 ghost use Rattle.sed_typed.specs.Classes.{reached};
 ghost use Rattle.comp_tree.specs.Order.{most_levels};
-ghost use Rattle.app_front.specs.TreeRows.{Ascend, parent_in};
+ghost use Rattle.row_tree.specs.TreeRows.{Ascend, parent_in};
 
-use app_front::{TreeRow, place_of};
+use row_tree::{TreeRow, place_of};
 use sed_value::limits::GREATEST_DEPTH;
 
 // How deep the row with an id stands, the App's at 0; no more than there may be levels.

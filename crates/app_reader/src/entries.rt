@@ -1,7 +1,7 @@
 //! The entries of which a tree of components is built.
 ghost use Rattle.std.specs.Prelude.{◌≡◌, ◌<◌, IfOk, length};
-ghost use Rattle.app_front.specs.Reached.{StayWithin};
-ghost use Rattle.app_front.specs.TreeRows.{Ascend};
+ghost use Rattle.row_tree.specs.Reached.{StayWithin};
+ghost use Rattle.row_tree.specs.TreeRows.{Ascend};
 ghost use Rattle.app_reader.specs.FormedFile.{tree_rows};
 ghost use Rattle.app_reader.specs.Entries.{AreWithin, entries_of, entry_with, id_there, ids_there};
 

@@ -2,20 +2,23 @@
 ghost use Rattle.std.specs.Prelude.{◌≡◌, ◌≤◌, ◌↔◌, ℕ, List, Err, IfOk, IsTrue, length, map};
 ghost use Rattle.std.specs.List.{All};
 ghost use Rattle.sed_engine.specs.Code.{Meaning};
-ghost use Rattle.app_front.specs.Reached.{StayWithin};
-ghost use Rattle.app_front.specs.TreeRows.{Ascend};
-ghost use Rattle.app_front.specs.Tree.{IsTreeOf, children_in};
-ghost use Rattle.app_front.specs.declared.refusal.TreeRefusal.TheVariants.{NoTree};
+ghost use Rattle.row_tree.specs.Reached.{StayWithin};
+ghost use Rattle.row_tree.specs.TreeRows.{Ascend};
+ghost use Rattle.row_tree.specs.Tree.{IsTreeOf, children_in};
+ghost use Rattle.row_tree.specs.declared.refusal.TreeRefusal.TheVariants.{NoTree};
 ghost use Rattle.app_file.specs.Text.{greatest_of};
 ghost use Rattle.app_front.specs.Rows.{IsToldRow, number_of_id};
 ghost use Rattle.app_front.specs.declared.rows.FileRow.{FileRow as AnyRow};
 ghost use Rattle.app_reader.specs.FormedFile.{GivesItsValues, IsFormedFile, tree_row as row_told, tree_rows};
 ghost use Rattle.app_reader.specs.Checks.{SiblingsDiffer};
 
-use crate::{
-    are_in_order, are_kinds, are_links, are_short, gives_its_values, greatest, siblings_differ,
-};
-use app_front::{FileRow, FileRows, TreeRefusal, TreeRow, are_ascending, children};
+use crate::kinds::are_kinds;
+use crate::links::{are_in_order, are_links};
+use crate::names::{are_short, siblings_differ};
+use crate::row::gives_its_values;
+use crate::rows::greatest;
+use app_front::{FileRow, FileRows};
+use row_tree::{TreeRefusal, TreeRow, are_ascending, children};
 use sed_engine::Engine;
 use sed_typed::Schema;
 use sed_value::{Id, Items};
@@ -24,7 +27,7 @@ use std::alloc::{AllocError, Global};
 /// The places of the children of each row of a file, where its rows and links hold together. `NoTree` comes only where
 /// they do not, whatever children one might take, and `Memory` where memory was wanted and refused. The rows may stand
 /// in a file of the engine's code, and `tree` is what they tell of the tree.
-pub fn formed<E: Engine>(
+pub(crate) fn formed<E: Engine>(
     alloc: Global,
     engine: &E,
     file: &FileRows,
@@ -136,14 +139,14 @@ fn all_give<E: Engine>(alloc: Global, engine: &E, rows: &[FileRow]) -> Result<bo
 }
 
 /// What rows tell of the tree.
-pub fn tree_of(alloc: Global, rows: &[FileRow]) -> Result<Vec<TreeRow>, AllocError>
-    ensures { IfOk result (λ tree. tree.items ≡ tree_rows rows.now) }
+pub(crate) fn tree_of(alloc: Global, rows: &[FileRow]) -> Result<Items<TreeRow>, AllocError>
+    ensures { IfOk result (λ tree. tree ≡ tree_rows rows.now) }
 {
     let mut tree = Vec::new(alloc);
     for row in rows {
         tree.push(tree_row(row))?;
     }
-    Ok(tree)
+    Ok(Items::new(tree))
 }
 
 fn tree_row(row: &FileRow) -> TreeRow

@@ -10,7 +10,7 @@ use sed_typed::{Schema, TypeNo};
 
 /// Whether the first row is the App's, with its class and its name, and each other is of a class of which components
 /// are made.
-pub fn are_kinds(schema: &Schema, rows: &[FileRow]) -> bool
+pub(crate) fn are_kinds(schema: &Schema, rows: &[FileRow]) -> bool
     ensures { (m : Meaning) → m.schema ≡ schema.now → (IsTrue result ↔ AreKinds m rows.now) }
 {
     for place in 0..rows.len() {

@@ -4,17 +4,18 @@ ghost use Rattle.std.specs.List.{All, AllPairs};
 ghost use Rattle.sed_engine.specs.Code.{Meaning, property_type, slot_form};
 ghost use Rattle.comp_tree.specs.Links.{go_together_if_there};
 ghost use Rattle.sub_table.specs.Links.{AreInOrder, is_before as comes_before};
-ghost use Rattle.app_front.specs.TreeRows.{Ascend};
+ghost use Rattle.row_tree.specs.TreeRows.{Ascend};
 ghost use Rattle.app_reader.specs.FormedFile.{IsLinkIn, row_with, tree_rows, type_in};
 
-use app_front::{FileRow, TreeRow, place_of};
+use app_front::FileRow;
 use node_table::form_of;
+use row_tree::{TreeRow, place_of};
 use sed_typed::{Schema, SlotForm, TypeNo};
 use sed_value::{Id, SlotType};
 use sub_table::LinkRec;
 
 /// Whether each link stands before the ones behind it, by the target's id and then its slot.
-pub fn are_in_order(links: &[LinkRec]) -> bool
+pub(crate) fn are_in_order(links: &[LinkRec]) -> bool
     ensures { IsTrue result ↔ AreInOrder links.now }
 {
     for place in 1..links.len() {
@@ -43,7 +44,12 @@ fn is_before(k: LinkRec, l: LinkRec) -> bool
 
 /// Whether each link is between properties of rows that are there, whose types go together. The rows that tell of the
 /// tree are those of these rows, and their ids ascend.
-pub fn are_links(schema: &Schema, rows: &[FileRow], tree: &[TreeRow], links: &[LinkRec]) -> bool
+pub(crate) fn are_links(
+    schema: &Schema,
+    rows: &[FileRow],
+    tree: &[TreeRow],
+    links: &[LinkRec],
+) -> bool
     requires rows { tree.now ≡ tree_rows rows.now }
     requires ascend { Ascend tree.now }
     ensures { (m : Meaning) → m.schema ≡ schema.now → (IsTrue result ↔ All (IsLinkIn m rows.now) links.now) }

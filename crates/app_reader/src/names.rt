@@ -15,7 +15,7 @@ use std::alloc::{AllocError, Global};
 use std::collections::BTreeSet;
 
 /// Whether each name has at most 7 characters.
-pub fn are_short(rows: &[FileRow]) -> bool
+pub(crate) fn are_short(rows: &[FileRow]) -> bool
     ensures { IsTrue result ↔ All (λ (r : AnyRow). length r.name ≤ 7) rows.now }
 {
     for row in rows {
@@ -28,7 +28,7 @@ pub fn are_short(rows: &[FileRow]) -> bool
 
 /// Whether no two rows at the places of one list have one name. Each list takes memory for a set of its names, so that
 /// the time is about that of sorting them.
-pub fn siblings_differ(
+pub(crate) fn siblings_differ(
     alloc: Global,
     rows: &[FileRow],
     lists: &[Items<usize>],

@@ -3,18 +3,16 @@ ghost use Rattle.std.specs.Prelude.{◌≡◌, ◌⊎◌, ◌≤◌, ℕ, true, 
 ghost use Rattle.std.specs.FinMap as map;
 ghost use Rattle.app_file.specs.Reading.{IsFile, IsOverLimit, IsRefusedFor};
 ghost use Rattle.comp_tree.specs.Marks.{all_parts, marks_at};
+ghost use Rattle.comp_tree.specs.SameCode.{SameCode};
 ghost use Rattle.link_prop.specs.Linked.{application_of};
 ghost use Rattle.link_prop.specs.Marks.{is_marked};
 ghost use Rattle.link_prop.specs.Marks.AppPart.{OfLinks};
 
-use crate::building::tree_built;
-use crate::limits_of_rows_are_those_told;
-use crate::ready::ready_rows;
+use crate::building::app_built;
+use crate::ready::formed_rows;
 use app_file::{AppRefusal, bytes_are_read_as_one};
-use comp_tree::what_passes_no_limit_is_whole;
 use link_prop::App;
 use sed_engine::Engine;
-use sed_value::Memory;
 use std::alloc::Global;
 
 /// The application that bytes are a text of, over an engine without live places whose statics are as they begin: its
@@ -23,8 +21,8 @@ use std::alloc::Global;
 /// `NotAnApp` comes where the bytes up to the end of the kits are no front of a file, or the kits are the code's and
 /// the rest is no file; `WrongKits` where they begin with a front of other kits, with the first place at which the two
 /// lists differ; `OverLimit` where they are a file whose application passes a limit, with the first. `Memory` may come
-/// in the place of any answer. No component is made before it is known that the rows pass no limit, which no clause
-/// says.
+/// in the place of any answer; in that of a limit only while the rows are read and it is found whether they hold
+/// together.
 pub fn read_app<E: Engine>(alloc: Global, bytes: &[u8], engine: E) -> Result<App<E>, AppRefusal>
     requires no_objects { E.live engine ≡ map.empty }
     requires statics { E.statics engine ≡ (E.meaning engine).initial_statics }
@@ -37,26 +35,16 @@ pub fn read_app<E: Engine>(alloc: Global, bytes: &[u8], engine: E) -> Result<App
     // A file that passes a limit is told so, unless reading it wanted memory.
     ensures over { (which : ℕ) → IsOverLimit (E.meaning engine) (E.limit engine) bytes.now which
         → (result ≡ Err (AppRefusal.OverLimit which)) ⊎ (result ≡ Err AppRefusal.Memory) }
-    ensures meaning { IfOk result (λ a. E.meaning a.tree.engine ≡ E.meaning engine) }
-    ensures steady { IfOk result (λ a. E.fixed a.tree.engine ≡ E.fixed engine) }
+    // The code means what it meant, it is fixed where it was, and the data limit stays.
+    ensures same { IfOk result (λ a. SameCode E.Engine engine a.tree.engine) }
     // Every part of each component is marked, for every place.
     ensures marks { IfOk result (λ a. (id at : ℕ) → marks_at a.tree id at ≡ all_parts) }
     ensures links_marked { IfOk result (λ a. (id place : ℕ) → is_marked a id place OfLinks ≡ true) }
 {
     let _told = engine.schema();
     bytes_are_read_as_one();
-    what_passes_no_limit_is_whole();
-    limits_of_rows_are_those_told();
-    let rows = match ready_rows(alloc, &engine, bytes) {
-        Ok(rows) => rows,
-        Err(refusal) => return Err(refusal),
-    };
-    let tree = match tree_built(alloc, engine, &rows) {
-        Ok(tree) => tree,
-        Err(Memory) => return Err(AppRefusal::Memory),
-    };
-    match App::build(alloc, tree, rows.file.links.as_slice()) {
-        Ok(app) => Ok(app),
-        Err(_) => Err(AppRefusal::Memory),
+    match formed_rows(alloc, &engine, bytes) {
+        Ok(rows) => app_built(alloc, engine, &rows),
+        Err(refusal) => Err(refusal),
     }
 }

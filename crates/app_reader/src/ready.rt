@@ -1,36 +1,38 @@
-//! The rows of a file that are ready to be made an application.
+//! The rows of a file that hold together.
 ghost use Rattle.std.specs.Prelude.{◌≡◌, ℕ, IfOk, IfErr};
 ghost use Rattle.sed_engine.specs.Code.{Meaning};
 ghost use Rattle.comp_tree.specs.Application.{Application};
 ghost use Rattle.app_file.specs.Reading.{IsRefusedFor, StandsFor};
 ghost use Rattle.app_front.specs.Rows.{AreRows};
 ghost use Rattle.app_reader.specs.Tells.{Tells};
-ghost use Rattle.app_reader.specs.Ready.{AreReady, application_told};
+ghost use Rattle.app_reader.specs.Ready.{HoldTogether, application_told};
 
-use crate::{
-    bytes_that_stand_are_rows, files_that_tell_are_formed, formed, formed_files_tell, limit_passed,
-    limits_of_rows_are_those_told, rows_that_tell_stand, tree_of,
+use crate::holding::{formed, tree_of};
+use crate::told_laws::{
+    bytes_that_stand_are_rows, files_that_tell_are_formed, formed_files_tell, rows_that_tell_stand,
 };
 use app_file::AppRefusal;
-use app_front::{FileRows, TreeRefusal, read_rows};
+use app_front::{FileRows, read_rows};
+use row_tree::{TreeRefusal, TreeRow};
 use sed_engine::Engine;
 use sed_value::Items;
 use std::alloc::Global;
 
-// Rows and links of a file that hold together, and the places of the children of each row.
+// Rows and links of a file that hold together, what the rows tell of the tree, and the places of the children of each.
 #[derive(Drop)]
 pub(crate) struct FormedRows {
     pub(crate) file: FileRows,
+    pub(crate) tree: Items<TreeRow>,
     pub(crate) lists: Items<Items<usize>>,
 }
 
-// The rows and links of a file which hold together and pass no limit, or why bytes are read as no application.
-pub(crate) fn ready_rows<E: Engine>(
+// The rows and links of a file which hold together, whatever limit they pass, or why bytes are no file of the code.
+pub(crate) fn formed_rows<E: Engine>(
     alloc: Global,
     engine: &E,
     bytes: &[u8],
 ) -> Result<FormedRows, AppRefusal>
-    ensures ready { IfOk result (AreReady (E.meaning engine.now) (E.limit engine.now)) }
+    ensures formed { IfOk result (HoldTogether (E.meaning engine.now) (E.limit engine.now)) }
     ensures stands { IfOk result (λ rows. StandsFor (E.meaning engine.now) (E.limit engine.now) bytes.now
         (application_told (E.meaning engine.now) (E.limit engine.now) rows)) }
     ensures refused { IfErr result (λ refusal.
@@ -40,7 +42,6 @@ pub(crate) fn ready_rows<E: Engine>(
     files_that_tell_are_formed();
     formed_files_tell();
     rows_that_tell_stand();
-    limits_of_rows_are_those_told();
     let file = match file_rows(alloc, engine, bytes) {
         Ok(file) => file,
         Err(refusal) => return Err(refusal),
@@ -54,16 +55,7 @@ pub(crate) fn ready_rows<E: Engine>(
         Err(TreeRefusal::NoTree) => return Err(AppRefusal::NotAnApp { at: bytes.len() }),
         Err(TreeRefusal::Memory) => return Err(AppRefusal::Memory),
     };
-    if let Some(which) = limit_passed(
-        engine,
-        file.rows.as_slice(),
-        tree.as_slice(),
-        lists.as_slice(),
-        file.links.as_slice(),
-    ) {
-        return Err(AppRefusal::OverLimit { which });
-    }
-    Ok(FormedRows { file, lists })
+    Ok(FormedRows { file, tree, lists })
 }
 
 // The rows and links that bytes are; they tell each application that the bytes stand for.

@@ -11,7 +11,7 @@ use std::alloc::{AllocError, Global};
 
 /// Whether each config slot of a new object gives the value that a row gives for it, once the row's values are stored
 /// in the order of the slots. The row may stand in a file of the engine's code.
-pub fn gives_its_values<E: Engine>(
+pub(crate) fn gives_its_values<E: Engine>(
     alloc: Global,
     engine: &E,
     row: &FileRow,

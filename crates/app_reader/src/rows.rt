@@ -7,7 +7,7 @@ ghost use Rattle.app_front.specs.declared.rows.FileRow.{FileRow as AnyRow};
 use app_front::FileRow;
 
 /// The greatest id of rows, 0 where there are none.
-pub fn greatest(rows: &[FileRow]) -> u16
+pub(crate) fn greatest(rows: &[FileRow]) -> u16
     ensures { result ≡ greatest_of (map (λ (r : AnyRow). r.id.0) rows.now) }
 {
     let mut greatest = 0;

@@ -15,14 +15,14 @@ use app_file::rows_tell_of_applications;
 use sed_engine::what_is_kept_fits;
 
 /// Bytes that are rows which tell an application stand for it.
-pub fn rows_that_tell_stand()
+pub(crate) fn rows_that_tell_stand()
     ensures { (m : Meaning) (limit : ℕ) (bytes : List ℕ) (f : FileRows) (a : Application)
         → AreRows m bytes f → Tells m limit f a
         → StandsFor m limit bytes a }
 {}
 
 /// Bytes that stand for an application are rows which tell it, where the schema's kits and types can be told.
-pub fn bytes_that_stand_are_rows()
+pub(crate) fn bytes_that_stand_are_rows()
     ensures { (m : Meaning) (limit : ℕ) (bytes : List ℕ) (a : Application)
         → HasTables m → CanBeTold m.schema → StandsFor m limit bytes a
         → AreToldBy m limit bytes a }
@@ -30,7 +30,7 @@ pub fn bytes_that_stand_are_rows()
 
 /// Rows and links of a whole code that hold together, with these children of each id, tell the application that they
 /// tell of.
-pub fn formed_files_tell()
+pub(crate) fn formed_files_tell()
     ensures { (m : Meaning) (limit : ℕ) (bytes : List ℕ) (f : FileRows) (children : ℕ → List ℕ)
         → IsWhole m → AreRows m bytes f → IsFormedFile m f children
         → Tells m limit f (told_application m children (rows_told f) f.links limit) }
@@ -41,7 +41,7 @@ pub fn formed_files_tell()
 
 /// Rows and links that tell an application hold together, with the application's children of each id, and they tell of
 /// it.
-pub fn files_that_tell_are_formed()
+pub(crate) fn files_that_tell_are_formed()
     ensures formed { (m : Meaning) (limit : ℕ) (bytes : List ℕ) (f : FileRows) (a : Application)
         → AreRows m bytes f → Tells m limit f a
         → IsFormedFile m f (children_of a.components.by_id) }

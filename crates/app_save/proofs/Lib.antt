@@ -6,6 +6,7 @@ mod Torn
 mod Stages
 mod Whole
 mod SlotWritten
+mod Closing
 mod PageSteps
 mod Made
 mod MadeBytes

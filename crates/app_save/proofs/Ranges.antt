@@ -36,6 +36,14 @@ then_range at n a b c told one two first second = then_during a b c (IsTorn at n
     let begun = at_end a b (IsTorn at n a) one first was.0 was.1 in
     (begun.0, begun.1, twice at n begun.0 was.0 i begun.2 was.2))
 
+-- a gate, and all that a save writes behind it
+pub of_gate : (gate : ℕ) (payload : List ℕ) (a b : Meaning) → During a b (IsTorn gate 1 a) → During a b (IsTorn gate (6 + length payload) a)
+of_gate gate payload a b = during_wider gate 1 gate (6 + length payload) a b (omega arith) (omega arith)
+
+pub gate_and_behind : (gate : ℕ) (payload : List ℕ) (a b c : Meaning) → IsTrue a.tells → Elapses a b → Elapses b c → During a b (IsTorn gate 1 a) → During b c (IsTorn (gate + 1) (5 + length payload) b) → During a c (IsTorn gate (6 + length payload) a)
+gate_and_behind gate payload a b c told one two first second = then_range gate (6 + length payload) a b c told one two (of_gate gate payload a b first)
+    (during_wider (gate + 1) (5 + length payload) gate (6 + length payload) b c (omega arith) (omega arith) second)
+
 -- bytes behind bytes
 pub holds_both : (at mid : ℕ) (a b : List ℕ) (c : Image) → mid ≡ at + length a → Holds at a c → Holds mid b c → Holds at (a ++ b) c
 holds_both at mid a b c is first second = record {

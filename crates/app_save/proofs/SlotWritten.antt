@@ -2,13 +2,14 @@
 use Rattle.std.proofs.Common.{◌≡◌, inl, inr, ◌+◌, ◌*◌, ◌%◌, ◌<◌, ◌≤◌, ◌++◌, ◌∷◌, [], ℕ, List, length, get_or, IsTrue, sym, ◌∙◌, ap, subst, arith, length-append, Result, Ok, Err, OnOk}
 use Rattle.disk_model.specs.Disk.{Image, Meaning, Elapses, During, Torn, IsTorn, Holds, Keeps, Rests}
 use Rattle.disk_model.specs.Written.{written}
-use Rattle.app_save.specs.Store.{AreSlots, IsNewest, generation_at}
+use Rattle.app_save.specs.Store.{IsOpen, AreSlots, IsNewest, generation_at}
 use Rattle.app_save.specs.Bytes.{header_bytes, slot_bytes}
-use Rattle.app_save.specs.Saving.{AllStores, SinceSync, TouchesSlot, WritesSlot, Renews}
+use Rattle.app_save.specs.Saving.{AllStores, SinceSync, TouchesSlot, WritesSlot, Renews, ClosesFirst, ClosesSlot}
 use Rattle.app_save.specs.Stages.{Stands, IsSaved, Settled}
-use Rattle.app_save.proofs.Moments.{then_since, torn_self, weaker}
+use Rattle.app_save.proofs.Moments.{then_since, torn_self, weaker, no_time}
 use Rattle.app_save.proofs.Newest.{store_stands, newest_is_one}
-use Rattle.app_save.proofs.Ranges.{holds_both, holds_still, is_written}
+use Rattle.app_save.proofs.Ranges.{holds_both, holds_still, is_written, during_none}
+use Rattle.app_save.proofs.Closing.{closes_none, none_torn, closes_later, closes_kept}
 
 -- before anything is written
 touches_none : (S : ℕ) (payload : List ℕ) (file i : Image) → i ≡ file → TouchesSlot S payload file i
@@ -16,6 +17,11 @@ touches_none S payload file i same slot other slots newest = subst (λ (c : Imag
 
 pub settled_touches : {T E : Type 0} (r : Result T E) (S : ℕ) (payload : List ℕ) (a b : Meaning) → IsTrue a.tells_syncs → Settled r a b → SinceSync a b (TouchesSlot S payload a.content)
 settled_touches r S payload a b told_syncs settled u i from to more left = touches_none S payload a.content i (settled.since told_syncs u i from to more left)
+
+pub settled_closes : {T E : Type 0} (r : Result T E) (S : ℕ) (payload : List ℕ) (a b : Meaning) → Elapses a b → Settled r a b → ClosesSlot S payload a b
+settled_closes r S payload a b time settled slot other slots newest is_open =
+    let behind = header_bytes ((generation_at a.content slot + 1) % 3) (length payload) ++ payload in
+    closes_none other behind a b time (none_torn other behind a b settled.during)
 
 -- header and payload behind the gate, and the gate
 filled_bytes : (other generation : ℕ) (payload header : List ℕ) (d c : Image) → header ≡ header_bytes generation (length payload) → other + 6 + length payload ≤ length d → ((i : ℕ) → i < length payload → get_or d (other + 6 + i) 0 ≡ get_or payload i 0) → Torn (other + 1) (length header) d c → Holds (other + 1) header c
@@ -59,6 +65,15 @@ module _ (S slot other : ℕ) (slots : AreSlots S slot other) (payload : List �
   save_touches told_syncs first = then_since a b c (TouchesSlot S payload a.content) told told_syncs one two first
       (weaker b c (λ i. Torn other (6 + length payload) a.content i) (TouchesSlot S payload a.content) touched in_range)
 
+  pub save_closes : During a b (a.leaves a.now) → (generation : ℕ) → generation ≡ (generation_at a.content slot + 1) % 3
+      → (IsOpen b.content other → ClosesFirst other (header_bytes generation (length payload) ++ payload) b c) → ClosesSlot S payload a c
+  save_closes keeps generation next closes x y xy is_newest is_open =
+      let is = newest_is_one S a.content slot other x y begun slots xy is_newest in
+      let open_b : IsOpen b.content other = subst (λ (n : ℕ). IsOpen b.content n) is.1 (subst (λ (i : Image). IsOpen i y) (sym same) is_open) in
+      subst (λ (n : ℕ). ClosesFirst n (header_bytes ((generation_at a.content x + 1) % 3) (length payload) ++ payload) a c) (sym is.1)
+      (subst (λ (n : ℕ). ClosesFirst other (header_bytes n (length payload) ++ payload) a c) (next ∙ ap (λ (n : ℕ). (generation_at a.content n + 1) % 3) (sym is.0))
+      (closes_later other (header_bytes generation (length payload) ++ payload) a b c told one two keeps (closes open_b)))
+
   room : other + (6 + length payload) ≤ length a.content
   room = let size = begun.size in elim slots [ inl is ↦ omega (arith, is.1, size, fits) | inr is ↦ omega (arith, is.1, size, fits) ]
 
@@ -90,6 +105,14 @@ module _ (S slot other : ℕ) (slots : AreSlots S slot other) (payload : List �
 -- with the mark that ends a save
 pub written_kept : (S : ℕ) (payload : List ℕ) (file : Image) (b c : Meaning) → Elapses b c → Keeps b c → WritesSlot S payload file b → WritesSlot S payload file c
 written_kept S payload file b c time keeps writes slot other slots newest i left = writes slot other slots newest i (keeps.during c.now i time.later (omega arith) left)
+
+pub closes_untouched : (S : ℕ) (payload : List ℕ) (a : Meaning) → ClosesSlot S payload a a
+closes_untouched S payload a slot other slots newest is_open =
+    closes_none other (header_bytes ((generation_at a.content slot + 1) % 3) (length payload) ++ payload) a a (no_time a) (during_none other 1 a)
+
+pub closes_acknowledged : (S : ℕ) (payload : List ℕ) (a b c : Meaning) → IsTrue a.tells → Elapses a b → Elapses b c → Keeps b c → ClosesSlot S payload a b → ClosesSlot S payload a c
+closes_acknowledged S payload a b c told one two keeps closes slot other slots newest is_open =
+    closes_kept other (header_bytes ((generation_at a.content slot + 1) % 3) (length payload) ++ payload) a b c told one two (closes slot other slots newest is_open) keeps
 
 pub renews_kept : (S : ℕ) (file : Image) (b c : Meaning) → Elapses b c → Keeps b c → Renews S file b → Renews S file c
 renews_kept S file b c time keeps renews slot other slots newest i left = renews slot other slots newest i (keeps.during c.now i time.later (omega arith) left)

@@ -1,9 +1,9 @@
 -- What a save leaves of a store, moment by moment.
-use Rattle.std.specs.Prelude.{◌≡◌, ◌⊎◌, ◌+◌, ◌*◌, ◌%◌, ◌<◌, ◌≤◌, ℕ, IsTrue, List, length, slice_index}
-use Rattle.disk_model.specs.Disk.{Image, Meaning, Torn}
+use Rattle.std.specs.Prelude.{◌≡◌, ◌⊎◌, ◌+◌, ◌*◌, ◌%◌, ◌<◌, ◌≤◌, ◌++◌, ℕ, IsTrue, List, length, slice_index}
+use Rattle.disk_model.specs.Disk.{Image, Meaning, Torn, IsTorn, Holds}
 use Rattle.disk_model.specs.Written.{written}
-use Rattle.app_save.specs.Bytes.{slot_bytes}
-use Rattle.app_save.specs.Store.{IsStore, IsNewest, AreSlots, Opens, generation_at}
+use Rattle.app_save.specs.Bytes.{header_bytes, slot_bytes}
+use Rattle.app_save.specs.Store.{IsOpen, IsStore, IsNewest, AreSlots, Opens, generation_at}
 
 -- Every image that a crash now may leave is a whole store with slots of S bytes.
 abbrev pub AllStores : ℕ → Meaning → Type 0
@@ -55,6 +55,21 @@ OfSlots S file P = (slot other : ℕ) → AreSlots S slot other → IsNewest fil
 -- as many bytes behind them as the payload has, all in the slot that isn't newest.
 abbrev pub TouchesSlot : ℕ → List ℕ → Image → Image → Type 0
 TouchesSlot S payload file image = OfSlots S file (λ slot other. Torn other (6 + length payload) file image)
+
+-- A gate is closed before anything is written behind it. Up to some moment a crash leaves what it could at the start,
+-- but for the gate; from then on the gate reads 0, until all of these bytes stand behind it.
+pub record ClosesFirst (gate : ℕ) (behind : List ℕ) (old new : Meaning) : Type 0 where
+  pub from : ℕ
+  pub later : old.now ≤ from
+  pub before : (u : ℕ) (c : Image) → old.now ≤ u → u ≤ new.now → u < from → new.leaves u c → IsTorn gate 1 old c
+  pub since : (u : ℕ) (c : Image) → from ≤ u → u ≤ new.now → new.leaves u c
+      → (slice_index c gate ≡ 0) ⊎ Holds (gate + 1) behind c
+
+-- So it is with the slot that isn't newest, where its gate is open: what is written behind it are the payload's length,
+-- the next generation and the payload.
+abbrev pub ClosesSlot : ℕ → List ℕ → Meaning → Meaning → Type 0
+ClosesSlot S payload old new = OfSlots S old.content (λ slot other. IsOpen old.content other
+    → ClosesFirst other (header_bytes ((generation_at old.content slot + 1) % 3) (length payload) ++ payload) old new)
 
 -- Every crash leaves the file with the payload in the slot that wasn't newest, behind an open gate and in the
 -- generation behind that of the newest one. All other bytes are those of the file.

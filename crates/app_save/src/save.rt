@@ -4,10 +4,10 @@ ghost use Rattle.std.specs.Prelude.{IsTrue, IsErr, IfOk, OnOk, is_ok, if◌then�
 ghost use Rattle.sed_value.specs.declared.limits.TheConstants.{LARGEST_SLOT};
 ghost use Rattle.sed_outside.specs.Cause.{HasCause};
 ghost use Rattle.disk_model.specs.Disk.{Elapses, During, MarksUp, SyncsUp, Torn, IsTorn, Holds, largest_store};
-ghost use Rattle.app_save.specs.Store.{AreSlots, generation_at};
+ghost use Rattle.app_save.specs.Store.{IsOpen, AreSlots, generation_at};
 ghost use Rattle.app_save.specs.Bytes.{header_bytes, slot_bytes};
 ghost use Rattle.app_save.specs.Saving.{AllStores, AllOpen, OpensAsBegun, SinceSync, KeepsEqualPages};
-ghost use Rattle.app_save.specs.Saving.{TouchesSlot, WritesSlot, Renews};
+ghost use Rattle.app_save.specs.Saving.{TouchesSlot, WritesSlot, Renews, ClosesFirst, ClosesSlot};
 ghost use Rattle.app_save.specs.Slots.{IsPlace, IsReady};
 ghost use Rattle.app_save.specs.Stages.{Stays, Closed, Saved, IsClosed, IsFilled, IsSaved, Lands, Settled};
 
@@ -29,6 +29,8 @@ pub fn write_save<D: Disk>(disk: &mut D, slot: u32, payload: &[u8]) -> Result<()
     ensures touches { IsTrue (D.meaning disk.old).tells → IsTrue (D.meaning disk.old).tells_syncs →
         SinceSync (D.meaning disk.old) (D.meaning disk.new)
         (TouchesSlot slot payload.now (D.meaning disk.old).content) }
+    ensures closes { IsTrue (D.meaning disk.old).tells
+        → ClosesSlot slot payload.now (D.meaning disk.old) (D.meaning disk.new) }
     ensures writes { IsTrue (D.meaning disk.old).tells
         → OnOk result (WritesSlot slot payload.now (D.meaning disk.old).content (D.meaning disk.new)) }
     ensures renews { IsTrue (D.meaning disk.old).tells
@@ -80,6 +82,9 @@ fn write_slot<D: Disk>(
         → OnOk result (IsSaved slot place.now.newest place.now.other payload.now (D.meaning disk.new)) }
     ensures touches { IsTrue (D.meaning disk.old).tells → During (D.meaning disk.old) (D.meaning disk.new)
         (IsTorn place.now.other (6 + length payload.now) (D.meaning disk.old)) }
+    ensures closes { IsTrue (D.meaning disk.old).tells → IsOpen (D.meaning disk.old).content place.now.other
+        → ClosesFirst place.now.other (header_bytes place.now.generation (length payload.now) ++ payload.now)
+        (D.meaning disk.old) (D.meaning disk.new) }
     ensures holds { IsTrue (D.meaning disk.old).tells → OnOk result (Holds place.now.other
         (slot_bytes 0xa5 place.now.generation payload.now) (D.meaning disk.new).content) }
     ensures time { Elapses (D.meaning disk.old) (D.meaning disk.new) }
@@ -110,8 +115,10 @@ fn close_gate<D: Disk>(
     ensures closed { IsTrue (D.meaning disk.old).tells
         → OnOk result (IsClosed slot place.now.newest place.now.other payload.now
         (D.meaning disk.old).content (D.meaning disk.new)) }
+    ensures zero { IsTrue (D.meaning disk.old).tells → IsOpen (D.meaning disk.old).content place.now.other
+        → OnOk result (slice_index (D.meaning disk.new).content place.now.other ≡ 0) }
     ensures touches { IsTrue (D.meaning disk.old).tells → During (D.meaning disk.old) (D.meaning disk.new)
-        (IsTorn place.now.other (6 + length payload.now) (D.meaning disk.old)) }
+        (IsTorn place.now.other 1 (D.meaning disk.old)) }
     ensures time { Elapses (D.meaning disk.old) (D.meaning disk.new) }
     ensures marks { MarksUp (D.meaning disk.old) (D.meaning disk.new) 0 }
     ensures attached { (D.meaning disk.new).attached ≡ (D.meaning disk.old).attached }
@@ -167,7 +174,7 @@ fn fill<D: Disk>(disk: &mut D, slot: u32, place: &Place, payload: &[u8]) -> Resu
         → OnOk result (IsFilled slot place.now.newest place.now.other payload.now
         (D.meaning disk.old).content (D.meaning disk.new)) }
     ensures touches { IsTrue (D.meaning disk.old).tells → During (D.meaning disk.old) (D.meaning disk.new)
-        (IsTorn place.now.other (6 + length payload.now) (D.meaning disk.old)) }
+        (IsTorn (place.now.other + 1) (5 + length payload.now) (D.meaning disk.old)) }
     ensures holds { IsTrue (D.meaning disk.old).tells → OnOk result (Holds (place.now.other + 1)
         (header_bytes place.now.generation (length payload.now) ++ payload.now) (D.meaning disk.new).content) }
     ensures time { Elapses (D.meaning disk.old) (D.meaning disk.new) }
@@ -197,7 +204,7 @@ fn open_gate<D: Disk>(
     ensures saved { IsTrue (D.meaning disk.old).tells
         → OnOk result (IsSaved slot place.now.newest place.now.other payload.now (D.meaning disk.new)) }
     ensures touches { IsTrue (D.meaning disk.old).tells → During (D.meaning disk.old) (D.meaning disk.new)
-        (IsTorn place.now.other (6 + length payload.now) (D.meaning disk.old)) }
+        (IsTorn place.now.other 1 (D.meaning disk.old)) }
     ensures gate { IsTrue (D.meaning disk.old).tells
         → OnOk result (Torn place.now.other 1 (D.meaning disk.old).content (D.meaning disk.new).content) }
     ensures holds { IsTrue (D.meaning disk.old).tells

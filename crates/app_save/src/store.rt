@@ -6,7 +6,7 @@ ghost use Rattle.sed_outside.specs.Cause.{Rose, HasCause};
 ghost use Rattle.disk_model.specs.Disk.{Elapses, During, MarksUp};
 ghost use Rattle.app_save.specs.Store.{Opens};
 ghost use Rattle.app_save.specs.Saving.{AllStores, AllOpen, OpensAsBegun, SinceSync, KeepsEqualPages};
-ghost use Rattle.app_save.specs.Saving.{TouchesSlot, WritesSlot, Renews};
+ghost use Rattle.app_save.specs.Saving.{TouchesSlot, WritesSlot, Renews, ClosesSlot};
 ghost use Rattle.app_save.specs.Run.{Saves, IsRun};
 
 use crate::load::load_newest;
@@ -78,6 +78,8 @@ impl Store {
         ensures touches { IsTrue (D.meaning disk.old).tells → IsTrue (D.meaning disk.old).tells_syncs →
             SinceSync (D.meaning disk.old) (D.meaning disk.new)
             (TouchesSlot self.old payload.now (D.meaning disk.old).content) }
+        ensures closes { IsTrue (D.meaning disk.old).tells
+            → ClosesSlot self.old payload.now (D.meaning disk.old) (D.meaning disk.new) }
         ensures writes { IsTrue (D.meaning disk.old).tells
             → OnOk result (WritesSlot self.old payload.now (D.meaning disk.old).content (D.meaning disk.new)) }
         ensures renews { IsTrue (D.meaning disk.old).tells

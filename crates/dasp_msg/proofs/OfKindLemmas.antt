@@ -43,15 +43,15 @@ authenticate_can to user digest named twenty = record {
   fits = omega (arith, name-short user named, twenty);
 }
 
-pub challenge_can : (remote_id id : ℕ) (nonce : List ℕ) → length nonce ≡ 10 → CanGo (challenge remote_id id nonce)
+pub challenge_can : (remote_id id : ℕ) (nonce : List ℕ) → length nonce ≤ 10 → CanGo (challenge remote_id id nonce)
 unfolding number_of_first text_of_first run_of_first
-challenge_can remote_id id nonce ten = record {
+challenge_can remote_id id nonce few = record {
   may = record {
     has = search rules;
     no_other = refl;
     algorithm = λ x is. subst (λ (text : List ℕ). IsTrue (is_text text)) (same_Some _ _ is) refl;
     username = λ x is. absurd (cc);
-    nonce = λ x is. (let e : nonce ≡ x = same_Some _ _ is in omega (arith, ap (length {A = ℕ}) e, ten));
+    nonce = λ x is. (let e : nonce ≡ x = same_Some _ _ is in omega (arith, ap (length {A = ℕ}) e, few));
     digest = λ x is. absurd (cc);
     sequence = λ other. refl;
     follows = refl;
@@ -75,9 +75,22 @@ welcome_can remote_id = record {
   fits = omega arith;
 }
 
-pub close_can : (remote_id code : ℕ) → CanGo (close remote_id code)
+pub close_can : (remote_id : ℕ) (code : Option ℕ) → CanGo (close remote_id code)
 unfolding number_of_first text_of_first run_of_first
-close_can remote_id code = record {
+close_can remote_id None = record {
+  may = record {
+    has = tt {0};
+    no_other = refl;
+    algorithm = λ x is. absurd (cc);
+    username = λ x is. absurd (cc);
+    nonce = λ x is. absurd (cc);
+    digest = λ x is. absurd (cc);
+    sequence = λ other. refl;
+    follows = refl;
+  };
+  fits = omega arith;
+}
+close_can remote_id (Some code) = record {
   may = record {
     has = tt {0};
     no_other = refl;

@@ -1,5 +1,5 @@
 -- What a writer has written, piece by piece.
-use Rattle.std.proofs.Common.{◌≡◌, ℕ, ◌+◌, ◌*◌, ◌%◌, ◌<◌, ◌≤◌, Option, Some, None, IsTrue, List, [], ◌∷◌, ◌++◌, length, refl, sym, subst, ◌∙◌, ap, arith, append_assoc}
+use Rattle.std.proofs.Common.{◌≡◌, ℕ, ◌+◌, ◌*◌, ◌%◌, ◌<◌, ◌≤◌, Option, Some, None, IsTrue, List, [], ◌∷◌, ◌++◌, length, take, refl, sym, subst, ◌∙◌, ap, arith, append_assoc}
 use Rattle.std.proofs.lemmas.List.{append-nil}
 use Rattle.std.specs.Option.{ForSome}
 use Rattle.sed_wire.specs.declared.writer.Writer.{Writer}
@@ -7,7 +7,7 @@ use Rattle.sed_wire.specs.Number.{SpellsNumber}
 use Rattle.sed_wire.specs.Text.{is_text}
 use Rattle.sed_wire.specs.Writing.{Appends, Writes, untouched, written}
 use Rattle.sed_wire.proofs.ReadingLemmas.{one_byte}
-use Rattle.sed_wire.proofs.WritingLemmas.{appends-none, appends-then, front-put as text-put}
+use Rattle.sed_wire.proofs.WritingLemmas.{appends-none, appends-then, front-put as text-put, puts-fit, puts-taken}
 use Rattle.dasp_msg.specs.declared.header.Header.{Header}
 use Rattle.dasp_msg.specs.declared.kind.MsgKind.{MsgKind}
 use Rattle.dasp_msg.specs.declared.kind.MsgKind.TheVariants.{Hello, Challenge, Authenticate, Welcome, KeepAlive, Datagram, Close}
@@ -15,7 +15,7 @@ use Rattle.dasp_msg.specs.Field.{Part, SpellsContent, SpellsField, SpellsFields,
 use Rattle.dasp_msg.specs.Header.{SpellsHeader}
 use Rattle.dasp_msg.specs.Kind.{number_of_kind}
 use Rattle.dasp_msg.specs.Message.{SpellsDatagram}
-use Rattle.dasp_msg.specs.Sending.{HasSent, MaySend, fields_size, number_field, run_field, sent_fields, text_field}
+use Rattle.dasp_msg.specs.Sending.{HasSent, IsSentAs, MaySend, fields_size, number_field, run_field, sent_fields, text_field}
 use Rattle.dasp_msg.specs.Shown.{Message}
 use Rattle.dasp_msg.specs.Writing.{CanBeField, CanBeFields, Puts}
 
@@ -189,3 +189,10 @@ front-put Spells thing a b count old new nothing all done counted front = record
   spelled = done.spelled;
   put = text-put done.spelling a b count old new nothing all done.appends counted front;
 }
+
+-- a text that was put at the front of a slice
+pub front-text : (message : Message) (count : ℕ) (old new : List ℕ) → Puts IsSentAs message count old new → IsSentAs message (take count new)
+front-text message count old new puts = subst (IsSentAs message) (sym (puts-taken puts.text count old new puts.put)) puts.spelled
+
+pub front-fits : (message : Message) (count : ℕ) (old new : List ℕ) → Puts IsSentAs message count old new → length new ≡ 512 → count ≤ 512
+front-fits message count old new puts of_new = omega (arith, puts-fit puts.text count old new puts.put, of_new)

@@ -32,11 +32,11 @@ challenge to id nonce = record (bare to Challenge) {
 abbrev pub welcome : ℕ → Message
 welcome to = bare to Welcome
 
--- why the session is closed; a client's close says no cause
-abbrev pub close : ℕ → ℕ → Message
-close to code = record (bare to Close) { error_code = Some code }
-
 -- ---- either's
+
+-- a node's says why the session is closed, and a client's says no cause
+abbrev pub close : ℕ → Option ℕ → Message
+close to code = record (bare to Close) { error_code = code }
 
 -- the number of the last message below the first gap, and bytes that say which came above it
 abbrev pub with_acks : ℕ → Option (List ℕ) → Message → Message

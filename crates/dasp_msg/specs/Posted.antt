@@ -7,6 +7,7 @@ use Rattle.std.specs.Option.{option_map}
 use Rattle.dasp_msg.specs.declared.outgoing.Message.{Message}
 use Rattle.dasp_msg.specs.declared.due.Due.{Due}
 use Rattle.dasp_msg.specs.declared.due.Due.TheVariants.{Nothing, Resend, Spent}
+use Rattle.dasp_msg.specs.AckMore.{first_four}
 use Rattle.dasp_msg.specs.Acks.{bit_of_bytes}
 use Rattle.dasp_msg.specs.Numbers.{wire_number, distance}
 
@@ -68,6 +69,11 @@ acknowledged_to posted more (Some count) = acknowledged_where (is_for count more
 -- an ack that stands for no count is ignored, with what is beside it
 abbrev pub after_ack : List Message → ℕ → Option (List ℕ) → List Message
 after_ack posted ack more = acknowledged_to posted more (count_of posted ack)
+
+-- what a message says of an ack and of bytes beside it, which count only with an ack
+abbrev pub after_acks : List Message → Option ℕ → Option (List ℕ) → List Message
+after_acks posted None more = posted
+after_acks posted (Some ack) more = after_ack posted ack (option_map first_four more)
 
 -- not acknowledged, and last sent at least 1 s before now
 abbrev pub is_waiting : ℤ → Message → Bool

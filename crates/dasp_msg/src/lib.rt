@@ -2,10 +2,10 @@
 //!
 //! A datagram is one message: a header, fields in any order, and of a datagram message a payload. `read_msg` gives the
 //! message that the bytes are, and refuses exactly where they are none; `write_msg` gives the one text of a message
-//! that may be sent. The laws say that bytes are one message at most, that a message that is sent has one text, and
-//! that this text is read as the message itself. `Msg::hello`, `Msg::datagram` and their like make the message of a
-//! kind with the fields that it is sent with, and each of those fits a datagram. Who has a session, and who generates
-//! messages, stands on them.
+//! that may be sent. A `Written` has room for that text. The laws say that bytes are one message at most, that what is
+//! sent has one text, and that this text is read as the message itself. `Msg::hello`, `Msg::datagram` and their like
+//! make the message of a kind with the fields that it is sent with, and each of those fits a datagram. Who has a
+//! session, and who generates messages, stands on them.
 //!
 //! Messages have indexes from 0 on, in each direction, and carry them modulo 65,536. A `Receiver` says of a number that
 //! comes in whether it is new; a `Sender` keeps what it posted until it is acknowledged. Their meaning is the list of
@@ -33,6 +33,7 @@ mod sent;
 mod user_name;
 mod window_laws;
 mod writing;
+mod written;
 
 pub use ack_more::ack_more_bytes;
 pub use due::Due;
@@ -51,3 +52,4 @@ pub use window_laws::{
     numbers_stand_for_indexes, taken_lists_stay_so, what_was_taken_stays,
 };
 pub use writing::write_msg;
+pub use written::Written;

@@ -102,13 +102,13 @@ impl<'a> Msg<'a> {
         }
     }
 
-    /// Ends the session, as a node does, and says why. A client's close says no cause.
-    pub fn close(to: u16, code: u16) -> Msg<'a>
+    /// Ends the session. A node says why, and a client says no cause.
+    pub fn close(to: u16, code: Option<u16>) -> Msg<'a>
         ensures says { message_of result ≡ of_kind.close to code }
         ensures can { CanGo (message_of result) }
     {
         Msg {
-            error_code: Some(code),
+            error_code: code,
             ..plain(to, MsgKind::Close)
         }
     }

@@ -1,12 +1,15 @@
 //! The sending side of a session: messages until they are acknowledged.
 ghost use Rattle.std.specs.Prelude.{◌≡◌, ℕ, ◌+◌, ◌<◌, ◌≤◌, List, [], length, Some, IfOk, IsTrue, nat_lt, count_by};
 ghost use Rattle.dasp_msg.specs.Numbers.{wire_number};
-ghost use Rattle.dasp_msg.specs.Posted.{has_room, after_push, after_ack, after_resend, bytes_at};
+ghost use Rattle.dasp_msg.specs.Posted.{has_room, after_push, after_ack, after_acks, after_resend, bytes_at};
 ghost use Rattle.dasp_msg.specs.Posted.{is_due, due_from, due_of};
 ghost use Rattle.dasp_msg.specs.Outgoing.{has_message, SendsLike};
+ghost use Rattle.dasp_msg.specs.View.{message_of};
 
+use crate::ack_more::four_of;
 use crate::due::{Due, due_among};
 use crate::kept::{forget, mark};
+use crate::message::Msg;
 use crate::outgoing::{Message, WINDOW, send_again};
 use sed_value::{InPlace, Memory};
 use std::alloc::Global;
@@ -90,6 +93,18 @@ impl Sender {
             mark(&mut self.messages, count, more);
             let gone = forget(&mut self.messages);
             self.first = self.first.wrapping_add(gone);
+        }
+    }
+
+    /// Hears what a message of the other end acknowledges. A message without an ack changes nothing, and of the bytes
+    /// beside an ack the first four count, where those that are missing are 0.
+    pub fn heard(&mut self, msg: &Msg)
+        ensures { let message = message_of msg.now in (posted : List Message) → SendsLike self.old posted
+            → SendsLike self.new (after_acks posted message.ack message.ack_more) }
+    {
+        match msg.ack {
+            Some(ack) => self.acked(ack, four_of(msg.ack_more)),
+            None => {}
         }
     }
 

@@ -5,7 +5,7 @@ use Rattle.std.proofs.lemmas.Bool.{cond-true, cond-false, and_from}
 use Rattle.dasp_session.specs.declared.user.User.{User}
 use Rattle.dasp_msg.specs.declared.outgoing.Message.{Message as Posted}
 use Rattle.dasp_msg.specs.declared.receiver.Taken.{Taken}
-use Rattle.dasp_msg.specs.Posted.{has_room}
+use Rattle.dasp_msg.specs.Posted.{has_room, after_acks}
 use Rattle.dasp_msg.specs.Receiving.{GapBits, ReceivesLike}
 use Rattle.dasp_msg.specs.Outgoing.{Window, SendsLike}
 use Rattle.dasp_msg.specs.TakenIndexes.{taken_as}
@@ -15,7 +15,7 @@ use Rattle.dasp_session.specs.declared.handed.Effect.{Effect as Told}
 use Rattle.dasp_session.specs.declared.place.Place.{Place}
 use Rattle.dasp_session.specs.Closing.{not_known, timed_out}
 use Rattle.dasp_session.specs.Doing.{Does, IsEffect}
-use Rattle.dasp_session.specs.Hearing.{Step, nothing, silent, ends, hears, after_acks, is_proof, is_authenticated, refused, authenticated, taken_in, delivered, answered, in_session}
+use Rattle.dasp_session.specs.Hearing.{Step, nothing, silent, ends, hears, is_proof, is_authenticated, refused, authenticated, taken_in, delivered, answered, in_session}
 use Rattle.dasp_session.specs.Keeping.{seen, Like}
 use Rattle.dasp_msg.specs.Acks.{ack_of}
 use Rattle.dasp_msg.specs.declared.kind.MsgKind.TheVariants.{KeepAlive, Datagram}
@@ -95,10 +95,10 @@ pub user-same : (place : Place) (session : Session) → Like place session → i
 user-same place session like = ap is_authenticated like.same
 
 pub refused-on : (place : Place) (session : Session) → Like place session → is_some place.user ≡ true → refused session ≡ silent session
-refused-on place session like some = cond-true (is_authenticated session) (silent session) (ends (close session.remote_id not_known ∷ [])) (user-same place session like ∙ some)
+refused-on place session like some = cond-true (is_authenticated session) (silent session) (ends (close session.remote_id (Some not_known) ∷ [])) (user-same place session like ∙ some)
 
-pub refused-ends : (place : Place) (session : Session) → Like place session → is_some place.user ≡ false → refused session ≡ ends (close session.remote_id not_known ∷ [])
-refused-ends place session like none = cond-false (is_authenticated session) (silent session) (ends (close session.remote_id not_known ∷ [])) (user-same place session like ∙ none)
+pub refused-ends : (place : Place) (session : Session) → Like place session → is_some place.user ≡ false → refused session ≡ ends (close session.remote_id (Some not_known) ∷ [])
+refused-ends place session like none = cond-false (is_authenticated session) (silent session) (ends (close session.remote_id (Some not_known) ∷ [])) (user-same place session like ∙ none)
 
 -- A DATAGRAM MESSAGE
 
@@ -128,18 +128,18 @@ effect-kind users moment message session kind payload told is effect =
 
 -- A TICK
 
-pub ticked-over : (moment : ℤ) (session : Session) → is_over moment session ≡ true → ticked moment session ≡ ends (close session.remote_id timed_out ∷ [])
-ticked-over moment session over = cond-true (is_over moment session) (ends (close session.remote_id timed_out ∷ [])) (sent_all moment session) over
+pub ticked-over : (moment : ℤ) (session : Session) → is_over moment session ≡ true → ticked moment session ≡ ends (close session.remote_id (Some timed_out) ∷ [])
+ticked-over moment session over = cond-true (is_over moment session) (ends (close session.remote_id (Some timed_out) ∷ [])) (sent_all moment session) over
 
 pub ticked-on : (moment : ℤ) (session : Session) → is_over moment session ≡ false → ticked moment session ≡ sent_all moment session
-ticked-on moment session on = cond-false (is_over moment session) (ends (close session.remote_id timed_out ∷ [])) (sent_all moment session) on
+ticked-on moment session on = cond-false (is_over moment session) (ends (close session.remote_id (Some timed_out) ∷ [])) (sent_all moment session) on
 
 -- a session ends by a close
 pub does-close : (place now : Place) (session : Session) (step : Step) (code : ℕ) (old new : List Text) → Like place session → now.live ≡ false
-    → step ≡ ends (close session.remote_id code ∷ []) → Sends (record { to = place.address; message = close place.remote_id code } ∷ []) old new → Does session step now old new
+    → step ≡ ends (close session.remote_id (Some code) ∷ []) → Sends (record { to = place.address; message = close place.remote_id (Some code) } ∷ []) old new → Does session step now old new
 does-close place now session step code old new like gone is sends =
     subst (λ (s : Step). Does session s now old new) (sym is)
-    (record { holds = gone; sent = sends-here place session (λ remote_id. close remote_id code) old new like sends })
+    (record { holds = gone; sent = sends-here place session (λ remote_id. close remote_id (Some code)) old new like sends })
 
 -- A DATAGRAM MESSAGE THAT IS SENT
 

@@ -8,3 +8,4 @@ pub mod KeepLemmas
 pub mod OutboxLemmas
 pub mod PlaceLemmas
 pub mod StandLemmas
+pub mod SpeakLemmas

@@ -1,10 +1,7 @@
 -- Letters that were put into an outbox one behind the other.
 use Rattle.std.proofs.Common.{◌≡◌, ℕ, ◌+◌, ◌<◌, ◌≤◌, List, [], ◌∷◌, ◌++◌, length, take, set, sym, ◌∙◌, ap, subst, arith, append_assoc}
 use Rattle.std.proofs.lemmas.List.{append-nil, length-take, take_more_set}
-use Rattle.sed_wire.proofs.WritingLemmas.{puts-fit, puts-taken}
 use Rattle.dasp_msg.specs.Sending.{IsSentAs}
-use Rattle.dasp_msg.specs.Shown.{Message}
-use Rattle.dasp_msg.specs.Writing.{Puts}
 use Rattle.dasp_session.specs.Letters.{Letter}
 use Rattle.dasp_session.specs.Outbox.{Datagram, AreTexts, Sends}
 
@@ -36,10 +33,3 @@ room-left kept len all few room = omega (arith, length-take len kept)
 
 pub Sends-one : (letter : Letter) (text : Datagram) (old new : List Datagram) → text.to ≡ letter.to → IsSentAs letter.message text.bytes → new ≡ old ++ text ∷ [] → Sends (letter ∷ []) old new
 Sends-one letter text old new to bytes behind = record { texts = text ∷ []; written = (to, bytes, tt); behind = behind }
-
--- a text that was put at the front of a slice
-pub front-text : (message : Message) (count : ℕ) (old new : List ℕ) → Puts IsSentAs message count old new → IsSentAs message (take count new)
-front-text message count old new puts = subst (IsSentAs message) (sym (puts-taken puts.text count old new puts.put)) puts.spelled
-
-pub front-fits : (message : Message) (count : ℕ) (old new : List ℕ) → Puts IsSentAs message count old new → length new ≡ 512 → count ≤ 512
-front-fits message count old new puts of_new = omega (arith, puts-fit puts.text count old new puts.put, of_new)

@@ -48,7 +48,7 @@ keeps-authenticated users message session =
     let P : Step → Type 0 = λ step. KeepsId session step.session in
     cond_both (is_proof users session.nonce message.username message.digest) _ _ P
     (λ e. refl)
-    (λ e. cond_both (is_authenticated session) (silent session) (ends (close session.remote_id not_known ∷ [])) P (λ f. refl) (λ f. tt))
+    (λ e. cond_both (is_authenticated session) (silent session) (ends (close session.remote_id (Some not_known) ∷ [])) P (λ f. refl) (λ f. tt))
 
 keeps-taken : (taken : Taken) (message : Message) (session : Session) → KeepsId session (taken_in taken message session).session
 keeps-taken New message session = refl
@@ -75,7 +75,7 @@ keeps-in_session users moment message session = keeps-answered message.kind user
 
 pub keeps-ticked : (moment : ℤ) (session : Session) → KeepsId session (ticked moment session).session
 keeps-ticked moment session =
-    cond_both (is_over moment session) (ends (close session.remote_id timed_out ∷ [])) (sent_all moment session) (λ step. KeepsId session step.session) (λ e. tt) (λ e. refl)
+    cond_both (is_over moment session) (ends (close session.remote_id (Some timed_out) ∷ [])) (sent_all moment session) (λ step. KeepsId session step.session) (λ e. tt) (λ e. refl)
 
 pub keeps-kept_up : (session : Session) → KeepsId session (kept_up session).session
 keeps-kept_up session = cond_both session.owed _ (silent session) (λ step. KeepsId session step.session) (λ e. refl) (λ e. refl)
@@ -182,10 +182,10 @@ pub ended-ticked : (k : ℕ) (moment : ℤ) (session : Session) → is_ended (ha
 ended-ticked k moment session =
     elim (cases_Bool (is_over moment session)) [
       | inl over ↦
-          ap (λ (step : Step). is_ended (handed_at k step.effect)) (cond-true (is_over moment session) (ends (close session.remote_id timed_out ∷ [])) (sent_all moment session) over)
+          ap (λ (step : Step). is_ended (handed_at k step.effect)) (cond-true (is_over moment session) (ends (close session.remote_id (Some timed_out) ∷ [])) (sent_all moment session) over)
           ∙ sym over
       | inr on ↦
-          ap (λ (step : Step). is_ended (handed_at k step.effect)) (cond-false (is_over moment session) (ends (close session.remote_id timed_out ∷ [])) (sent_all moment session) on)
+          ap (λ (step : Step). is_ended (handed_at k step.effect)) (cond-false (is_over moment session) (ends (close session.remote_id (Some timed_out) ∷ [])) (sent_all moment session) on)
           ∙ sym on
     ]
 

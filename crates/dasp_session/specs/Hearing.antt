@@ -1,16 +1,14 @@
 -- What a message does in its session.
 use Rattle.std.specs.Prelude.{ℕ, ℤ, Bool, true, false, ◌&&◌, ◌||◌, nat_eq, is_some, Option, Some, None, List, [], ◌∷◌}
 use Rattle.std.specs.Prelude.{if◌then◌else◌}
-use Rattle.std.specs.Option.{option_map, option_map_or}
+use Rattle.std.specs.Option.{option_map_or}
 use Rattle.std.specs.Cmp.Lexicographic.{pointwise}
 use Rattle.dasp_session.specs.declared.user.User.{User}
 use Rattle.dasp_session.specs.Digest.{digest_of}
 use Rattle.dasp_session.specs.UsersFile.{credential_of}
-use Rattle.dasp_msg.specs.AckMore.{first_four}
-use Rattle.dasp_msg.specs.declared.outgoing.Message.{Message as Posted}
 use Rattle.dasp_msg.specs.declared.receiver.Taken.{Taken}
 use Rattle.dasp_msg.specs.declared.receiver.Taken.TheVariants.{New, Repeat, Outside}
-use Rattle.dasp_msg.specs.Posted.{has_room, after_ack}
+use Rattle.dasp_msg.specs.Posted.{has_room, after_acks}
 use Rattle.dasp_msg.specs.TakenIndexes.{taken_as, after_take}
 use Rattle.dasp_msg.specs.declared.kind.MsgKind.{MsgKind}
 use Rattle.dasp_msg.specs.declared.kind.MsgKind.TheVariants.{Hello, Challenge, Authenticate, Welcome, KeepAlive}
@@ -40,11 +38,6 @@ silent session = record { session = Some session; says = []; effect = nothing }
 abbrev pub ends : List Message → Step
 ends says = record { session = None; says = says; effect = ended }
 
--- bytes beside an ack count only with it
-abbrev pub after_acks : List Posted → Option ℕ → Option (List ℕ) → List Posted
-after_acks posted None more = posted
-after_acks posted (Some ack) more = after_ack posted ack (option_map first_four more)
-
 -- each message of a session renews the hearing, and its ack counts before anything else is looked at
 abbrev pub hears : ℤ → Message → Session → Session
 hears moment message session = record session {
@@ -64,7 +57,8 @@ is_authenticated session = is_some session.user
 
 -- an authenticated session goes on without an answer, and another one ends
 abbrev pub refused : Session → Step
-refused session = if is_authenticated session then silent session else ends (close session.remote_id not_known ∷ [])
+refused session =
+    if is_authenticated session then silent session else ends (close session.remote_id (Some not_known) ∷ [])
 
 abbrev pub authenticated : List User → Message → Session → Step
 authenticated users message session =

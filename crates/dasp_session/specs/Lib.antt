@@ -15,5 +15,6 @@ pub mod Looking
 pub mod Outbox
 pub mod Receive
 pub mod Session
+pub mod Speaking
 pub mod Standing
 pub mod Ticking

@@ -77,7 +77,7 @@ challenge_of session = challenge session.remote_id session.id session.nonce
 
 -- in the least free place, if there is one
 abbrev pub made_at : State → Addr → ℕ → Option ℕ → Outcome
-made_at state from remote_id None = answers state from (close remote_id too_many)
+made_at state from remote_id None = answers state from (close remote_id (Some too_many))
 made_at state from remote_id (Some place) = record {
   state = record state {
     made = state.made + 1;
@@ -91,7 +91,7 @@ made_at state from remote_id (Some place) = record {
 abbrev pub challenged : State → Addr → ℕ → Option Found → Outcome
 challenged state from remote_id (Some found) = answers state from (challenge_of found.session)
 challenged state from remote_id None =
-    if state.made == 4294967295 then answers state from (close remote_id too_many)
+    if state.made == 4294967295 then answers state from (close remote_id (Some too_many))
     else made_at state from remote_id (free_from 0 state.sessions)
 
 -- SHA-1 is meant where no algorithm is named
@@ -101,8 +101,8 @@ is_sha_1 algorithm = option_map_or (λ name. pointwise nat_eq name (codes "SHA-1
 -- the tests of a hello, in their order
 abbrev pub greeted : State → Addr → ℕ → ℕ → Option (List ℕ) → Outcome
 greeted state from version remote_id algorithm =
-    if not (version == 0x0100) then answers state from (close remote_id other_version)
-    else (if not (is_sha_1 algorithm) then answers state from (close remote_id other_digest)
+    if not (version == 0x0100) then answers state from (close remote_id (Some other_version))
+    else (if not (is_sha_1 algorithm) then answers state from (close remote_id (Some other_digest))
     else challenged state from remote_id (found_from (is_waiting_for from remote_id) 0 state.sessions))
 
 -- no hello is without a version and a remote id

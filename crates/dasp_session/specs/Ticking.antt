@@ -46,7 +46,7 @@ sent_all moment session = record {
 
 abbrev pub ticked : ℤ → Session → Step
 ticked moment session =
-    if is_over moment session then ends (close session.remote_id timed_out ∷ []) else sent_all moment session
+    if is_over moment session then ends (close session.remote_id (Some timed_out) ∷ []) else sent_all moment session
 
 abbrev pub posted_in : ℤ → List ℕ → Session → Step
 posted_in moment bytes session = record {

@@ -40,8 +40,8 @@ pub fn digest(credential: &[u8; 20], nonce: &[u8; 10]) -> [u8; 20]
     hasher.finalize()
 }
 
-/// Whether a digest that was shown is the one that is wanted. One of another length is not; else all bytes are looked
-/// at, so that the time that it takes says nothing of where they differ.
+/// Whether a digest that was shown is the one that is wanted. One of another length is not; else the loop goes over all
+/// bytes, wherever they differ. No clause says how long it takes.
 pub fn is_same_digest(wanted: &[u8; 20], shown: &[u8]) -> bool
     ensures { IsTrue result ↔ (wanted.now ≡ shown.now) }
 {

@@ -1,10 +1,6 @@
 //! What a message does in its session.
 ghost use Rattle.std.specs.Prelude.{◌≡◌, ℕ, ◌+◌, ◌<◌, ◌≤◌, true, false, Some, List, [], length, MatchOption};
-ghost use Rattle.std.specs.Option.{option_map};
-ghost use Rattle.dasp_msg.specs.AckMore.{first_four};
 ghost use Rattle.dasp_msg.specs.View.{message_of};
-ghost use Rattle.dasp_msg.specs.declared.outgoing.Message.{Message as Posted};
-ghost use Rattle.dasp_msg.specs.Outgoing.{SendsLike};
 ghost use Rattle.dasp_session.specs.Session.{Session};
 ghost use Rattle.dasp_session.specs.Hearing as hearing;
 ghost use Rattle.dasp_session.specs.Keeping.{Like};
@@ -15,7 +11,7 @@ use crate::handed::Effect;
 use crate::outbox::Outbox;
 use crate::place::Place;
 use crate::{Users, digest, is_same_digest};
-use dasp_msg::{LONGEST_USER, Msg, MsgKind, Sender, Taken, ack_more_bytes};
+use dasp_msg::{LONGEST_USER, Msg, MsgKind, Taken};
 use sed_value::InPlace;
 
 // The error code of a user that is not known, or did not show that it is the one.
@@ -49,33 +45,14 @@ pub(crate) fn hear(
     }
 }
 
-// Renews the hearing and applies the ack, whatever the message is.
+// Renews the hearing and hears the ack, whatever the message is.
 fn note(place: &mut Place, moment: i64, msg: &Msg)
     ensures live { place.new.live ≡ place.old.live }
     ensures like { (session : Session) → Like place.old session
         → Like place.new (hearing.hears moment (message_of msg.now) session) }
 {
     place.heard = moment;
-    apply_ack(&mut place.sender, msg.ack, msg.ack_more);
-}
-
-fn apply_ack(sender: &mut Sender, ack: Option<u16>, more: Option<&[u8]>)
-    ensures { (posted : List Posted) → SendsLike sender.old posted
-        → SendsLike sender.new (hearing.after_acks posted ack (option_map (λ bytes. bytes.now) more.entry)) }
-{
-    match ack {
-        Some(ack) => sender.acked(ack, four_of(more)),
-        None => {}
-    }
-}
-
-fn four_of(more: Option<&[u8]>) -> Option<[u8; 4]>
-    ensures { result ≡ option_map first_four (option_map (λ bytes. bytes.now) more.entry) }
-{
-    match more {
-        Some(bytes) => Some(ack_more_bytes(bytes)),
-        None => None,
-    }
+    place.sender.heard(msg);
 }
 
 fn authenticate(place: &mut Place, users: &Users, msg: &Msg, out: &mut Outbox) -> Effect
@@ -113,7 +90,7 @@ fn refuse(place: &mut Place, out: &mut Outbox) -> Effect
         return Effect::Nothing;
     }
     place.live = false;
-    out.send(place.address, &Msg::close(place.remote_id, NOT_KNOWN));
+    out.send(place.address, &Msg::close(place.remote_id, Some(NOT_KNOWN)));
     Effect::Ended
 }
 

@@ -30,7 +30,9 @@ mod users;
 
 pub use handed::Handed;
 pub use hashes::{credential, digest, is_same_digest, nonce};
-pub use laws::{strangers_change_nothing, what_is_malformed_changes_nothing};
+pub use laws::{
+    ids_differ, letters_can_go, strangers_change_nothing, what_is_malformed_changes_nothing,
+};
 pub use outbox::{MOST_DATAGRAMS, Outbox};
 pub use refusal::UsersRefusal;
 pub use sessions::Sessions;

@@ -5,10 +5,9 @@ ghost use Rattle.dasp_msg.specs.View.{message_of};
 ghost use Rattle.dasp_msg.specs.Sending.{CanGo};
 ghost use Rattle.dasp_session.specs.Outbox.{Datagram as Text, Sends};
 
-use dasp_msg::{Msg, write_msg};
+use dasp_msg::{Msg, Written};
 use sed_outside::Addr;
 use sed_value::Memory;
-use sed_value::limits::LONGEST_DATAGRAM;
 use std::alloc::Global;
 use std::marker::Model;
 
@@ -18,7 +17,7 @@ pub const MOST_DATAGRAMS: usize = 512;
 /// Datagrams in the order in which they are to be sent. Contracts see their list, each with its address and bytes.
 #[derive(Drop)]
 pub struct Outbox {
-    datagrams: Vec<Written>,
+    datagrams: Vec<Outgoing>,
     len: usize,
 }
 
@@ -40,7 +39,7 @@ impl Outbox {
     {
         let mut datagrams = Vec::with_capacity(alloc, MOST_DATAGRAMS)?;
         for _ in 0..MOST_DATAGRAMS {
-            datagrams.push_reserved(Written::empty());
+            datagrams.push_reserved(Outgoing::empty());
         }
         Ok(Outbox { datagrams, len: 0 })
     }
@@ -88,34 +87,29 @@ impl Outbox {
     }
 }
 
-// A datagram. It keeps room for the longest one.
+// A datagram, and where it is sent.
 #[derive(Drop)]
-struct Written {
+struct Outgoing {
     to: Addr,
-    bytes: [u8; LONGEST_DATAGRAM],
-    len: usize,
+    text: Written,
 }
 
-impl Model for Written {
-    ghost use Rattle.std.specs.Prelude.{◌≤◌, take};
+impl Model for Outgoing {
     ghost use Rattle.dasp_session.specs.Outbox.{Datagram};
 
     ghost Value = { Datagram };
 
-    ghost view = { λ kept. record { to = kept.to; bytes = take kept.len kept.bytes } };
-
-    ghost invariant = { λ kept. kept.len ≤ 512 };
+    ghost view = { λ kept. record { to = kept.to; bytes = kept.text } };
 }
 
-impl Written {
-    fn empty() -> Written {
-        Written {
+impl Outgoing {
+    fn empty() -> Outgoing {
+        Outgoing {
             to: Addr {
                 ip: [0; 4],
                 port: 0,
             },
-            bytes: [0; LONGEST_DATAGRAM],
-            len: 0,
+            text: Written::empty(),
         }
     }
 
@@ -123,7 +117,7 @@ impl Written {
         ensures is { self.now ≡ record { to = result.0; bytes = result.1.now } }
         ensures short { length result.1.now ≤ 512 }
     {
-        (self.to, &self.bytes[..self.len])
+        (self.to, self.text.as_bytes())
     }
 
     fn write(&mut self, to: Addr, msg: &Msg)
@@ -132,6 +126,6 @@ impl Written {
         ensures bytes { IsSentAs (message_of msg.now) self.new.bytes }
     {
         self.to = to;
-        self.len = write_msg(msg, &mut self.bytes);
+        self.text.write(msg);
     }
 }

@@ -133,11 +133,11 @@ impl Sessions {
             _ => return,
         };
         if version != VERSION {
-            out.send(from, &Msg::close(remote_id, OTHER_VERSION));
+            out.send(from, &Msg::close(remote_id, Some(OTHER_VERSION)));
             return;
         }
         if !is_sha_1(msg.algorithm) {
-            out.send(from, &Msg::close(remote_id, OTHER_DIGEST));
+            out.send(from, &Msg::close(remote_id, Some(OTHER_DIGEST)));
             return;
         }
         self.wait_or_make(from, remote_id, out);
@@ -168,7 +168,7 @@ impl Sessions {
         ensures one { length out.new ≡ length out.old + 1 }
     {
         if self.made == u32::MAX {
-            out.send(from, &Msg::close(remote_id, TOO_MANY));
+            out.send(from, &Msg::close(remote_id, Some(TOO_MANY)));
             return;
         }
         match free_place(&self.places) {
@@ -184,7 +184,7 @@ impl Sessions {
                 self.places[place].begin(&start);
                 out.send(from, &Msg::challenge(remote_id, start.id, &start.nonce));
             }
-            None => out.send(from, &Msg::close(remote_id, TOO_MANY)),
+            None => out.send(from, &Msg::close(remote_id, Some(TOO_MANY))),
         }
     }
 

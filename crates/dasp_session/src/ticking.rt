@@ -37,7 +37,7 @@ pub(crate) fn tick(place: &mut Place, moment: i64, out: &mut Outbox) -> bool
 {
     if is_over(place, moment) {
         place.live = false;
-        out.send(place.address, &Msg::close(place.remote_id, TIMED_OUT));
+        out.send(place.address, &Msg::close(place.remote_id, Some(TIMED_OUT)));
         return false;
     }
     send_all_due(place, moment, out);

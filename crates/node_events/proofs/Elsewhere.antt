@@ -106,18 +106,18 @@ module _ (state : State) (from : Addr) where
   challenged_fine : (remote_id : ℕ) (o : Option Found) → Fine (challenged state from remote_id o)
   challenged_fine remote_id (Some found) = calm
   challenged_fine remote_id None =
-      either (state.made == 4294967295) (answers state from (close remote_id too_many)) (made_at state from remote_id (free_from 0 state.sessions))
+      either (state.made == 4294967295) (answers state from (close remote_id (Some too_many))) (made_at state from remote_id (free_from 0 state.sessions))
       calm (made_fine remote_id (free_from 0 state.sessions) refl)
 
   hello_fine : (version remote_id : Option ℕ) (algorithm : Option (List ℕ)) → Fine (hello state from version remote_id algorithm)
   hello_fine None remote_id algorithm = calm
   hello_fine (Some version) None algorithm = calm
   hello_fine (Some version) (Some remote_id) algorithm =
-      either (not (version == 0x0100)) (answers state from (close remote_id other_version))
-      (if not (is_sha_1 algorithm) then answers state from (close remote_id other_digest)
+      either (not (version == 0x0100)) (answers state from (close remote_id (Some other_version)))
+      (if not (is_sha_1 algorithm) then answers state from (close remote_id (Some other_digest))
       else challenged state from remote_id (found_from (is_waiting_for from remote_id) 0 state.sessions))
       calm
-      (either (not (is_sha_1 algorithm)) (answers state from (close remote_id other_digest))
+      (either (not (is_sha_1 algorithm)) (answers state from (close remote_id (Some other_digest)))
       (challenged state from remote_id (found_from (is_waiting_for from remote_id) 0 state.sessions)) calm
       (challenged_fine remote_id (found_from (is_waiting_for from remote_id) 0 state.sessions)))
 

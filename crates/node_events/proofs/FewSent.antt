@@ -82,7 +82,7 @@ module _ (x : Session) (few : open_count x.posted ≤ 31) where
   refused_heeds : Heeds (refused x)
   refused_heeds = by_test (is_authenticated x)
     where
-      by_test : (b : Bool) → Heeds (if b then silent x else ends (close x.remote_id 0xe4 ∷ []))
+      by_test : (b : Bool) → Heeds (if b then silent x else ends (close x.remote_id (Some 0xe4) ∷ []))
       by_test true = silent_heeds
       by_test false = record { few = tt {0}; says = omega arith; delivers = tt {0} }
 
@@ -147,7 +147,7 @@ module _ (state : State) (keeps : KeepsWindows state) (from : Addr) where
   either false x y one other = other
 
   made_leaves : (remote_id : ℕ) (o : Option ℕ) → Leaves (made_at state from remote_id o)
-  made_leaves remote_id None = answer_leaves (close remote_id too_many)
+  made_leaves remote_id None = answer_leaves (close remote_id (Some too_many))
   made_leaves remote_id (Some place) = record { keeps = after; says = omega arith; payload = tt {0} }
     where
       put_few : (xs : Sessions) (k : ℕ) → IsFew (get_or xs k None) → IsFew (get_or (set xs k (Some (new_session state from remote_id place))) k None)
@@ -166,19 +166,19 @@ module _ (state : State) (keeps : KeepsWindows state) (from : Addr) where
   challenged_leaves : (remote_id : ℕ) (o : Option Found) → Leaves (challenged state from remote_id o)
   challenged_leaves remote_id (Some found) = answer_leaves _
   challenged_leaves remote_id None =
-      either (state.made == 4294967295) (answers state from (close remote_id too_many)) (made_at state from remote_id (free_from 0 state.sessions))
-      (answer_leaves (close remote_id too_many)) (made_leaves remote_id (free_from 0 state.sessions))
+      either (state.made == 4294967295) (answers state from (close remote_id (Some too_many))) (made_at state from remote_id (free_from 0 state.sessions))
+      (answer_leaves (close remote_id (Some too_many))) (made_leaves remote_id (free_from 0 state.sessions))
 
   hello_leaves : (version remote_id : Option ℕ) (algorithm : Option (List ℕ)) → Leaves (hello state from version remote_id algorithm)
   hello_leaves None remote_id algorithm = silent_leaves
   hello_leaves (Some version) None algorithm = silent_leaves
   hello_leaves (Some version) (Some remote_id) algorithm =
-      either (not (version == 0x0100)) (answers state from (close remote_id other_version))
-      (if not (is_sha_1 algorithm) then answers state from (close remote_id other_digest)
+      either (not (version == 0x0100)) (answers state from (close remote_id (Some other_version)))
+      (if not (is_sha_1 algorithm) then answers state from (close remote_id (Some other_digest))
       else challenged state from remote_id (found_from (is_waiting_for from remote_id) 0 state.sessions))
-      (answer_leaves (close remote_id other_version))
-      (either (not (is_sha_1 algorithm)) (answers state from (close remote_id other_digest))
-      (challenged state from remote_id (found_from (is_waiting_for from remote_id) 0 state.sessions)) (answer_leaves (close remote_id other_digest))
+      (answer_leaves (close remote_id (Some other_version)))
+      (either (not (is_sha_1 algorithm)) (answers state from (close remote_id (Some other_digest)))
+      (challenged state from remote_id (found_from (is_waiting_for from remote_id) 0 state.sessions)) (answer_leaves (close remote_id (Some other_digest)))
       (challenged_leaves remote_id (found_from (is_waiting_for from remote_id) 0 state.sessions)))
 
   step_payload : (place : ℕ) (x : Session) (o : Option Session) (effect : Effect) (says : List Message) → session_at state place ≡ Some x → Delivers o effect says
@@ -320,8 +320,8 @@ module _ (place base : ℕ) where
       owed_none true true is = absurd (let no : false ≡ true = is in cc)
       owed_none false b is = absurd (let no : false ≡ true = is in cc)
 
-      by_test : (b : Bool) → Bound (if b then ends (close x.remote_id 0xe5 ∷ []) else sent_all moment x).session base
-          (base + length (if b then ends (close x.remote_id 0xe5 ∷ []) else sent_all moment x).says)
+      by_test : (b : Bool) → Bound (if b then ends (close x.remote_id (Some 0xe5) ∷ []) else sent_all moment x).session base
+          (base + length (if b then ends (close x.remote_id (Some 0xe5) ∷ []) else sent_all moment x).says)
       by_test true = omega arith
       by_test false = (
         let same = again in let few_sent = sent in let most = few in omega arith,

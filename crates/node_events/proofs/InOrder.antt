@@ -1,10 +1,11 @@
 -- All parts of all live components, in their order, and what a tick does with one after another.
 use Rattle.std.proofs.Common.{◌≡◌, ◌<◌, ◌≤◌, ◌+◌, ◌*◌, ℕ, Bool, true, false, List, [], ◌∷◌, ◌++◌, map, refl, sym, ◌∙◌, ap, arith}
-use Rattle.std.specs.Prelude.{◌==◌, ◌&&◌, ◌||◌, nat_lt, T, Some, if◌then◌else◌}
+use Rattle.std.specs.Prelude.{◌==◌, ◌&&◌, ◌||◌, nat_lt, T, Option, None, Some, if◌then◌else◌}
 use Rattle.std.specs.FinMap as finite
 use Rattle.std.specs.FinMap.{is_sorted}
 use Rattle.std.specs.FinMap.Entries.{below_all}
 use Rattle.std.specs.List.{flat_map, fold, list_all, list_any}
+use Rattle.std.specs.Option.{option_map_or}
 use Rattle.std.specs.Ordering.{eq_by_cmp, is_lt, nat_cmp}
 use Rattle.std.proofs.lemmas.Bool.Decides.{nat_tests}
 use Rattle.sed_engine.specs.Code.{Meaning}
@@ -16,9 +17,10 @@ use Rattle.sub_table.specs.declared.part.Part.{Part}
 use Rattle.sub_table.specs.declared.part.Part.TheVariants.{Tree, Config, Runtime, Links}
 use Rattle.sub_table.specs.Events.{posted}
 use Rattle.sub_table.specs.Parts.{is_part}
+use Rattle.sub_table.specs.Table.{Subscriptions}
 use Rattle.sox_events.specs.Due.{letter_of}
 use Rattle.sox_msg.specs.Reply.{event_bytes}
-use Rattle.node_events.specs.Events.{PartAt, Telling, bytes_of, has_room_at, is_due, parts_at, parts_of, told, told_if_due}
+use Rattle.node_events.specs.Events.{PartAt, Telling, bytes_of, differs_from, has_room_at, is_due, parts_at, parts_of, told, told_if_due}
 use Rattle.node_events.specs.InOrder.{ascend, is_part_of, order_of}
 use Rattle.node_events.specs.Replying.{next_letter}
 use Rattle.node_events.proofs.Taking.{posted_letters}
@@ -128,6 +130,28 @@ module _ (m : Meaning) (place : ℕ) (t : Telling) (p : PartAt) (later : List Pa
       → fold (told_if_due m place) t (p ∷ later)
       ≡ fold (told_if_due m place) (told place p.id p.part (bytes_of m t.node.application p.id p.part) t) later
   part_told is = ap goes_on is
+
+-- ---- where nothing is subscribed
+
+none_of : (b : Bool) → (b && false) ≡ false
+none_of true = refl
+none_of false = refl
+
+pub nothing_due : (m : Meaning) (a : Application) (subs : Subscriptions) (place id : ℕ) (part : Part) → subs place id part ≡ None
+    → is_due m a subs place id part ≡ false
+nothing_due m a subs place id part none =
+    ap (λ (o : Option (Option (List ℕ))). is_live a.components.by_id id && option_map_or (differs_from (bytes_of m a id part)) o false) none
+    ∙ none_of (is_live a.components.by_id id)
+
+pub nothing_told : (m : Meaning) (place : ℕ) (t : Telling) → ((id : ℕ) (part : Part) → t.node.subscriptions place id part ≡ None)
+    → (parts : List PartAt) → fold (told_if_due m place) t parts ≡ t
+nothing_told m place t none [] = refl
+nothing_told m place t none (p ∷ parts) =
+    part_skipped m place t p parts
+    (ap (λ (b : Bool). has_room_at t.node.sessions place && b)
+    (nothing_due m t.node.application t.node.subscriptions place p.id p.part (none p.id p.part))
+    ∙ none_of (has_room_at t.node.sessions place))
+    ∙ nothing_told m place t none parts
 
 -- ---- one event
 

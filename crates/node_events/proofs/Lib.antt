@@ -15,6 +15,7 @@ pub mod FewSent
 pub mod Taking
 pub mod Causes
 pub mod Elsewhere
+pub mod Here
 pub mod Subscribing
 pub mod InOrder
 pub mod Truths

@@ -83,16 +83,16 @@ module _ (state : State) (from : Addr) where
   challenged_same : (remote_id : ℕ) (o : Option Found) → Same state (challenged state from remote_id o).state
   challenged_same remote_id (Some found) = same state
   challenged_same remote_id None =
-      either state (state.made == 4294967295) (answers state from (close remote_id too_many)) (made_at state from remote_id (free_from 0 state.sessions))
+      either state (state.made == 4294967295) (answers state from (close remote_id (Some too_many))) (made_at state from remote_id (free_from 0 state.sessions))
       (same state) (made_same remote_id (free_from 0 state.sessions))
 
   greeted_same : (version remote_id : ℕ) (algorithm : Option (List ℕ)) → Same state (greeted state from version remote_id algorithm).state
   greeted_same version remote_id algorithm =
-      either state (not (version == 0x0100)) (answers state from (close remote_id other_version))
-      (if not (is_sha_1 algorithm) then answers state from (close remote_id other_digest)
+      either state (not (version == 0x0100)) (answers state from (close remote_id (Some other_version)))
+      (if not (is_sha_1 algorithm) then answers state from (close remote_id (Some other_digest))
       else challenged state from remote_id (found_from (is_waiting_for from remote_id) 0 state.sessions))
       (same state)
-      (either state (not (is_sha_1 algorithm)) (answers state from (close remote_id other_digest))
+      (either state (not (is_sha_1 algorithm)) (answers state from (close remote_id (Some other_digest)))
       (challenged state from remote_id (found_from (is_waiting_for from remote_id) 0 state.sessions)) (same state)
       (challenged_same remote_id (found_from (is_waiting_for from remote_id) 0 state.sessions)))
 

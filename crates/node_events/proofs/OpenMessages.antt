@@ -4,8 +4,7 @@ use Rattle.std.specs.Prelude.{ℤ, pos, ◌+ℤ◌, int_le, ◌&&◌, ◌||◌, 
 use Rattle.std.specs.List.{list_any}
 use Rattle.std.proofs.lemmas.Bool.Decides.{nat_tests}
 use Rattle.dasp_msg.specs.declared.outgoing.Message.{Message as Posted}
-use Rattle.dasp_msg.specs.Posted.{acknowledged_if, acknowledged_to, acknowledged_where, after_push, count_of, first_open, has_room, is_due, is_for, new_message, open_part, sent_again}
-use Rattle.dasp_session.specs.Hearing.{after_acks}
+use Rattle.dasp_msg.specs.Posted.{acknowledged_if, acknowledged_to, acknowledged_where, after_acks, after_push, count_of, first_open, has_room, is_due, is_for, new_message, open_part, sent_again}
 use Rattle.dasp_session.specs.Letters.{datagram}
 use Rattle.dasp_session.specs.Ticking.{again_if_due, resends}
 use Rattle.dasp_msg.specs.Numbers.{wire_number}

@@ -52,7 +52,7 @@ StepFact x step = Fact x step.session step.effect
 refused_fact : (x : Session) → StepFact x (refused x)
 refused_fact x = by_test (is_authenticated x)
   where
-    by_test : (b : Bool) → StepFact x (if b then silent x else ends (close x.remote_id 0xe4 ∷ []))
+    by_test : (b : Bool) → StepFact x (if b then silent x else ends (close x.remote_id (Some 0xe4) ∷ []))
     by_test true = λ closed. closed
     by_test false = tt {0}
 
@@ -204,20 +204,20 @@ module _ (state : State) (from : Addr) where
   challenged_leaves : (remote_id : ℕ) (o : Option Found) → Leaves state (challenged state from remote_id o).state (challenged state from remote_id o).handing
   challenged_leaves remote_id (Some found) = λ q closed. closed
   challenged_leaves remote_id None =
-      either (state.made == 4294967295) (answers state from (close remote_id too_many)) (made_at state from remote_id (free_from 0 state.sessions))
-      (same (close remote_id too_many)) (made_leaves remote_id (free_from 0 state.sessions) refl)
+      either (state.made == 4294967295) (answers state from (close remote_id (Some too_many))) (made_at state from remote_id (free_from 0 state.sessions))
+      (same (close remote_id (Some too_many))) (made_leaves remote_id (free_from 0 state.sessions) refl)
 
   hello_leaves : (version remote_id : Option ℕ) (algorithm : Option (List ℕ))
       → Leaves state (hello state from version remote_id algorithm).state (hello state from version remote_id algorithm).handing
   hello_leaves None remote_id algorithm = λ q closed. closed
   hello_leaves (Some version) None algorithm = λ q closed. closed
   hello_leaves (Some version) (Some remote_id) algorithm =
-      either (not (version == 0x0100)) (answers state from (close remote_id other_version))
-      (if not (is_sha_1 algorithm) then answers state from (close remote_id other_digest)
+      either (not (version == 0x0100)) (answers state from (close remote_id (Some other_version)))
+      (if not (is_sha_1 algorithm) then answers state from (close remote_id (Some other_digest))
       else challenged state from remote_id (found_from (is_waiting_for from remote_id) 0 state.sessions))
-      (same (close remote_id other_version))
-      (either (not (is_sha_1 algorithm)) (answers state from (close remote_id other_digest))
-      (challenged state from remote_id (found_from (is_waiting_for from remote_id) 0 state.sessions)) (same (close remote_id other_digest))
+      (same (close remote_id (Some other_version)))
+      (either (not (is_sha_1 algorithm)) (answers state from (close remote_id (Some other_digest)))
+      (challenged state from remote_id (found_from (is_waiting_for from remote_id) 0 state.sessions)) (same (close remote_id (Some other_digest)))
       (challenged_leaves remote_id (found_from (is_waiting_for from remote_id) 0 state.sessions)))
 
   found_leaves : (message : Message) (o : Option Found) → found_from (is_session_of message.to from) 0 state.sessions ≡ o
@@ -249,7 +249,7 @@ place_leaves state place step fact (Some x) is = step_leaves state place x (step
 pub tick_leaves : (state : State) (place : ℕ) → Leaves state (tick_of state place).state (tick_of state place).handing
 tick_leaves state place = place_leaves state place (ticked state.moment) fact (session_at state place) refl
   where
-    by_test : (x : Session) (b : Bool) → StepFact x (if b then ends (close x.remote_id 0xe5 ∷ []) else sent_all state.moment x)
+    by_test : (x : Session) (b : Bool) → StepFact x (if b then ends (close x.remote_id (Some 0xe5) ∷ []) else sent_all state.moment x)
     by_test x true = tt {0}
     by_test x false = λ closed. closed
 

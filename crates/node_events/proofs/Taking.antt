@@ -33,23 +33,23 @@ use Rattle.node_events.proofs.OpenSessions.{found_is}
 
 -- ---- what a step hands on: the payload of the message, from the session that took it, without a word
 
-abbrev Delivers : ℤ → Message → Session → Option Session → List Message → Effect → Type 0
+abbrev pub Delivers : ℤ → Message → Session → Option Session → List Message → Effect → Type 0
 Delivers moment message x o says nothing = Unit {0}
 Delivers moment message x o says ended = Unit {0}
 Delivers moment message x o says (delivers bytes) =
     (o ≡ Some (having_taken moment message x)) × (says ≡ []) × (bytes ≡ message.payload)
 
 module _ (moment : ℤ) (message : Message) (x : Session) where
-  abbrev Heeds : Step → Type 0
+  abbrev pub Heeds : Step → Type 0
   Heeds step = Delivers moment message x step.session step.says step.effect
 
-  abbrev now : Session
+  abbrev pub now : Session
   now = hears moment message x
 
   refused_heeds : Heeds (refused now)
   refused_heeds = by_test (is_authenticated now)
     where
-      by_test : (b : Bool) → Heeds (if b then silent now else ends (close x.remote_id not_known ∷ []))
+      by_test : (b : Bool) → Heeds (if b then silent now else ends (close x.remote_id (Some not_known) ∷ []))
       by_test true = tt {0}
       by_test false = tt {0}
 
@@ -66,7 +66,7 @@ module _ (moment : ℤ) (message : Message) (x : Session) where
   delivered_heeds true = taken_heeds (taken_as x.taken message.sequence)
   delivered_heeds false = tt {0}
 
-  answered_heeds : (kind : MsgKind) (users : List User) → Heeds (answered kind users message now)
+  pub answered_heeds : (kind : MsgKind) (users : List User) → Heeds (answered kind users message now)
   answered_heeds Hello users = tt {0}
   answered_heeds Challenge users = tt {0}
   answered_heeds Authenticate users = proven_heeds (is_proof users x.nonce message.username message.digest)
@@ -107,18 +107,18 @@ module _ (state : State) (from : Addr) (message : Message) where
   challenged_fine : (remote_id : ℕ) (o : Option Found) → Fine (challenged state from remote_id o)
   challenged_fine remote_id (Some found) = tt {0}
   challenged_fine remote_id None =
-      either (state.made == 4294967295) (answers state from (close remote_id too_many)) (made_at state from remote_id (free_from 0 state.sessions))
+      either (state.made == 4294967295) (answers state from (close remote_id (Some too_many))) (made_at state from remote_id (free_from 0 state.sessions))
       (tt {0}) (made_fine remote_id (free_from 0 state.sessions))
 
   hello_fine : (version remote_id : Option ℕ) (algorithm : Option (List ℕ)) → Fine (hello state from version remote_id algorithm)
   hello_fine None remote_id algorithm = tt {0}
   hello_fine (Some version) None algorithm = tt {0}
   hello_fine (Some version) (Some remote_id) algorithm =
-      either (not (version == 0x0100)) (answers state from (close remote_id other_version))
-      (if not (is_sha_1 algorithm) then answers state from (close remote_id other_digest)
+      either (not (version == 0x0100)) (answers state from (close remote_id (Some other_version)))
+      (if not (is_sha_1 algorithm) then answers state from (close remote_id (Some other_digest))
       else challenged state from remote_id (found_from (is_waiting_for from remote_id) 0 state.sessions))
       (tt {0})
-      (either (not (is_sha_1 algorithm)) (answers state from (close remote_id other_digest))
+      (either (not (is_sha_1 algorithm)) (answers state from (close remote_id (Some other_digest)))
       (challenged state from remote_id (found_from (is_waiting_for from remote_id) 0 state.sessions)) (tt {0})
       (challenged_fine remote_id (found_from (is_waiting_for from remote_id) 0 state.sessions)))
 

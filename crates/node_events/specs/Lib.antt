@@ -1,5 +1,6 @@
 pub mod Node
 pub mod Heard
+pub mod Here
 pub mod Mishap
 pub mod Saving
 pub mod Serving

@@ -6,13 +6,14 @@ ghost use Rattle.sed_value.specs.declared.refusal.Refusal.TheVariants.{OutOfMemo
 ghost use Rattle.sed_engine.specs.Code.{Meaning};
 ghost use Rattle.dasp_msg.specs.declared.kind.MsgKind.{MsgKind};
 ghost use Rattle.dasp_msg.specs.Shown.{Message};
-ghost use Rattle.dasp_session.specs.Looking.{found_from, is_session_of};
+ghost use Rattle.dasp_session.specs.Looking.{Found, found_from, is_session_of, session_at};
 ghost use Rattle.sox_msg.specs.Answered.{Answered, refused};
 ghost use Rattle.sox_msg.specs.Command.{Asked};
 ghost use Rattle.sox_serve.specs.Answer.{answer, asks_for_save};
 ghost use Rattle.node_events.specs.Delivering.{delivered, leaves};
 ghost use Rattle.node_events.specs.Elsewhere.{IsAtOnePlace};
 ghost use Rattle.node_events.specs.Heard.{Heard as Hearing, IsWish, asks, is_refused};
+ghost use Rattle.node_events.specs.Here.{after_message};
 ghost use Rattle.node_events.specs.Mishap.{Mishap as Wrong, disk_failed, no_memory};
 ghost use Rattle.node_events.specs.Node.{Node as State, Setup};
 ghost use Rattle.node_events.specs.Replying.{IsReplied};
@@ -102,6 +103,17 @@ pub fn replies_show_what_went_wrong()
 {
     commands_are_refused_by_their_rows();
 }
+
+/// A message, but a hello, that counts in a session makes of that session what its step is said to make of it, and
+/// the reply, where there is one, is posted behind.
+pub fn messages_change_their_session()
+    ensures { (m : Meaning) (s : Setup) (n : State) (from : Address) (heard : Hearing) (mishap : Wrong) (found : Found)
+        → heard.message.kind ≢ MsgKind.Hello
+        → found_from (is_session_of heard.message.to from) 0 n.sessions.sessions ≡ Some found
+        → session_at (delivered m s n from (Some heard) mishap).node.sessions found.place
+        ≡ after_message n.sessions.users n.sessions.moment heard.message
+        (delivered m s n from (Some heard) mishap).reply (session_at n.sessions found.place) }
+{}
 
 /// A datagram has to do with one place at most: the session there has the sender's address, or there was none. Each
 /// other session stays as it was, and of what it has subscribed only parts of components go that are gone.

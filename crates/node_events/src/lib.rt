@@ -18,8 +18,9 @@ mod ticks;
 mod wholes;
 
 pub use deliveries::{
-    datagrams_change_one_place, refused_commands_leave_a_node, replies_are_answers,
-    replies_are_sent, replies_show_what_went_wrong, saves_show_in_replies, strangers_leave_a_node,
+    datagrams_change_one_place, messages_change_their_session, refused_commands_leave_a_node,
+    replies_are_answers, replies_are_sent, replies_show_what_went_wrong, saves_show_in_replies,
+    strangers_leave_a_node,
 };
 pub use events::events_are_of_the_application;
 pub use hearing::{bytes_are_heard, bytes_are_heard_in_one_way};
@@ -29,11 +30,14 @@ pub use runs::{
 pub use saves::saves_are_measured;
 pub use sendings::{few_messages_are_sent, sixteen_sessions_live_at_most};
 pub use steps::{
-    events_are_sent, events_come_part_by_part, parts_stand_in_order, ticks_go_by_steps,
+    events_are_sent, events_come_part_by_part, parts_stand_in_order,
+    places_without_subscriptions_are_told_nothing, ticks_go_by_steps,
 };
 pub use subscriptions::{
     only_live_components_are_subscribed, only_open_sessions_have_subscribed,
     subscriptions_are_asked_for,
 };
-pub use ticks::{ticks_begin_no_save, ticks_run_one_cycle, ticks_subscribe_nothing};
+pub use ticks::{
+    ticks_begin_no_save, ticks_change_each_session, ticks_run_one_cycle, ticks_subscribe_nothing,
+};
 pub use wholes::events_keep_whole;

@@ -1,11 +1,12 @@
 //! What a tick does, one step after another.
-ghost use Rattle.std.specs.Prelude.{◌≡◌, ◌&&◌, ◌++◌, ◌∷◌, [], ℕ, ℤ, List, Some, false, map, true};
+ghost use Rattle.std.specs.Prelude.{◌≡◌, ◌&&◌, ◌++◌, ◌∷◌, [], ℕ, ℤ, List, None, Some, false, map, true};
 ghost use Rattle.std.specs.List.{fold, list_any};
 ghost use Rattle.sed_engine.specs.Code.{Meaning};
 ghost use Rattle.comp_tree.specs.Application.{Application, is_live};
 ghost use Rattle.dasp_session.specs.Looking.{session_at};
 ghost use Rattle.dasp_session.specs.Session.{Session};
 ghost use Rattle.sub_table.specs.declared.part.Part.{Part as PartOf};
+ghost use Rattle.sub_table.specs.Table.{Subscriptions};
 ghost use Rattle.sox_events.specs.Due.{letter_of};
 ghost use Rattle.sox_msg.specs.Reply.{event_bytes};
 ghost use Rattle.node_events.specs.Events.{PartAt, Telling, parts_of};
@@ -49,6 +50,15 @@ pub fn events_come_part_by_part()
         && is_due m t.node.application t.node.subscriptions place p.id p.part) ≡ true
         → fold (told_if_due m place) t (p ∷ later)
         ≡ fold (told_if_due m place) (told place p.id p.part (bytes_of m t.node.application p.id p.part) t) later }
+{}
+
+/// A place where nothing is subscribed is told nothing: no part is due at it, and its events leave what they come to.
+pub fn places_without_subscriptions_are_told_nothing()
+    ensures due { (m : Meaning) (a : Application) (subs : Subscriptions) (place id : ℕ) (part : PartOf)
+        → subs place id part ≡ None → is_due m a subs place id part ≡ false }
+    ensures told { (m : Meaning) (place : ℕ) (t : Telling)
+        → ((id : ℕ) (part : PartOf) → t.node.subscriptions place id part ≡ None)
+        → told_all m place t ≡ t }
 {}
 
 /// An event goes out in one datagram message of the place's session, with the next number and an ack of what was taken,

@@ -9,9 +9,10 @@ use Rattle.dasp_session.specs.declared.user.User.{User}
 use Rattle.dasp_msg.specs.UserName.{is_user_name}
 use Rattle.dasp_session.specs.Line.{IsUser}
 use Rattle.dasp_session.specs.UsersFile.{AreUsers, credential_of}
+use Rattle.replay_log.specs.declared.asked.GenAsked.{GenAsked}
+use Rattle.replay_log.specs.Bounds.{IsAllowed}
 use Rattle.replay_log.specs.Generated.{MayGenerate}
-use Rattle.record_making.specs.declared.asked.GenAsked.{GenAsked}
-use Rattle.record_making.specs.Spec.{IsAllowed, spec_with}
+use Rattle.record_making.specs.Spec.{spec_with}
 use Rattle.record_making.specs.Types.{drawn_types}
 use Rattle.record_making.proofs.TypeLemmas.{types_are_few, types_are_some}
 

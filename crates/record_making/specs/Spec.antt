@@ -5,16 +5,11 @@ use Rattle.sed_engine.specs.Code.{Meaning}
 use Rattle.dasp_session.specs.declared.user.User.{User}
 use Rattle.dasp_session.specs.Digest.{nonce_of, digest_of}
 use Rattle.dasp_session.specs.UsersFile.{credential_of}
+use Rattle.replay_log.specs.declared.asked.GenAsked.{GenAsked}
 use Rattle.replay_log.specs.declared.gen_spec.GenSpec.{GenSpec}
 use Rattle.replay_log.specs.declared.gen_spec.GenType.{GenType}
-use Rattle.replay_log.specs.Bounds.{AreWithin}
 use Rattle.replay_log.specs.Generated.{IsGenerated}
-use Rattle.record_making.specs.declared.asked.GenAsked.{GenAsked}
 use Rattle.record_making.specs.Types.{drawn_types}
-
--- the numbers that may be asked for
-abbrev pub IsAllowed : GenAsked → Type 0
-IsAllowed asked = AreWithin asked.seed asked.components asked.links asked.ticks
 
 -- the digest that a node with a secret wants of the user with a credential, in the session before which so many were
 -- made

@@ -6,7 +6,7 @@ ghost use Rattle.dasp_session.specs.Digest.{nonce_of};
 ghost use Rattle.dasp_session.specs.UsersFile.{credential_of};
 ghost use Rattle.dasp_session.specs.Hearing.{is_proof};
 ghost use Rattle.dasp_session.specs.Receive.{id_of};
-ghost use Rattle.record_making.specs.declared.asked.GenAsked.{GenAsked};
+ghost use Rattle.replay_log.specs.declared.asked.GenAsked.{GenAsked};
 ghost use Rattle.record_making.specs.Spec.{IsRecordOf, wanted_digest};
 
 use replay_log::generated_records_are_one;

@@ -7,7 +7,6 @@
 //! read off new objects of an engine, whichever that is. What writes such a record into a file stands on this crate.
 #![tactic(auto)]
 
-mod asked;
 mod class;
 mod config;
 mod laws;
@@ -15,7 +14,6 @@ mod making;
 mod refusal;
 mod types;
 
-pub use asked::GenAsked;
 pub use laws::{digests_are_proofs, generated_records_of_codes_are_one};
 pub use making::generated;
 pub use refusal::RecordRefusal;

@@ -2,14 +2,14 @@
 ghost use Rattle.std.specs.Prelude.{◌≡◌, ◌≤◌, ◌↔◌, None, IfOk, IsErrOf};
 ghost use Rattle.std.specs.FinMap as map;
 ghost use Rattle.dasp_session.specs.UsersFile.{AreUsers, credential_of};
+ghost use Rattle.replay_log.specs.Bounds.{IsAllowed};
 ghost use Rattle.replay_log.specs.Generated.{IsGenerated, MayGenerate};
-ghost use Rattle.record_making.specs.Spec.{IsAllowed, IsRecordOf, spec_with, wanted_digests};
+ghost use Rattle.record_making.specs.Spec.{IsRecordOf, spec_with, wanted_digests};
 
-use crate::asked::GenAsked;
 use crate::refusal::RecordRefusal;
 use crate::types::drawn_types;
 use dasp_session::{Users, digest, nonce};
-use replay_log::{GenSpec, GenType, generate_record};
+use replay_log::{GenAsked, GenSpec, GenType, generate_record};
 use sed_engine::Engine;
 use sed_value::{Items, Memory};
 use std::alloc::Global;

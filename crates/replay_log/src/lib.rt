@@ -7,6 +7,7 @@
 //! a specification has it. What replays a record stands on this crate.
 #![tactic(auto)]
 
+mod asked;
 mod body;
 pub mod bounds;
 mod event;
@@ -20,6 +21,7 @@ mod records;
 mod session;
 mod steps;
 
+pub use asked::GenAsked;
 pub use event::Event;
 pub use gen_spec::{GenSpec, GenType};
 pub use generate::generate_record;

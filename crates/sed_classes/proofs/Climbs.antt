@@ -28,7 +28,7 @@ IsSeen seen far = (q : ℕ) → contains nat_cmp seen q ≡ list_any (λ f. f ==
 pub seen_none : (seen : BTreeSet ℕ) → seen.keys ≡ [] → IsSeen seen []
 seen_none seen empty = λ q. ap (list_any (is_at (nat_cmp q))) empty
 
-any_push : (xs : List ℕ) (y q : ℕ) → list_any (λ f. f == q) (xs ++ y ∷ []) ≡ (if y == q then true else list_any (λ f. f == q) xs)
+pub any_push : (xs : List ℕ) (y q : ℕ) → list_any (λ f. f == q) (xs ++ y ∷ []) ≡ (if y == q then true else list_any (λ f. f == q) xs)
 any_push [] y q = by_test (y == q)
   where
     by_test : (b : Bool) → (b || false) ≡ (if b then true else false)

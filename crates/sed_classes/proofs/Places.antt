@@ -1,10 +1,10 @@
 -- What a row of all places has at each.
-use Rattle.std.proofs.Common.{◌≡◌, ◌≤◌, ℕ, zero, suc, ◌+◌, map, length, List, Option, Some, None, unwrap_or, slice_get, refl, sym, ap, ◌∙◌, arith}
+use Rattle.std.proofs.Common.{◌≡◌, ◌≤◌, ℕ, zero, suc, ◌+◌, map, length, List, Option, None, unwrap_or, slice_get, sym, ap, ◌∙◌, arith}
 use Rattle.std.specs.List.{range_with_len}
 use Rattle.std.specs.Option.{option_and_then}
 use Rattle.std.proofs.lemmas.Option.{slice_get_past}
 use Rattle.sed_classes.specs.declared.kit_units.KitUnits.{KitUnits}
-use Rattle.sed_classes.specs.Declarations.{Declaration, all_classes, class_at}
+use Rattle.sed_classes.specs.Declarations.{Declaration, all_classes}
 use Rattle.sed_classes.specs.Bases.{base_of, base_written}
 
 get_range : (f : ℕ → Option ℕ) (a n i : ℕ) → (n ≤ i → f (a + i) ≡ None) → unwrap_or (slice_get (map f (range_with_len a n)) i) None ≡ f (a + i)

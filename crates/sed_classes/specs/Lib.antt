@@ -4,6 +4,7 @@ pub mod SysSource
 pub mod Declarations
 pub mod Names
 pub mod Bases
+pub mod Ends
 pub mod Literals
 pub mod Types
 pub mod Members

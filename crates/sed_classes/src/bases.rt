@@ -1,12 +1,14 @@
 //! The bases of classes.
-ghost use Rattle.std.specs.Prelude.{◌≡◌, ◌==◌, ℕ, if◌then◌else◌, true, not, length, map, slice_get, unwrap_or};
-ghost use Rattle.std.specs.Prelude.{IfOk, OnOk, None};
+ghost use Rattle.std.specs.Prelude.{◌≡◌, ◌<◌, ◌==◌, ◌∷◌, ℕ, if◌then◌else◌, true, not, length, map};
+ghost use Rattle.std.specs.Prelude.{IfOk, IfSome, OnOk};
 ghost use Rattle.std.specs.BTreeSet.{contains};
 ghost use Rattle.std.specs.Ordering.{nat_cmp};
 ghost use Rattle.std.specs.List.{list_any, range_with_len};
 ghost use Rattle.sed_classes.specs.Declarations as declared;
 ghost use Rattle.sed_classes.specs.Bases as bases;
+ghost use Rattle.sed_classes.specs.Ends.{ends_after, gone_through};
 
+use crate::base_counts::{counts_of, item_at};
 use crate::table::{Classes, is_buffer_name, is_text_name};
 use sed_units::TypeName;
 use sed_value::Memory;
@@ -55,11 +57,12 @@ fn base_unnamed(class: usize) -> Option<usize>
     if class == OBJECT { None } else { Some(OBJECT) }
 }
 
-/// All classes with their bases at hand. Contracts see the kits.
+/// All classes with their bases at hand, and how many bases each has. Contracts see the kits.
 #[derive(Drop)]
 pub struct Based<'a> {
     classes: Classes<'a>,
     bases: Vec<Option<usize>>,
+    counts: Vec<Option<usize>>,
 }
 
 impl<'a> Model for Based<'a> {
@@ -71,6 +74,7 @@ impl<'a> Model for Based<'a> {
     ghost use Rattle.sed_classes.specs.contracts.kit_units.KitUnits as k;
     ghost use Rattle.sed_classes.specs.Declarations.{all_classes};
     ghost use Rattle.sed_classes.specs.Bases.{base_of};
+    ghost use Rattle.sed_classes.specs.Ends.{AreCounts};
 
     ghost Value = { List KitUnits };
 
@@ -78,17 +82,23 @@ impl<'a> Model for Based<'a> {
 
     ghost view = { λ t. t.classes };
 
-    ghost invariant = { λ t. t.bases.items
-        ≡ map (base_of t.classes) (range_with_len 0 (length (all_classes t.classes))) };
+    ghost invariant = { λ t.
+        (t.bases.items ≡ map (base_of t.classes) (range_with_len 0 (length (all_classes t.classes))))
+        × AreCounts (base_of t.classes) (length (all_classes t.classes)) t.counts.items };
 }
 
 impl<'a> Based<'a> {
-    /// These classes, with the base of each.
+    /// These classes, with the base of each, and how many it has.
     pub fn new(alloc: Global, classes: Classes<'a>) -> Result<Based<'a>, Memory>
         ensures { IfOk result (λ t. t ≡ classes.entry) }
     {
         let bases = bases_of(alloc, &classes)?;
-        Ok(Based { classes, bases })
+        let counts = counts_of(alloc, &bases)?;
+        Ok(Based {
+            classes,
+            bases,
+            counts,
+        })
     }
 
     /// The classes.
@@ -102,11 +112,56 @@ impl<'a> Based<'a> {
     pub fn base_of(&self, class: usize) -> Option<usize>
         ensures { result ≡ bases.base_of self.now class }
     {
-        base_at(&self.bases, class)
+        item_at(&self.bases, class)
+    }
+
+    /// How many bases a class has, where that was found. It is not where they lead into a circle.
+    pub fn base_count(&self, class: usize) -> Option<usize>
+        ensures within { IfSome result (λ n. n < length (declared.all_classes self.now)) }
+        ensures ends { IfSome result
+            (λ n. ends_after (bases.base_of self.now) n (bases.base_of self.now class) ≡ true) }
+        ensures count { IfSome result (λ n. n ≡ length (bases.bases self.now class)) }
+    {
+        item_at(&self.counts, class)
     }
 
     /// A class, its base, the base of that, and so on, each once.
     pub fn lineage(&self, alloc: Global, class: usize) -> Result<Vec<usize>, Memory>
+        ensures { IfOk result (λ v. v.items ≡ bases.lineage self.now class) }
+    {
+        match self.base_count(class) {
+            Some(count) => self.straight_lineage(alloc, class, count),
+            None => self.any_lineage(alloc, class),
+        }
+    }
+
+    // A class and so many of its bases, whether they come again or not.
+    fn straight_lineage(
+        &self,
+        alloc: Global,
+        class: usize,
+        count: usize,
+    ) -> Result<Vec<usize>, Memory>
+        ensures { IfOk result (λ v. v.items
+            ≡ class ∷ gone_through (bases.base_of self.now) count (bases.base_of self.now class)) }
+    {
+        let mut far = Vec::with_capacity(alloc, count.saturating_add(1))?;
+        far.push(class)?;
+        let mut next = self.base_of(class);
+        let mut left = count;
+        'climb: while left > 0 {
+            let Some(at) = next else {
+                return Ok(far);
+            };
+            far.push(at)?;
+            next = self.base_of(at);
+            left -= 1;
+        }
+        Ok(far)
+    }
+
+    // The lineage of a class whose bases may lead into a circle.
+    fn any_lineage(&self, alloc: Global, class: usize) -> Result<Vec<usize>, Memory>
         ensures { IfOk result (λ v. v.items ≡ bases.lineage self.now class) }
     {
         let mut far = Vec::new(alloc);
@@ -130,9 +185,10 @@ impl<'a> Based<'a> {
         Ok(far)
     }
 
-    /// Whether the bases of a class lead back to it.
-    pub fn leads_back(&self, class: usize) -> bool
-        ensures { result ≡ bases.leads_back self.now class }
+    // Whether the bases of a class lead to a place.
+    fn leads_to(&self, place: usize, class: usize) -> bool
+        ensures { result ≡ bases.comes_to (bases.base_of self.now) place
+            (length (declared.all_classes self.now)) (bases.base_of self.now class) }
     {
         let mut next = self.base_of(class);
         let mut left = self.classes.len();
@@ -140,13 +196,30 @@ impl<'a> Based<'a> {
             let Some(at) = next else {
                 return false;
             };
-            if at == class {
+            if at == place {
                 return true;
             }
             next = self.base_of(at);
             left -= 1;
         }
         false
+    }
+
+    /// Whether the bases of a class lead back to it.
+    pub fn leads_back(&self, class: usize) -> bool
+        ensures { result ≡ bases.leads_back self.now class }
+    {
+        match self.base_count(class) {
+            Some(_) => false,
+            None => self.leads_to(class, class),
+        }
+    }
+
+    /// Whether a class is another or stands below it.
+    pub fn is_below(&self, above: usize, class: usize) -> bool
+        ensures { result ≡ bases.is_below self.now above class }
+    {
+        class == above || self.leads_to(above, class)
     }
 }
 
@@ -170,14 +243,4 @@ fn bases_of(alloc: Global, classes: &Classes<'_>) -> Result<Vec<Option<usize>>, 
         all.push(classes.base_of(class))?;
     }
     Ok(all)
-}
-
-// What a row of bases has at a place; none behind its end.
-fn base_at(all: &[Option<usize>], class: usize) -> Option<usize>
-    ensures { result ≡ unwrap_or (slice_get all.now class) None }
-{
-    match all.get(class) {
-        Some(base) => *base,
-        None => None,
-    }
 }

@@ -6,13 +6,16 @@
 //! places at which units break it. The schema of units that break none is a function of them.
 //!
 //! The definitions search lists. The code doesn't: the first class of each name in a kit and the first member of each
-//! name in a class are put into ordered maps when the classes are gathered, and each name is found there.
+//! name in a class are put into ordered maps when the classes are gathered, and each name is found there. The base of
+//! each class, and how many bases it has, are found once: where they come to an end, a lineage is climbed with no look
+//! at what came before.
 //!
 //! Two parties whose kits have the same checksums have the same slots: the canonical text of a kit names its classes
 //! with their bases and the slots that each adds, and the checksum is taken of that text. `canonical_text` and
 //! `checksum` are exactly their definitions.
 #![tactic(auto)]
 
+mod base_counts;
 mod bases;
 mod digest;
 mod entry;

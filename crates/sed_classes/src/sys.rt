@@ -1,5 +1,6 @@
 //! The types of kit `sys`, as a source would declare them.
 ghost use Rattle.std.specs.Prelude.{◌≡◌, ◌++◌, [], ◌∷◌, IfOk, codes};
+ghost use Rattle.std.specs.Option.{option_map_or};
 ghost use Rattle.sed_classes.specs.SysSource as sys;
 
 use sed_units::{
@@ -26,7 +27,14 @@ fn push_object(alloc: Global, all: &mut Vec<Class>) -> Result<(), Memory>
         ++ sys.a_class (ModifierWord.Abstract ∷ []) (codes "Obj") None []
         ∷ []) }
 {
-    push_abstract(alloc, all, b"Obj", None, Vec::new(alloc))
+    push_class(
+        alloc,
+        all,
+        Some(ModifierWord::Abstract),
+        b"Obj",
+        None,
+        Vec::new(alloc),
+    )
 }
 
 fn push_virtual(alloc: Global, all: &mut Vec<Class>) -> Result<(), Memory>
@@ -35,7 +43,14 @@ fn push_virtual(alloc: Global, all: &mut Vec<Class>) -> Result<(), Memory>
         ∷ []) }
 {
     let base = base_named(alloc, b"Obj")?;
-    push_abstract(alloc, all, b"Virtual", base, Vec::new(alloc))
+    push_class(
+        alloc,
+        all,
+        Some(ModifierWord::Abstract),
+        b"Virtual",
+        base,
+        Vec::new(alloc),
+    )
 }
 
 fn push_component(alloc: Global, all: &mut Vec<Class>) -> Result<(), Memory>
@@ -45,7 +60,14 @@ fn push_component(alloc: Global, all: &mut Vec<Class>) -> Result<(), Memory>
 {
     let base = base_named(alloc, b"Virtual")?;
     let members = component_members(alloc)?;
-    push_abstract(alloc, all, b"Component", base, members)
+    push_class(
+        alloc,
+        all,
+        Some(ModifierWord::Abstract),
+        b"Component",
+        base,
+        members,
+    )
 }
 
 fn push_app(alloc: Global, all: &mut Vec<Class>) -> Result<(), Memory>
@@ -56,7 +78,7 @@ fn push_app(alloc: Global, all: &mut Vec<Class>) -> Result<(), Memory>
 {
     let base = base_named(alloc, b"Component")?;
     let members = app_members(alloc)?;
-    push_concrete(alloc, all, b"App", base, members)
+    push_class(alloc, all, None, b"App", base, members)
 }
 
 fn push_folder(alloc: Global, all: &mut Vec<Class>) -> Result<(), Memory>
@@ -65,13 +87,14 @@ fn push_folder(alloc: Global, all: &mut Vec<Class>) -> Result<(), Memory>
         ∷ []) }
 {
     let base = base_named(alloc, b"Component")?;
-    push_concrete(alloc, all, b"Folder", base, Vec::new(alloc))
+    push_class(alloc, all, None, b"Folder", base, Vec::new(alloc))
 }
 
-// An abstract class of these parts, at no place, behind the others.
-fn push_abstract(
+// A class of these parts, with this word if any, at no place, behind the others.
+fn push_class(
     alloc: Global,
     all: &mut Vec<Class>,
+    word: Option<ModifierWord>,
     name: &[u8],
     base: Option<TypeName>,
     members: Vec<Member>,
@@ -80,13 +103,13 @@ fn push_abstract(
         ++ (record {
           at = 0;
           facets = [];
-          modifiers = sys.words (ModifierWord.Abstract ∷ []);
+          modifiers = option_map_or (λ w. sys.words (w ∷ [])) word [];
           name = sys.named name.now;
           base = base;
           members = members.items;
         }) ∷ []) }
 {
-    let modifiers = words(alloc, ModifierWord::Abstract)?;
+    let modifiers = class_words(alloc, word)?;
     let name = named(alloc, name)?;
     all.push(Class {
         at: 0,
@@ -99,34 +122,14 @@ fn push_abstract(
     Ok(())
 }
 
-// A class of these parts without a word, at no place, behind the others.
-fn push_concrete(
-    alloc: Global,
-    all: &mut Vec<Class>,
-    name: &[u8],
-    base: Option<TypeName>,
-    members: Vec<Member>,
-) -> Result<(), Memory>
-    ensures { IfOk result (λ _. all.new.items ≡ all.old.items
-        ++ (record {
-          at = 0;
-          facets = [];
-          modifiers = [];
-          name = sys.named name.now;
-          base = base;
-          members = members.items;
-        }) ∷ []) }
+// The words of a class: this one, or none.
+fn class_words(alloc: Global, word: Option<ModifierWord>) -> Result<Items<Modifier>, Memory>
+    ensures { IfOk result (λ all. all ≡ option_map_or (λ w. sys.words (w ∷ [])) word []) }
 {
-    let name = named(alloc, name)?;
-    all.push(Class {
-        at: 0,
-        facets: Items::new(Vec::new(alloc)),
-        modifiers: Items::new(Vec::new(alloc)),
-        name,
-        base,
-        members: Items::new(members),
-    })?;
-    Ok(())
+    match word {
+        Some(word) => words(alloc, word),
+        None => Ok(Items::new(Vec::new(alloc))),
+    }
 }
 
 // The property of every component, what a root call runs, and the callbacks.

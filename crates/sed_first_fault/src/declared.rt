@@ -15,6 +15,7 @@ use crate::{declaration_fault, statics_before, too_large_in_class};
 use sed_classes::{Classes, PlacedFault};
 use sed_faults::{Fault, joined};
 use sed_outline::Measured;
+use sed_rules::Defines;
 use sed_value::Memory;
 use std::alloc::Global;
 
@@ -25,13 +26,15 @@ const FIRST: usize = 5;
 fn class_fault(
     alloc: Global,
     measured: &Measured<'_>,
+    defines: &Defines<'_, '_>,
     class: usize,
     before: u64,
 ) -> Result<Option<PlacedFault>, Memory>
-    requires { before ≡ capped (rules.statics_before measured.now class) }
+    requires defines { defines.now ≡ measured.now }
+    requires before { before ≡ capped (rules.statics_before measured.now class) }
     ensures { IfOk result (λ f. f ≡ first_of (parts.declared_at measured.now class)) }
 {
-    let fault = declaration_fault(alloc, measured, class, before)?;
+    let fault = declaration_fault(alloc, measured, defines, class, before)?;
     match measured.based().classes().entry_at(class) {
         Some(entry) => Ok(placed(entry, fault)),
         None => Ok(None),
@@ -43,9 +46,10 @@ fn classes_fault(alloc: Global, measured: &Measured<'_>) -> Result<Option<Placed
     ensures { IfOk result (λ f. f ≡ first_of (faults_of measured.now)) }
 {
     let before = statics_before(alloc, measured)?;
+    let defines = Defines::new(alloc, measured.based())?;
     let mut far = None;
     for class in FIRST..before.len() {
-        let fault = class_fault(alloc, measured, class, before[class])?;
+        let fault = class_fault(alloc, measured, &defines, class, before[class])?;
         far = lesser(far, fault);
     }
     Ok(far)

@@ -12,7 +12,7 @@ use crate::{count_fault, size_fault};
 use sed_classes::Entry;
 use sed_faults::{Fault, joined};
 use sed_outline::{Measured, objects_fault};
-use sed_rules::{form_fault, values_fault};
+use sed_rules::{Defines, form_fault, values_fault};
 use sed_value::Memory;
 use std::alloc::Global;
 
@@ -20,18 +20,19 @@ use std::alloc::Global;
 fn value_fault(
     alloc: Global,
     measured: &Measured<'_>,
+    defines: &Defines<'_, '_>,
     class: usize,
     before: u64,
     entry: &Entry<'_>,
 ) -> Result<Option<Fault>, Memory>
+    requires defines { defines.now ≡ measured.now }
     requires before { before ≡ capped (rules.statics_before measured.now class) }
     requires entry { class_at measured.now class ≡ Some (declaration_of entry.now) }
     ensures { IfOk result (λ f. f ≡ least (faults.value_faults measured.now class (declaration_of entry.now))) }
 {
-    let based = measured.based();
     let members = entry.class.members.as_slice();
     let objects = objects_fault(alloc, measured, entry.kit, members)?;
-    let values = values_fault(alloc, based, class, entry.kit, members)?;
+    let values = values_fault(alloc, defines, class, entry.kit, members)?;
     let sizes = size_fault(alloc, measured, class, before)?;
     let first = joined(objects, values);
     Ok(joined(first, sizes))
@@ -44,10 +45,12 @@ fn value_fault(
 pub fn declaration_fault(
     alloc: Global,
     measured: &Measured<'_>,
+    defines: &Defines<'_, '_>,
     class: usize,
     before: u64,
 ) -> Result<Option<Fault>, Memory>
-    requires { before ≡ capped (rules.statics_before measured.now class) }
+    requires defines { defines.now ≡ measured.now }
+    requires before { before ≡ capped (rules.statics_before measured.now class) }
     ensures { IfOk result (λ f.
         f ≡ option_map_or (λ d. least (faults.declaration_faults measured.now class d)) (class_at measured.now class)
         None) }
@@ -59,7 +62,7 @@ pub fn declaration_fault(
     };
     let form = form_fault(alloc, based, class)?;
     let count = count_fault(alloc, measured, class)?;
-    let value = value_fault(alloc, measured, class, before, entry)?;
+    let value = value_fault(alloc, measured, defines, class, before, entry)?;
     let first = joined(form, count);
     Ok(joined(first, value))
 }

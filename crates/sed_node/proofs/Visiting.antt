@@ -48,10 +48,10 @@ module _ (state : State) (place : ℕ) where
     where
       by_over : (session : Session) (b : Bool)
           → is_ended (steps state (record { place = place; session = session })
-          (if b then ends (close session.remote_id timed_out ∷ []) else sent_all state.moment session)).handing
+          (if b then ends (close session.remote_id (Some timed_out) ∷ []) else sent_all state.moment session)).handing
           ≡ true
           → (steps state (record { place = place; session = session })
-          (if b then ends (close session.remote_id timed_out ∷ []) else sent_all state.moment session)).handing
+          (if b then ends (close session.remote_id (Some timed_out) ∷ []) else sent_all state.moment session)).handing
           ≡ ended_at place
       by_over session true is = refl
       by_over session false is = absurd (let no : false ≡ true = is in cc)
@@ -72,10 +72,10 @@ module _ (state : State) (place : ℕ) where
     where
       by_over : (session : Session) (b : Bool)
           → is_ended (steps state (record { place = place; session = session })
-          (if b then ends (close session.remote_id timed_out ∷ []) else sent_all state.moment session)).handing
+          (if b then ends (close session.remote_id (Some timed_out) ∷ []) else sent_all state.moment session)).handing
           ≡ true
           → session_at (steps state (record { place = place; session = session })
-          (if b then ends (close session.remote_id timed_out ∷ []) else sent_all state.moment session)).state place
+          (if b then ends (close session.remote_id (Some timed_out) ∷ []) else sent_all state.moment session)).state place
           ≡ None
       by_over session true is = gone_from state.sessions place
       by_over session false is = absurd (let no : false ≡ true = is in cc)

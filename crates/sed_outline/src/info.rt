@@ -11,7 +11,7 @@ use crate::order::type_number;
 use crate::{Measured, slots};
 use sed_classes::{Based, Entry, is_abstract_class};
 use sed_typed::{ClassInfo, TypeNo};
-use sed_value::{Items, Memory, Word, is_among};
+use sed_value::{Items, Memory, Word};
 use std::alloc::Global;
 
 // The place of `Component`.
@@ -46,7 +46,6 @@ fn class_info(
     ensures { IfOk result (λ i. i ≡ schemas.class_info measured.now class (declaration_of entry.now)) }
 {
     let based = measured.based();
-    let lineage = based.lineage(alloc, class)?;
     let slots = slots(alloc, based, class)?;
     Ok(ClassInfo {
         kit: entry.kit as u8,
@@ -54,7 +53,7 @@ fn class_info(
         name,
         base: base_number(based, order, class),
         is_abstract: is_abstract_class(entry.class),
-        is_component: is_among(lineage.as_slice(), COMPONENT),
+        is_component: based.is_below(COMPONENT, class),
         size: measured.size_of(class) as u32,
         slots: Items::new(slots),
     })

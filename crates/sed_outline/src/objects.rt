@@ -11,7 +11,7 @@ use crate::measured::Measured;
 use sed_classes::{Classes, is_abstract_class, is_instance_field};
 use sed_faults::{Fault, broken_if, joined};
 use sed_units::Member;
-use sed_value::{Memory, is_among};
+use sed_value::Memory;
 use std::alloc::Global;
 
 // The place of `Component`.
@@ -48,11 +48,12 @@ fn any_declares_field(classes: &Classes<'_>, lineage: &[usize]) -> bool
 fn is_no_object_class(alloc: Global, measured: &Measured<'_>, class: usize) -> Result<bool, Memory>
     ensures { IfOk result (λ b. b ≡ rules.is_no_object_class measured.now class) }
 {
-    let lineage = measured.based().lineage(alloc, class)?;
-    let classes = measured.based().classes();
+    let based = measured.based();
+    let classes = based.classes();
+    let lineage = based.lineage(alloc, class)?;
     Ok(
         is_abstract_at(classes, class)
-            || is_among(lineage.as_slice(), COMPONENT)
+            || based.is_below(COMPONENT, class)
             || !any_declares_field(classes, lineage.as_slice())
             || measured.holds_itself(class),
     )

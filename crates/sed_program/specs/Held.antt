@@ -8,8 +8,9 @@ use Rattle.sed_program.specs.declared.parts.Part.TheVariants as part
 use Rattle.sed_program.specs.Parts.{count_of}
 use Rattle.sed_program.specs.Places.{IsPlaced}
 
-pub record IsOrdered (units : List KitUnits) (order : List ℕ) (lineages : List (List ℕ))
+pub record IsOrdered (units defines : List KitUnits) (order : List ℕ) (lineages : List (List ℕ))
     (fields statics methods : List ℕ) (field_places static_places method_places : List (List ℕ)) : Type 0 where
+  pub defines_are : defines ≡ units
   pub order_is : order ≡ class_order units
   pub small : length order ≤ 2 ^ 16
   pub lineages_are : lineages ≡ row_of units (lineage units)

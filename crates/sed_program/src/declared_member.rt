@@ -9,7 +9,7 @@ ghost use Rattle.sed_program.specs.Tables as tables;
 use crate::ordered::Ordered;
 use sed_classes::{is_define, is_method, is_static, says_abstract};
 use sed_names::{Constant, Member as Meaning, Signature};
-use sed_rules::{Plain, constant_of, read_value};
+use sed_rules::{Plain, read_value};
 use sed_units::{Init, Member, MemberForm};
 use sed_value::{Items, Memory};
 use std::alloc::Global;
@@ -49,7 +49,7 @@ impl<'a, 'b> Ordered<'a, 'b> {
             (owned class kit member.now) init.now)) }
     {
         let kind = self.based().classes().type_of(kit, &member.kind);
-        let value = constant_of(alloc, self.based(), class, init)?;
+        let value = self.defines().constant_of(alloc, class, init)?;
         Ok(plain_constant(read_value(kind, value)))
     }
 

@@ -15,10 +15,10 @@ ghost use Rattle.sed_program.specs.Parts as parts;
 use crate::ordered::Ordered;
 use crate::parts::{Part, is_of};
 use arrayvec::ArrayVec;
-use sed_classes::{Based, is_property};
+use sed_classes::is_property;
 use sed_first_fault::text_spelled;
 use sed_outline::slots;
-use sed_rules::{Plain, constant_of};
+use sed_rules::{Defines, Plain};
 use sed_typed::{Field, FieldForm, SlotInfo, SlotNo, TypeNo};
 use sed_units::{Init, InitValue, Member, MemberForm};
 use sed_value::{Bytes, LONGEST_BUFFER, Memory, Prim, SlotType, Value, Word};
@@ -108,17 +108,17 @@ fn begun_buffer(init: &Option<Init>) -> Result<Value, Memory>
 
 fn begun_number(
     alloc: Global,
-    based: &Based<'_>,
+    defines: &Defines<'_, '_>,
     class: usize,
     primitive: Prim,
     init: &Option<Init>,
 ) -> Result<Value, Memory>
-    ensures { IfOk result (λ v. v ≡ fields.begun_number based.now class primitive init.now) }
+    ensures { IfOk result (λ v. v ≡ fields.begun_number defines.now class primitive init.now) }
 {
     match init {
         None => Ok(zero_value(primitive)),
         Some(init) => {
-            let value = constant_of(alloc, based, class, init)?;
+            let value = defines.constant_of(alloc, class, init)?;
             Ok(kept_value(primitive, value))
         }
     }
@@ -126,15 +126,15 @@ fn begun_number(
 
 fn begun(
     alloc: Global,
-    based: &Based<'_>,
+    defines: &Defines<'_, '_>,
     class: usize,
     form: FieldForm,
     init: &Option<Init>,
 ) -> Result<Value, Memory>
-    ensures { IfOk result (λ v. v ≡ fields.begun based.now class form init.now) }
+    ensures { IfOk result (λ v. v ≡ fields.begun defines.now class form init.now) }
 {
     match form {
-        FieldForm::Prim(primitive) => begun_number(alloc, based, class, primitive, init),
+        FieldForm::Prim(primitive) => begun_number(alloc, defines, class, primitive, init),
         FieldForm::Buf(_) => begun_buffer(init),
         FieldForm::Str(_) => Ok(Value::Nothing),
         FieldForm::Array(_, _) => Ok(Value::Nothing),
@@ -145,16 +145,16 @@ fn begun(
 // What a member begins with.
 fn begun_in(
     alloc: Global,
-    based: &Based<'_>,
+    defines: &Defines<'_, '_>,
     class: usize,
     form: FieldForm,
     member: &MemberForm,
 ) -> Result<Value, Memory>
-    ensures { IfOk result (λ v. v ≡ fields.begun based.now class form (members.form_value member.now)) }
+    ensures { IfOk result (λ v. v ≡ fields.begun defines.now class form (members.form_value member.now)) }
 {
     match member {
-        MemberForm::Field(init) => begun(alloc, based, class, form, init),
-        MemberForm::Method(_, _) => begun(alloc, based, class, form, &None),
+        MemberForm::Field(init) => begun(alloc, defines, class, form, init),
+        MemberForm::Method(_, _) => begun(alloc, defines, class, form, &None),
     }
 }
 
@@ -197,19 +197,19 @@ struct Owner<'a> {
 // A member of a class as a field, which holds this.
 fn a_field(
     alloc: Global,
-    based: &Based<'_>,
+    defines: &Defines<'_, '_>,
     owner: &Owner<'_>,
     member: &Member,
     form: FieldForm,
 ) -> Result<Field, Memory>
-    requires { owner.now.slots.now ≡ slotted.slots based.now owner.now.class }
-    ensures { IfOk result (λ f. f ≡ fields.a_field based.now owner.now.number owner.now.class member.now form) }
+    requires { owner.now.slots.now ≡ slotted.slots defines.now owner.now.class }
+    ensures { IfOk result (λ f. f ≡ fields.a_field defines.now owner.now.number owner.now.class member.now form) }
 {
     let slot = slot_of_field(owner.slots, member)?;
     let Some(name) = Word::read(member.name.bytes.as_slice()) else {
         return Err(Memory);
     };
-    match begun_in(alloc, based, owner.class, form, &member.form) {
+    match begun_in(alloc, defines, owner.class, form, &member.form) {
         Ok(initial) => Ok(Field {
             class: TypeNo(owner.number),
             name,
@@ -238,11 +238,11 @@ fn push_field(
     if !is_of(part, member) {
         return Ok(());
     }
-    let based = ordered.based();
-    let Some(form) = ordered.form_of(based.classes().kit_of(owner.class), member) else {
+    let kit = ordered.based().classes().kit_of(owner.class);
+    let Some(form) = ordered.form_of(kit, member) else {
         return Ok(());
     };
-    match a_field(alloc, based, owner, member, form) {
+    match a_field(alloc, ordered.defines(), owner, member, form) {
         Ok(field) => push(into, field),
         Err(refusal) => Err(refusal),
     }

@@ -16,16 +16,18 @@ use crate::name_places::{place_at, places_of};
 use crate::parts::{Part, count_of, sum_over};
 use sed_classes::Based;
 use sed_outline::{class_order, type_number};
+use sed_rules::Defines;
 use sed_typed::TypeNo;
 use sed_value::{Items, Memory, is_among};
 use std::alloc::Global;
 use std::marker::Model;
 
 /// All classes with their numbers in the schema, with what stands above each, how many fields, static fields and
-/// methods it declares, and where among these each name stands. Contracts see the kits.
+/// methods it declares, where among these each name stands, and what its defines come to. Contracts see the kits.
 #[derive(Drop)]
 pub struct Ordered<'a, 'b> {
     based: &'a Based<'b>,
+    defines: Defines<'a, 'b>,
     order: Vec<usize>,
     lineages: Vec<Items<usize>>,
     fields: Vec<usize>,
@@ -49,7 +51,7 @@ impl<'a, 'b> Model for Ordered<'a, 'b> {
 
     ghost view = { λ t. t.based.now };
 
-    ghost invariant = { λ t. IsOrdered t.based.now t.order.items t.lineages.items
+    ghost invariant = { λ t. IsOrdered t.based.now t.defines t.order.items t.lineages.items
         t.fields.items t.statics.items t.methods.items
         t.field_places.items t.static_places.items t.method_places.items };
 }
@@ -123,8 +125,10 @@ impl<'a, 'b> Ordered<'a, 'b> {
         let field_places = places_of(alloc, based.classes(), Part::Field)?;
         let static_places = places_of(alloc, based.classes(), Part::Static)?;
         let method_places = places_of(alloc, based.classes(), Part::Method)?;
+        let defines = Defines::new(alloc, based)?;
         Ok(Ordered {
             based,
+            defines,
             order,
             lineages,
             fields,
@@ -141,6 +145,13 @@ impl<'a, 'b> Ordered<'a, 'b> {
         ensures { result.now ≡ self.now }
     {
         self.based
+    }
+
+    /// The classes with what their defines come to.
+    pub fn defines(&self) -> &Defines<'a, 'b>
+        ensures { result.now ≡ self.now }
+    {
+        &self.defines
     }
 
     /// The places of classes in the order of the schema.

@@ -1,2 +1,4 @@
 pub mod Reading
 pub mod Kept
+pub mod Chains
+pub mod Rising

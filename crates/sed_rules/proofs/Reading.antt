@@ -22,7 +22,7 @@ read_more : (ts : List SourceType) (t : SourceType) (c : Constant) → read_back
 read_more [] t c = refl
 read_more (u ∷ ts) t c = ap (read_constant u) (read_more ts t c)
 
-abbrev with_value : Init → InitValue → Init
+abbrev pub with_value : Init → InitValue → Init
 with_value i v = record { at = i.at; value = v }
 
 -- the value of a member that names a define is what that reads
@@ -56,14 +56,14 @@ value_plain read units class (Some i) e = init_plain read units class i i.value 
 abbrev pub value_at : List KitUnits → ℕ → Owned → Constant
 value_at units left o = value_constant (define_within units left) units o.class (form_value o.member.form)
 
-within_one : (units : List KitUnits) (left : ℕ) (o : Owned) → 0 < left →
+pub within_one : (units : List KitUnits) (left : ℕ) (o : Owned) → 0 < left →
     define_within units left o ≡ read_constant (type_of units o.kit o.member.kind) (value_at units (left - 1) o)
 within_one units zero o some = absurd (omega arith)
 within_one units (suc n) o some =
     let e : n ≡ suc n - 1 = omega arith in
     ap (λ k. read_constant (type_of units o.kit o.member.kind) (value_at units k o)) e
 
-value_reached : (units : List KitUnits) (left class : ℕ) (value : Option Init) →
+pub value_reached : (units : List KitUnits) (left class : ℕ) (value : Option Init) →
     value_constant (define_within units left) units class value
     ≡ reached units left (next_define units class value) (plain_value value)
 value_reached units left class value = by_next (next_define units class value) refl

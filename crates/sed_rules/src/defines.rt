@@ -27,8 +27,8 @@ pub fn value_of(member: &Member) -> Option<&Init>
     }
 }
 
-// The define that a name stands for in a class.
-fn define_named<'a>(
+/// The define that a name stands for in a class.
+pub fn define_named<'a>(
     alloc: Global,
     based: &'a Based<'_>,
     class: usize,
@@ -69,8 +69,8 @@ pub fn next_define<'a>(
     }
 }
 
-// What an initial value comes to that names no define.
-fn plain_value(value: Option<&Init>) -> Plain
+/// What an initial value comes to that names no define.
+pub fn plain_value(value: Option<&Init>) -> Plain
     ensures { as_constant result ≡ plain_value (option_copied value.entry) }
 {
     match value {
@@ -106,8 +106,8 @@ fn member_len(classes: &Classes<'_>, class: usize) -> usize
     }
 }
 
-// How many members there are in all: none where there are too many to count.
-fn member_count(classes: &Classes<'_>) -> Option<usize>
+/// How many members there are in all: none where there are too many to count.
+pub fn member_count(classes: &Classes<'_>) -> Option<usize>
     ensures { IfSome result (λ n. n ≡ values.member_count classes.now) }
 {
     let mut count: usize = 0;

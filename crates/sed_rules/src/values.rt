@@ -7,10 +7,11 @@ ghost use Rattle.sed_classes.specs.Types.{type_of};
 ghost use Rattle.sed_rules.specs.Plains.{as_constant};
 ghost use Rattle.sed_rules.specs.Reading.{goes_not};
 
+use crate::all_defines::Defines;
 use crate::constants::{is_text_below, takes};
-use crate::defines::{constant_of, leads_back, value_of};
+use crate::defines::value_of;
 use crate::plain::Plain;
-use sed_classes::{Based, SourceType, is_define, is_inline};
+use sed_classes::{SourceType, is_define, is_inline};
 use sed_faults::{Fault, broken_if, joined};
 use sed_units::{Init, Member};
 use sed_value::Memory;
@@ -30,55 +31,55 @@ fn goes_not(kind: SourceType, value: Plain) -> bool
 // Whether the initial value of a member of a class of a kit does not go to the member's type.
 fn value_goes_not(
     alloc: Global,
-    based: &Based<'_>,
+    defines: &Defines<'_, '_>,
     class: usize,
     kit: usize,
     member: &Member,
     init: &Init,
 ) -> Result<bool, Memory>
-    ensures { IfOk result (λ b. b ≡ rules.is_no_value_of based.now class
-        init.now (type_of based.now kit member.now.kind)) }
+    ensures { IfOk result (λ b. b ≡ rules.is_no_value_of defines.now class
+        init.now (type_of defines.now kit member.now.kind)) }
 {
-    let kind = based.classes().type_of(kit, &member.kind);
-    let value = constant_of(alloc, based, class, init)?;
+    let kind = defines.based().classes().type_of(kit, &member.kind);
+    let value = defines.constant_of(alloc, class, init)?;
     Ok(goes_not(kind, value))
 }
 
 fn is_no_value(
     alloc: Global,
-    based: &Based<'_>,
+    defines: &Defines<'_, '_>,
     class: usize,
     kit: usize,
     member: &Member,
     init: &Init,
 ) -> Result<bool, Memory>
-    ensures { IfOk result (λ b. b ≡ rules.is_no_value based.now class kit member.now init.now) }
+    ensures { IfOk result (λ b. b ≡ rules.is_no_value defines.now class kit member.now init.now) }
 {
     if is_inline(member) {
         return Ok(true);
     }
-    if value_goes_not(alloc, based, class, kit, member, init)? {
+    if value_goes_not(alloc, defines, class, kit, member, init)? {
         return Ok(true);
     }
     if !is_define(member) {
         return Ok(false);
     }
-    leads_back(alloc, based, class, member)
+    defines.leads_back(alloc, class, member)
 }
 
 // Where the initial value of a member of a class of a kit is none that it may have, or a define has none.
 fn value_fault(
     alloc: Global,
-    based: &Based<'_>,
+    defines: &Defines<'_, '_>,
     class: usize,
     kit: usize,
     member: &Member,
 ) -> Result<Option<Fault>, Memory>
-    ensures { IfOk result (λ f. f ≡ least (rules.value_not_fit based.now class kit member.now)) }
+    ensures { IfOk result (λ f. f ≡ least (rules.value_not_fit defines.now class kit member.now)) }
 {
     match value_of(member) {
         Some(init) => {
-            let wrong = is_no_value(alloc, based, class, kit, member, init)?;
+            let wrong = is_no_value(alloc, defines, class, kit, member, init)?;
             Ok(broken_if(wrong, 11, init.at))
         }
         None => Ok(broken_if(is_define(member), 11, member.at)),
@@ -91,16 +92,16 @@ fn value_fault(
 /// Want of memory is the only refusal.
 pub fn values_fault(
     alloc: Global,
-    based: &Based<'_>,
+    defines: &Defines<'_, '_>,
     class: usize,
     kit: usize,
     members: &[Member],
 ) -> Result<Option<Fault>, Memory>
-    ensures { IfOk result (λ f. f ≡ least (flat_map (rules.value_not_fit based.now class kit) members.now)) }
+    ensures { IfOk result (λ f. f ≡ least (flat_map (rules.value_not_fit defines.now class kit) members.now)) }
 {
     let mut first = None;
     for member in members {
-        let fault = value_fault(alloc, based, class, kit, member)?;
+        let fault = value_fault(alloc, defines, class, kit, member)?;
         first = joined(first, fault);
     }
     Ok(first)

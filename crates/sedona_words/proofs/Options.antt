@@ -2,7 +2,7 @@
 use Rattle.std.proofs.Common.{◌≡◌, ℕ, true, false, List, [], ◌∷◌, length, Option, Some, None, String, Global, refl, sym, ap, ◌∙◌, arith}
 use Rattle.std.proofs.lemmas.Bool.{eqb-true}
 use Rattle.std.specs.Prelude.{◌==◌, codes}
-use Rattle.record_making.specs.declared.asked.GenAsked.{GenAsked}
+use Rattle.replay_log.specs.declared.asked.GenAsked.{GenAsked}
 use Rattle.sedona_words.specs.Command.{◌>>=◌, Command, RecordAsked, RunAsked, boot_behind, boot_of, gen_behind, gen_named, gen_numbers, gen_of, image_named, kits_named, word_first, data_first, ended, new_named, new_of, node_named, option_first, option_or, period_first, replay_named, replay_of, run_named, show_named, show_of, texts, turns_first}
 
 ended_none : {A : Type 0} (words : List (List ℕ)) (value : Option A) → (words ≡ [] → ⊥) → ended words value ≡ None

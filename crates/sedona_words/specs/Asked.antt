@@ -7,7 +7,7 @@ use Rattle.sedona_words.specs.declared.node_words.CodeWords.TheVariants as code
 use Rattle.sedona_words.specs.declared.node_words.NodeWords.{NodeWords}
 use Rattle.sedona_words.specs.declared.node_words.RunWords.{RunWords}
 use Rattle.sedona_words.specs.declared.gen_words.GenWords.{GenWords}
-use Rattle.record_making.specs.Spec.{IsAllowed}
+use Rattle.replay_log.specs.Bounds.{IsAllowed}
 use Rattle.sedona_words.specs.Command.{CodeAsked, Command, Cycles, Check, Compile, Gen, New, NodeAsked, OfImage, OfKits}
 use Rattle.sedona_words.specs.Command.{RecordAsked, Replay, Run, RunAsked, Show, are_manifests, is_file_name}
 use Rattle.sedona_words.specs.Command.{names_within, texts}

@@ -6,7 +6,9 @@ use Rattle.std.specs.Option.{option_and_then, option_map, option_map_or}
 use Rattle.std.specs.Str.{bytes_eq}
 use Rattle.std.specs.declared.alloc.Global.{Global}
 use Rattle.sed_value.specs.Decimal.{number_of}
-use Rattle.record_making.specs.declared.asked.GenAsked.{GenAsked}
+use Rattle.replay_log.specs.declared.asked.GenAsked.{GenAsked}
+use Rattle.replay_log.specs.declared.bounds.TheConstants.{GREATEST_SEED, MOST_ADDED_COMPONENTS}
+use Rattle.replay_log.specs.declared.bounds.TheConstants.{MOST_ADDED_LINKS, MOST_TICKS}
 
 infixl 10 ◌>>=◌
 abbrev pub ◌>>=◌ : {A B : Type 0} → Option A → (A → Option B) → Option B
@@ -298,16 +300,16 @@ boot_of words = do
 -- a record is of 1 to 4,000 components
 abbrev pub component_count : List ℕ → Option ℕ
 component_count digits = do
-  n ← number_within 4000 digits
+  n ← number_within MOST_ADDED_COMPONENTS digits
   if n == 0 then None else Some n
 
 -- the numbers of a record: a seed of at most 2,147,483,647, components, at most 8,192 links and at most 100,000 ticks
 abbrev pub gen_numbers : List ℕ → List ℕ → List ℕ → List ℕ → Option GenAsked
 gen_numbers seed components links ticks = do
-  s ← number_within 2147483647 seed
+  s ← number_within GREATEST_SEED seed
   c ← component_count components
-  l ← number_within 8192 links
-  t ← number_within 100000 ticks
+  l ← number_within MOST_ADDED_LINKS links
+  t ← number_within MOST_TICKS ticks
   Some (record { seed = s; components = c; links = l; ticks = t })
 
 -- a record of these numbers, by the names of its files

@@ -1,4 +1,4 @@
-pub use Rattle.record_making.specs.Spec
+pub use Rattle.replay_log.specs.Bounds
 pub mod Command
 pub mod Asked
 pub mod Run

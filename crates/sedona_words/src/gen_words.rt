@@ -1,12 +1,12 @@
 //! The words of `gen`, read by hand.
 ghost use Rattle.std.specs.Prelude.{◌≡◌, ◌≤◌, IfSome};
 ghost use Rattle.std.specs.Option.{option_map};
-ghost use Rattle.record_making.specs.Spec.{IsAllowed};
+ghost use Rattle.replay_log.specs.Bounds.{IsAllowed};
 ghost use Rattle.sedona_words.specs.Asked.{asked_record, IsMeantRecord};
 ghost use Rattle.sedona_words.specs.Command as words_of;
 
 use crate::words::{is_file_name, is_manifests, number_within, option_first};
-use record_making::GenAsked;
+use replay_log::GenAsked;
 use replay_log::bounds::{GREATEST_SEED, MOST_ADDED_COMPONENTS, MOST_ADDED_LINKS, MOST_TICKS};
 
 /// The words of `gen`.
@@ -41,7 +41,7 @@ fn count_within(digits: &[u8], most: u32) -> Option<u32>
 fn component_count(digits: &[u8]) -> Option<u32>
     ensures count { result ≡ words_of.component_count digits.now }
     ensures some { IfSome result (λ n. 1 ≤ n) }
-    ensures most { IfSome result (λ n. n ≤ 4000) }
+    ensures most { IfSome result (λ n. n ≤ MOST_ADDED_COMPONENTS) }
 {
     match count_within(digits, MOST_ADDED_COMPONENTS) {
         Some(0) => None,

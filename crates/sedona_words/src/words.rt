@@ -5,7 +5,7 @@ ghost use Rattle.std.specs.Option.{option_map};
 ghost use Rattle.sedona_words.specs.Command as words_of;
 ghost use Rattle.sedona_words.specs.Command.{names_within, texts};
 
-use sed_value::limits::LARGEST_SLOT;
+use sed_value::limits::{LARGEST_SLOT, MOST_TURNS};
 use sed_value::{Memory, read_decimal};
 use std::alloc::Global;
 
@@ -17,9 +17,6 @@ const MOST_KITS: usize = 15;
 
 // The most cycles that can be asked for.
 const MOST_CYCLES: u64 = 1_000_000;
-
-// The most turns of a root call.
-const MOST_TURNS: u64 = 1_000_000;
 
 // The greatest port.
 const GREATEST_PORT: u64 = 65_535;
@@ -159,7 +156,7 @@ pub fn turn_count(digits: &[u8]) -> Option<u32>
     ensures some { IfSome result (λ n. 1 ≤ n) }
     ensures most { IfSome result (λ n. n ≤ 1000000) }
 {
-    match number_within(digits, MOST_TURNS) {
+    match number_within(digits, u64::from(MOST_TURNS)) {
         Some(0) => None,
         Some(count) => Some(count as u32),
         None => None,

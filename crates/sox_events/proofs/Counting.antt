@@ -9,8 +9,8 @@ use Rattle.sub_table.specs.declared.part.Part.TheVariants.{Tree, Config, Runtime
 use Rattle.sub_table.specs.declared.table.SubTable.{SubTable}
 use Rattle.sub_table.specs.Parts.{is_part}
 use Rattle.sub_table.specs.Table.{Subscriptions, at}
-use Rattle.sox_events.specs.Compared.{Counts, count_below, has_event, how_many, of_one, risen, was_compared}
-use Rattle.sox_events.specs.Due.{Gives, Passes, Those, is_watched, lives, marked, only}
+use Rattle.sox_events.specs.Compared.{Counts, count_below, how_many, of_one, risen, was_compared}
+use Rattle.sox_events.specs.Due.{Gives, Passes, Those, has_event, is_watched, lives, marked, only}
 
 -- ---- a count
 

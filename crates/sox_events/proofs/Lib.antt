@@ -2,6 +2,7 @@ pub mod Agreeing
 pub mod AllIds
 pub mod Counting
 pub mod DropLemmas
+pub mod Forgetting
 pub mod FourParts
 pub mod OnePart
 pub mod PartBytes

@@ -12,9 +12,9 @@ use Rattle.sub_table.specs.declared.part.Part.TheVariants.{Tree, Config, Runtime
 use Rattle.sub_table.specs.Parts.{is_part}
 use Rattle.sub_table.specs.Table.{Subscriptions, with_event}
 use Rattle.sox_msg.specs.Reply.{Puts, event_bytes}
-use Rattle.sox_events.specs.Due.{Gives, Passes, app_part, bit_of, bytes_of, is_last, may_be_due, none_of_them, is_due, is_watched, letter_of, lives, marked, only}
+use Rattle.sox_events.specs.Due.{Gives, Passes, app_part, bit_of, bytes_of, has_event, is_last, may_be_due, none_of_them, is_due, is_watched, letter_of, lives, marked, only}
 use Rattle.link_prop.specs.Linked.{one_if}
-use Rattle.sox_events.specs.Compared.{Counts, has_event, risen, was_compared}
+use Rattle.sox_events.specs.Compared.{Counts, risen, was_compared}
 use Rattle.sox_events.proofs.Counting.{count_only, unmoved}
 use Rattle.sox_events.proofs.Passing.{unmarked_here}
 pub use Rattle.sub_table.proofs.TableLemmas.{meant}

@@ -1,15 +1,10 @@
 -- How many parts are compared with their last events.
-use Rattle.std.specs.Prelude.{ℕ, zero, suc, ◌≡◌, ◌+◌, ◌-◌, ◌^◌, ◌&&◌, not, min, max, Bool, true, List, Option, None}
-use Rattle.std.specs.Prelude.{is_some, unwrap_or}
+use Rattle.std.specs.Prelude.{ℕ, zero, suc, ◌≡◌, ◌+◌, ◌-◌, ◌^◌, ◌&&◌, not, min, max, Bool, true}
 use Rattle.link_prop.specs.Linked.{Linked, one_if}
 use Rattle.sub_table.specs.declared.part.Part.{Part}
 use Rattle.sub_table.specs.declared.part.Part.TheVariants.{Tree, Config, Runtime, Links}
 use Rattle.sub_table.specs.Table.{Subscriptions}
-use Rattle.sox_events.specs.Due.{Those, marked}
-
--- an event of it was posted
-abbrev pub has_event : Option (Option (List ℕ)) → Bool
-has_event kept = is_some (unwrap_or kept None)
+use Rattle.sox_events.specs.Due.{Those, has_event, marked}
 
 -- a part with a last event that was marked for the place and is no more: it has been settled, so it was compared
 abbrev pub was_compared : {E : Type 0} → Linked E → Linked E → Subscriptions → ℕ → Those

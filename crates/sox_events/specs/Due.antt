@@ -80,6 +80,10 @@ may_be_due kept mark = option_map_or (λ last. not (is_some last) || mark) kept 
 abbrev pub is_last : List ℕ → Option (Option (List ℕ)) → Bool
 is_last bytes kept = option_map_or (λ last. pointwise nat_eq last bytes) (unwrap_or kept None) false
 
+-- an event of it was posted
+abbrev pub has_event : Option (Option (List ℕ)) → Bool
+has_event kept = is_some (unwrap_or kept None)
+
 -- ---- agreement
 
 -- the marks agree with the subscriptions: each subscribed part of a live component that has a last event and no mark
@@ -97,6 +101,11 @@ AllMarksAgree g a subs =
     (place id : ℕ) (part : Part) (bytes : List ℕ) → subs place id part ≡ Some (Some bytes)
     → marked a place id part ≡ false
     → bytes_of g a id part ≡ bytes
+
+-- at each place each part of each id has its old row, or one without a last event
+abbrev pub OnlyForgets : Subscriptions → Subscriptions → Type 0
+OnlyForgets before after =
+    (place id : ℕ) (part : Part) → has_event (after place id part) ≡ true → after place id part ≡ before place id part
 
 -- ---- what contracts see of those who are told
 

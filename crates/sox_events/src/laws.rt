@@ -5,9 +5,9 @@ ghost use Rattle.sub_table.specs.declared.part.Part.{Part as PartOf};
 ghost use Rattle.sub_table.specs.Table.{Subscriptions, nothing_subscribed, with_subscribed, without_subscribed};
 ghost use Rattle.sub_table.specs.Table.{without_place};
 ghost use Rattle.std.specs.Prelude.{◌≡◌, ℕ, List, true, false};
-ghost use Rattle.sox_events.specs.Compared.{has_event, how_many, risen, was_compared};
-ghost use Rattle.sox_events.specs.Due.{AllMarksAgree, Gives, MarksAgree, Passes, Those, differs, is_due, lives, marked};
-ghost use Rattle.sox_events.specs.Due.{of_the_live};
+ghost use Rattle.sox_events.specs.Compared.{how_many, risen, was_compared};
+ghost use Rattle.sox_events.specs.Due.{AllMarksAgree, Gives, MarksAgree, OnlyForgets, Passes, Those, differs};
+ghost use Rattle.sox_events.specs.Due.{has_event, is_due, lives, marked, of_the_live};
 
 use sed_engine::Engine;
 
@@ -21,6 +21,13 @@ pub fn agreement_is_of_the_live<E: Engine>()
 pub fn agreement_lasts<E: Engine>()
     ensures { (before after : Linked E) (subs : Subscriptions) → Tells E.Engine before after
         → AllMarksAgree E.Engine before subs → AllMarksAgree E.Engine after subs }
+{}
+
+/// Where the marks agree with the subscriptions at every id, they agree so with all others in which each part of each
+/// id has at each place its old row, or one without a last event.
+pub fn forgetting_keeps_agreement<E: Engine>()
+    ensures { (a : Linked E) (before after : Subscriptions) → OnlyForgets before after
+        → AllMarksAgree E.Engine a before → AllMarksAgree E.Engine a after }
 {}
 
 /// The marks agree at every id where nothing is subscribed. Where they agree so with the subscriptions, they agree with

@@ -7,10 +7,10 @@ ghost use Rattle.sox_msg.specs.Reply.{Puts, event_bytes, is_told};
 ghost use Rattle.sub_table.specs.declared.part.Part.{Part as PartOf};
 ghost use Rattle.sub_table.specs.Table.{at, most_bytes, with_event};
 ghost use Rattle.link_prop.specs.Linked.{one_if};
-ghost use Rattle.sox_events.specs.Compared.{Counts, has_event, how_many, risen, was_compared};
+ghost use Rattle.sox_events.specs.Compared.{Counts, how_many, risen, was_compared};
 ghost use Rattle.sox_events.specs.Due.{comparisons, Gives, HasRoom, Passes, before_it, all_of_them, bit_of, bytes_of};
-ghost use Rattle.sox_events.specs.Due.{is_last, letter_of, longest, marked, may_be_due, none_of_them, only, rank};
-ghost use Rattle.sox_events.specs.Due.{room_for, subscriptions};
+ghost use Rattle.sox_events.specs.Due.{has_event, is_last, letter_of, longest, marked, may_be_due, none_of_them, only};
+ghost use Rattle.sox_events.specs.Due.{rank, room_for, subscriptions};
 
 use crate::subs::{Subs, is_dead};
 use app_parts::write_part;

@@ -1,6 +1,6 @@
 use Rattle.std.proofs.Common.{ap, ◌∙◌, length, arith}
 use Rattle.sed_typed.specs.Classes.{reached}
-use Rattle.app_front.specs.TreeRows.{parent_in}
+use Rattle.row_tree.specs.TreeRows.{parent_in}
 use Rattle.comp_tree.proofs.DepthLemmas.{depth_end, depth_more, depth_whole}
 use Rattle.app_reader.proofs.depth.depth.Goals as goal
 

@@ -1,6 +1,6 @@
 use Rattle.std.proofs.Common.{◌≡◌, ◌+◌, ◌-◌, length}
 use Rattle.sed_typed.specs.Classes.{reached}
-use Rattle.app_front.specs.TreeRows.{parent_in}
+use Rattle.row_tree.specs.TreeRows.{parent_in}
 use Rattle.app_reader.proofs.depth.depth.Given as goal
 
 -- as many stand above as were passed, and those that are reached from here

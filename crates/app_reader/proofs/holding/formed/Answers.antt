@@ -2,11 +2,11 @@ use Rattle.std.proofs.Common.{◌≡◌, ◌∙◌, ℕ, List, Bool, true, false
 use Rattle.std.proofs.lemmas.List.{length-map}
 use Rattle.std.specs.Prelude.{Err, length, IsTrue, ◌↔◌}
 use Rattle.std.specs.List.{All}
-use Rattle.app_front.specs.Reached.{StayWithin}
-use Rattle.app_front.specs.TreeRows.{Ascend}
-use Rattle.app_front.specs.Tree.{IsTreeOf, children_in}
-use Rattle.app_front.specs.declared.tree_rows.TreeRow.{TreeRow}
-use Rattle.app_front.specs.declared.refusal.TreeRefusal.TheVariants.{NoTree}
+use Rattle.row_tree.specs.Reached.{StayWithin}
+use Rattle.row_tree.specs.TreeRows.{Ascend}
+use Rattle.row_tree.specs.Tree.{IsTreeOf, children_in}
+use Rattle.row_tree.specs.declared.tree_rows.TreeRow.{TreeRow}
+use Rattle.row_tree.specs.declared.refusal.TreeRefusal.TheVariants.{NoTree}
 use Rattle.app_front.specs.declared.rows.FileRow.{FileRow}
 use Rattle.app_reader.specs.FormedFile.{GivesItsValues, IsFormedFile, tree_row, tree_rows}
 use Rattle.app_reader.specs.Checks.{SiblingsDiffer}

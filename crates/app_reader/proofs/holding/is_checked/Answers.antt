@@ -4,7 +4,7 @@ use Rattle.std.specs.List.{All}
 use Rattle.sub_table.specs.Link.{Link}
 use Rattle.sub_table.specs.Links.{AreInOrder}
 use Rattle.app_file.specs.Text.{greatest_of}
-use Rattle.app_front.specs.TreeRows.{Ascend}
+use Rattle.row_tree.specs.TreeRows.{Ascend}
 use Rattle.app_front.specs.declared.rows.FileRow.{FileRow}
 use Rattle.app_reader.specs.FormedFile.{IsLinkIn, tree_rows}
 use Rattle.app_reader.specs.Checks.{AreKinds, SiblingsDiffer}

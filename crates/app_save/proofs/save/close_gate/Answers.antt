@@ -1,6 +1,6 @@
 use Rattle.app_save.proofs.Stages.{closing_during, closing_done, closed_during, closed_already}
-use Rattle.std.proofs.Common.{◌+◌, length, arith}
-use Rattle.app_save.proofs.Ranges.{during_wider, during_none}
+use Rattle.app_save.proofs.Closing.{zero_held}
+use Rattle.app_save.proofs.Ranges.{during_none}
 use Rattle.app_save.proofs.save.close_gate.Goals as goal
 
 pub returns-then-place-clause-during : goal.returns-then-place-clause-during
@@ -27,9 +27,14 @@ returns-clause-closed g c told =
     let ready = c.requires.ready told in
     closed_already c.args.slot c.args.place.now.newest c.args.place.now.other c.requires.slots c.args.payload.now c.requires.fits a a ready.rests ready.store ready.there.newest (ready.there.is_shut c.if-place.false)
 
+pub returns-then-place-clause-zero : goal.returns-then-place-clause-zero
+returns-then-place-clause-zero g c told is_open = zero_held c.write_through.result c.args.place.now.other (g.D.Disk.meaning c.write_through.new.disk).content (c.write_through.ensures.lands told).holds
+
+pub returns-clause-zero : goal.returns-clause-zero
+returns-clause-zero g c told is_open = absurd ((c.requires.ready told).there.is_shut c.if-place.false is_open)
+
 pub returns-then-place-clause-touches : goal.returns-then-place-clause-touches
-returns-then-place-clause-touches g c told =
-    during_wider c.args.place.now.other 1 c.args.place.now.other (6 + length c.args.payload.now) (g.D.Disk.meaning c.args.disk.now) (g.D.Disk.meaning c.write_through.new.disk) (omega arith) (omega arith) (c.write_through.ensures.lands told).during
+returns-then-place-clause-touches g c told = (c.write_through.ensures.lands told).during
 
 pub returns-clause-touches : goal.returns-clause-touches
-returns-clause-touches g c told = during_none c.args.place.now.other (6 + length c.args.payload.now) (g.D.Disk.meaning c.args.disk.now)
+returns-clause-touches g c told = during_none c.args.place.now.other 1 (g.D.Disk.meaning c.args.disk.now)

@@ -23,7 +23,7 @@ returns-clause-filled g c told =
 
 pub returns-in_err-write_pages-clause-touches : goal.returns-in_err-write_pages-clause-touches
 returns-in_err-write_pages-clause-touches g c told =
-    during_wider (c.args.place.now.other + 6) (length c.args.payload.now) c.args.place.now.other (6 + length c.args.payload.now) (g.D.Disk.meaning c.args.disk.now) (g.D.Disk.meaning c.write_pages.new.disk) (omega arith) (omega arith) (c.write_pages.ensures.touches told)
+    during_wider (c.args.place.now.other + 6) (length c.args.payload.now) (c.args.place.now.other + 1) (5 + length c.args.payload.now) (g.D.Disk.meaning c.args.disk.now) (g.D.Disk.meaning c.write_pages.new.disk) (omega arith) (omega arith) (c.write_pages.ensures.touches told)
 
 pub returns-clause-touches : goal.returns-clause-touches
 returns-clause-touches g c told =
@@ -32,9 +32,9 @@ returns-clause-touches g c told =
     let d = g.D.Disk.meaning c.write_through.new.disk in
     let told_b : IsTrue b.tells = c.write_pages.ensures.time.told ∙ told in
     let five = c.behind_gate-header.ensures.five in
-    then_range c.args.place.now.other (6 + length c.args.payload.now) a b d told c.write_pages.ensures.time c.write_through.ensures.time
-    (during_wider (c.args.place.now.other + 6) (length c.args.payload.now) c.args.place.now.other (6 + length c.args.payload.now) a b (omega arith) (omega arith) (c.write_pages.ensures.touches told))
-    (during_wider (c.args.place.now.other + 1) (length c.behind_gate-header.result) c.args.place.now.other (6 + length c.args.payload.now) b d (omega arith) (omega (arith, five)) (c.write_through.ensures.lands told_b).during)
+    then_range (c.args.place.now.other + 1) (5 + length c.args.payload.now) a b d told c.write_pages.ensures.time c.write_through.ensures.time
+    (during_wider (c.args.place.now.other + 6) (length c.args.payload.now) (c.args.place.now.other + 1) (5 + length c.args.payload.now) a b (omega arith) (omega arith) (c.write_pages.ensures.touches told))
+    (during_wider (c.args.place.now.other + 1) (length c.behind_gate-header.result) (c.args.place.now.other + 1) (5 + length c.args.payload.now) b d (omega arith) (omega (arith, five)) (c.write_through.ensures.lands told_b).during)
 
 pub returns-clause-holds : goal.returns-clause-holds
 returns-clause-holds g c told =

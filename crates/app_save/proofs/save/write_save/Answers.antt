@@ -1,6 +1,6 @@
 use Rattle.std.proofs.Common.{◌∙◌, IsTrue}
 use Rattle.app_save.proofs.Whole.{settled_moments, settled_pages, save_moments, save_pages, save_done}
-use Rattle.app_save.proofs.SlotWritten.{settled_touches, save_touches, save_writes, save_renews}
+use Rattle.app_save.proofs.SlotWritten.{settled_touches, settled_closes, save_touches, save_closes, save_writes, save_renews}
 use Rattle.app_save.proofs.save.write_save.Goals as goal
 
 pub returns-in_err-place-clause-moments : goal.returns-in_err-place-clause-moments
@@ -53,6 +53,21 @@ returns-clause-touches g c told told_syncs =
     save_touches c.args.slot place.newest place.other c.in_ok-place.ensures.slots c.args.payload.now c.requires.fits a b (g.D.Disk.meaning c.write_slot.new.disk) told (c.requires.stores told) (g.met.D.Disk.is_disk c.args.disk.now told)
     settled.kept settled.rests (c.in_ok-place.ensures.place told).newest c.settle.ensures.time c.write_slot.ensures.time (c.write_slot.ensures.touches told_b) told_syncs
     (settled_touches c.settle.result c.args.slot c.args.payload.now a b told_syncs (c.settle.ensures.settled told))
+
+pub returns-in_err-place-clause-closes : goal.returns-in_err-place-clause-closes
+returns-in_err-place-clause-closes g c told =
+    settled_closes c.settle.result c.args.slot c.args.payload.now (g.D.Disk.meaning c.args.disk.now) (g.D.Disk.meaning c.settle.new.disk) c.settle.ensures.time (c.settle.ensures.settled told)
+
+pub returns-clause-closes : goal.returns-clause-closes
+returns-clause-closes g c told =
+    let a = g.D.Disk.meaning c.args.disk.now in
+    let b = g.D.Disk.meaning c.settle.new.disk in
+    let told_b : IsTrue b.tells = c.settle.ensures.time.told ∙ told in
+    let place = c.in_ok-place.place in
+    let settled = c.in_ok-place.ensures.settled told in
+    save_closes c.args.slot place.newest place.other c.in_ok-place.ensures.slots c.args.payload.now c.requires.fits a b (g.D.Disk.meaning c.write_slot.new.disk) told (c.requires.stores told) (g.met.D.Disk.is_disk c.args.disk.now told)
+    settled.kept settled.rests (c.in_ok-place.ensures.place told).newest c.settle.ensures.time c.write_slot.ensures.time (c.write_slot.ensures.touches told_b)
+    settled.during place.generation (c.in_ok-place.ensures.place told).next (c.write_slot.ensures.closes told_b)
 
 pub returns-clause-writes : goal.returns-clause-writes
 returns-clause-writes g c told =

@@ -1,21 +1,8 @@
-use Rattle.std.proofs.Common.{◌≡◌, refl, sym, ◌∙◌}
-use Rattle.std.specs.Prelude.{Option, Some, None, IsSome, IsSomeAnd}
-use Rattle.std.specs.Option.{option_map_or}
+use Rattle.std.proofs.Common.{◌∙◌}
 use Rattle.std.specs.FinMap as map
-use Rattle.sed_engine.specs.Code.{Places}
-use Rattle.comp_tree.specs.declared.entry.Entry.{Entry}
-use Rattle.comp_tree.specs.Application.{Component}
 use Rattle.comp_tree.specs.Held.{components_of}
-use Rattle.comp_tree.specs.Told.{IsEntry}
+use Rattle.link_prop.proofs.CallLemmas.{entry_fault, entry_live}
 use Rattle.node_rows.proofs.programs.execute.Goals as goal
-
-entry_live : (live : Places) (o : Option Component) (e : Entry) → IsSomeAnd o (IsEntry live e) → IsSome o
-entry_live live (Some c) e is = refl
-entry_live live None e never = absurd never
-
-entry_fault : (live : Places) (o : Option Component) (e : Entry) → IsSomeAnd o (IsEntry live e) → option_map_or (λ (c : Component). c.fault) o 0 ≡ e.fault
-entry_fault live (Some c) e is = sym is.fault
-entry_fault live None e never = absurd never
 
 pub execute-requires-clause-live : goal.execute-requires-clause-live
 execute-requires-clause-live g c =

@@ -4,8 +4,8 @@ use Rattle.sed_outline.specs.Rounds.{capped}
 use Rattle.sed_first_fault.proofs.Loops.{declared_end, declared_next, row_end, row_item}
 use Rattle.sed_first_fault.proofs.declared.classes_fault.Goals as goal
 
-pub class_fault-requires : goal.class_fault-requires
-class_fault-requires c =
+pub class_fault-requires-clause-before : goal.class_fault-requires-clause-before
+class_fault-requires-clause-before c =
     let units = c.args.measured.now in
     let within : c.loop-class.class < length c.in_ok-before.before.items = omega arith in
     c.index.ensures

@@ -23,9 +23,8 @@ returns c =
     (c.in_ok-objects.ensures ∙ ap (λ ms. least (flat_map
     (object_not_fit units entry.kit) ms)) c.as_slice-members.ensures)
     (c.in_ok-values.ensures
-    ∙ ap (λ ms. least (flat_map (value_not_fit c.based-based.result.now c.args.class entry.kit) ms))
-    c.as_slice-members.ensures
-    ∙ ap (λ u. least (flat_map (value_not_fit u c.args.class entry.kit) entry.class.now.members)) c.based-based.ensures)
+    ∙ ap (λ ms. least (flat_map (value_not_fit c.args.defines.now c.args.class entry.kit) ms)) c.as_slice-members.ensures
+    ∙ ap (λ u. least (flat_map (value_not_fit u c.args.class entry.kit) entry.class.now.members)) c.requires.defines)
     c.in_ok-sizes.ensures
     c.joined-first.ensures.lesser
     c.joined.ensures.lesser

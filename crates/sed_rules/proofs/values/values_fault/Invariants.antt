@@ -6,4 +6,4 @@ use Rattle.sed_rules.proofs.values.values_fault.Given as goal
 
 -- the least of the members so far
 abbrev pub invariant-loop-member : goal.invariant-loop-member
-invariant-loop-member l = l.first ≡ least (flat_map (value_not_fit l.based l.class l.kit) (take l.member-index l.members))
+invariant-loop-member l = l.first ≡ least (flat_map (value_not_fit l.defines l.class l.kit) (take l.member-index l.members))

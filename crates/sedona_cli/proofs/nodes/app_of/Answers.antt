@@ -20,7 +20,7 @@ returns-in-Ok-read_app-clause-read c =
     (machine.ghosts.meaning c.in-Ok.engine) (machine.ghosts.limit c.in-Ok.engine) _ same c.in-Ok.ensures.limit c.in-Ok-read_app.ensures.read
 
 pub returns-in-Ok-read_app-clause-meaning : goal.returns-in-Ok-read_app-clause-meaning
-returns-in-Ok-read_app-clause-meaning c = c.in-Ok-read_app.ensures.meaning ∙ ap meaning_of c.in-Ok.ensures.image
+returns-in-Ok-read_app-clause-meaning c = c.in-Ok-read_app.ensures.same.meaning ∙ ap meaning_of c.in-Ok.ensures.image
 
 pub returns-in-Err-read_app-clause-refused : goal.returns-in-Err-read_app-clause-refused
 returns-in-Err-read_app-clause-refused c = λ certain.

@@ -24,4 +24,4 @@ returns-in-Ok-application_text c =
     is_printed (meaning_of c.args.program) c.args.limit c.args.payload.now (c.typed_programs_are_whole.ensures c.args.program c.program.ensures.typed).tables
     (subst (λ (p : Program). CanBeTold p.schema) c.program.ensures.same c.schema_is_spelled_out.ensures.told)
     (machine.ghosts.meaning c.in-Ok.engine) (machine.ghosts.limit c.in-Ok.engine) (machine.ghosts.meaning c.in-Ok-read_app.app.tree.engine) _ c.in-Ok-application_text.text c.in-Ok.ensures.meaning c.in-Ok.ensures.limit
-    c.in-Ok-read_app.ensures.meaning c.in-Ok-read_app.ensures.read c.in-Ok-application_text.ensures
+    c.in-Ok-read_app.ensures.same.meaning c.in-Ok-read_app.ensures.read c.in-Ok-application_text.ensures

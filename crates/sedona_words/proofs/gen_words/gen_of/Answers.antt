@@ -1,5 +1,5 @@
 use Rattle.std.proofs.Common.{Option, ap, ◌∙◌}
-use Rattle.record_making.specs.declared.asked.GenAsked.{GenAsked}
+use Rattle.replay_log.specs.declared.asked.GenAsked.{GenAsked}
 use Rattle.sedona_words.specs.Command.{gen_behind, texts}
 use Rattle.sedona_words.proofs.Options.{four_words}
 use Rattle.sedona_words.proofs.gen_words.gen_of.Goals as goal

@@ -1,12 +1,12 @@
 use Rattle.std.proofs.Common.{◌∙◌, ℕ, Ok, Err, subst, IsTrue, if◌then◌else◌, Bool}
 use Rattle.disk_model.specs.Disk.{MarksUp, During}
-use Rattle.app_save.specs.Saving.{SinceSync, OpensAsBegun, AllOpen, KeepsEqualPages, TouchesSlot, WritesSlot, Renews}
+use Rattle.app_save.specs.Saving.{SinceSync, OpensAsBegun, AllOpen, KeepsEqualPages, TouchesSlot, WritesSlot, Renews, ClosesSlot}
 use Rattle.app_save.specs.declared.refusal.SaveRefusal.TheVariants.{Device}
 use Rattle.app_save.specs.declared.refusal.SaveRefusal.{SaveRefusal}
 use Rattle.app_save.proofs.Moments.{then_time, then_marks, since_kept, since_self}
 use Rattle.app_save.proofs.Whole.{untouched_moments, acknowledged_moments, acknowledged_all}
 use Rattle.app_save.proofs.Entries.{run_after}
-use Rattle.app_save.proofs.SlotWritten.{written_kept, renews_kept}
+use Rattle.app_save.proofs.SlotWritten.{written_kept, renews_kept, closes_untouched, closes_acknowledged}
 use Rattle.app_save.proofs.store.Store.save.Goals as goal
 
 pub returns-then-payload-self-clause-moments : goal.returns-then-payload-self-clause-moments
@@ -71,6 +71,21 @@ returns-clause-touches g c told told_syncs =
     let told_b : IsTrue b.tells = c.write_save.ensures.time.told ∙ told in
     let first = subst (λ (S : ℕ). SinceSync a b (TouchesSlot S c.args.payload.now a.content)) c.self.view_is (c.write_save.ensures.touches told told_syncs) in
     since_kept a b (g.D.Disk.meaning c.acknowledge.new.self) (TouchesSlot c.args.self.now c.args.payload.now a.content) told told_syncs c.write_save.ensures.time c.acknowledge.ensures.time first (c.acknowledge.ensures.keeps told_b) c.acknowledge.ensures.syncs
+
+pub returns-then-payload-self-clause-closes : goal.returns-then-payload-self-clause-closes
+returns-then-payload-self-clause-closes g c told = closes_untouched c.args.self.now c.args.payload.now (g.D.Disk.meaning c.args.disk.now)
+
+pub returns-in-Err-Failed-clause-closes : goal.returns-in-Err-Failed-clause-closes
+returns-in-Err-Failed-clause-closes g c told =
+    subst (λ (S : ℕ). ClosesSlot S c.args.payload.now (g.D.Disk.meaning c.args.disk.now) (g.D.Disk.meaning c.write_save.new.disk)) c.self.view_is (c.write_save.ensures.closes told)
+
+pub returns-clause-closes : goal.returns-clause-closes
+returns-clause-closes g c told =
+    let a = g.D.Disk.meaning c.args.disk.now in
+    let b = g.D.Disk.meaning c.write_save.new.disk in
+    let told_b : IsTrue b.tells = c.write_save.ensures.time.told ∙ told in
+    let first = subst (λ (S : ℕ). ClosesSlot S c.args.payload.now a b) c.self.view_is (c.write_save.ensures.closes told) in
+    closes_acknowledged c.args.self.now c.args.payload.now a b (g.D.Disk.meaning c.acknowledge.new.self) told c.write_save.ensures.time c.acknowledge.ensures.time (c.acknowledge.ensures.keeps told_b) first
 
 pub returns-clause-writes : goal.returns-clause-writes
 returns-clause-writes g c told =

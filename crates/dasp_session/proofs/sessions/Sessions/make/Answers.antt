@@ -27,7 +27,7 @@ use Rattle.dasp_session.proofs.sessions.Sessions.make.Goals as goal
 -- some number is left
 left : (self : Sessions) (state : State) (from : Addr) (remote_id : ℕ) (new : Sessions) (before after : List Datagram) → StandsFor self state → (self.made ≡ 4294967295 → ⊥)
     → Leaves (made_at state from remote_id (free_from 0 state.sessions)) new before after
-    → Leaves (cond (eqb state.made 4294967295) (answers state from (close remote_id too_many)) (made_at state from remote_id (free_from 0 state.sessions))) new before after
+    → Leaves (cond (eqb state.made 4294967295) (answers state from (close remote_id (Some too_many))) (made_at state from remote_id (free_from 0 state.sessions))) new before after
 left self state from remote_id new before after stands some leaves =
     subst (λ (outcome : Outcome). Leaves outcome new before after)
     (sym (cond-false (eqb state.made 4294967295) _ _ (ne_eqb state.made 4294967295 (λ e. some (stands.made ∙ e))))) leaves

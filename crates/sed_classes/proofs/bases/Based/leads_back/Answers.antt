@@ -1,13 +1,6 @@
-use Rattle.std.proofs.Common.{◌<◌, ◌-◌, sym, ap, ◌∙◌, arith}
-use Rattle.std.proofs.lemmas.Bool.{ne_eqb}
-use Rattle.sed_classes.specs.Bases.{base_of, comes_to}
-use Rattle.sed_classes.proofs.Climbs.{comes_more}
+use Rattle.std.proofs.Common.{sym}
+use Rattle.sed_classes.proofs.Counts.{leads_to_end}
 use Rattle.sed_classes.proofs.bases.Based.leads_back.Goals as goal
 
-pub climb-preserved : goal.climb-preserved
-climb-preserved c =
-    let some : 0 < c.climb.left = omega arith in
-    ap (comes_to (base_of c.args.self.now) c.args.class (c.climb.left - 1)) c.base_of-next-in-climb.ensures
-    ∙ sym (comes_more (base_of c.args.self.now) c.args.class c.climb.left c.in-Some.at some (ne_eqb c.in-Some.at c.args.class c.if-at-class.false))
-    ∙ ap (comes_to (base_of c.args.self.now) c.args.class c.climb.left) (sym c.in-Some.is)
-    ∙ c.climb.invariant
+pub returns-in-Some : goal.returns-in-Some
+returns-in-Some c = sym (leads_to_end c.args.self.now c.in-Some.field-0 c.args.class c.in-Some.ensures.ends)

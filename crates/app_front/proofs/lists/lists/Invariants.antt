@@ -1,5 +1,0 @@
-use Rattle.app_front.proofs.Chaining.{AreListsTo}
-use Rattle.app_front.proofs.lists.lists.Given as goal
-
-abbrev pub invariant-loop-place : goal.invariant-loop-place
-invariant-loop-place l = AreListsTo l.place l.rows l.lists.items

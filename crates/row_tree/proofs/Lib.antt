@@ -1,0 +1,4 @@
+pub mod TreePlaces
+pub mod Chaining
+pub mod Meeting
+pub mod Trees

@@ -1,0 +1,6 @@
+pub mod TreeRows
+pub mod Tree
+pub mod Chains
+pub mod Reached
+pub mod Visits
+pub mod Root
