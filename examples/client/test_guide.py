@@ -89,7 +89,7 @@ class Page(unittest.TestCase):
 
     def test_refusals(self):
         """Each example of a refusal has, in rows, the reply with the text of its number."""
-        texts = dict(re.findall(r"^\| (\d+) \| `([a-z ]+)` \|", PAGE, re.M))
+        texts = dict(re.findall(r"\| (\d+) \| `([a-z ]+)` (?=\|)", PAGE))
         rows = re.findall(r"^\| (\d+) \| `([0-9a-f ]+)` \|", PAGE, re.M)
         self.assertEqual([int(number) for number, _ in rows], list(range(1, 27)))
         for number, request in rows:
